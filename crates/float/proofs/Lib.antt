@@ -1,0 +1,16 @@
+-- Laws of section 1's arithmetic.
+-- For callers: Nearest (what the root is), Bounds and Angle (sizes), Sign, Order (of any floats), Remainder (by 360), Exact (whole numbers), Examples.
+-- For the root's own proofs: Isqrt, Patterns, Rooted, Scaling, Split.
+pub mod Angle
+pub mod Bounds
+pub mod Examples
+pub mod Exact
+pub mod Nearest
+pub mod Order
+pub mod Remainder
+pub mod Sign
+mod Isqrt
+mod Patterns
+mod Rooted
+mod Scaling
+mod Split

@@ -1,0 +1,125 @@
+use Rattle.float.specs.Arithmetic.{PI, signBitOf, absOf}
+use mathlib.Core.Bool.{cond, _&&_, Bool, true, false}
+use lib.Ieee.{ofBits, div, binary64, sub}
+use mathlib.Core.Logic.{⊎-elim}
+use borrow.Author.Tests.{not-true, not-false}
+use lib.Ieee.{ofBits, div}
+use Rattle.float.specs.Arctangent.{arctangent}
+use mathlib.Core.Path.{_≡_, refl, sym, ap, _∙_, subst}
+use borrow.Author.Needs.{needs}
+use Rattle.float.proofs.arctangent.atan2.Statement.{statement}
+use Rattle.float.proofs.arctangent.atan2.Tie as tie
+use Rattle.float.proofs.arctangent.atan2.Reads as reads
+use Rattle.float.proofs.arctangent.atan2.Lts as lts
+use Rattle.float.proofs.arithmetic.abs.Reads as abs-reads
+use Rattle.float.proofs.arithmetic.is_finite.Reads as is-finite-reads
+use Rattle.float.proofs.arctangent.quadrant_angle.Reads as quadrant-angle-reads
+use Rattle.float.proofs.arithmetic.is_sign_negative.Reads as is-sign-negative-reads
+
+and-false : (b : Bool) → (b && false) ≡ false
+and-false true = refl
+and-false false = refl
+
+-- the angle in the half plane that z's sign bit picks
+half : (c : tie.Joined3) → c .if3 .r ≡ cond (signBitOf (c .before .before .before .before .before .before .before .before .before .args .z)) (sub binary64 PI (c .before .before .quadrant-angle .result)) (c .before .before .quadrant-angle .result)
+half c =
+    ⊎-elim
+    (λ w. simp (sym (c .before .is-sign-negative .ensures) ∙ w .0 .taken, w .1))
+    (λ w. simp (sym (c .before .is-sign-negative .ensures) ∙ w .0 .left, w .1))
+    (c .if3 .came)
+
+-- src/lib.rt:113:9
+is-finite-requires : tie.Need-is-finite-requires
+is-finite-requires c κs = search needs
+
+-- src/lib.rt:114:9
+returns : tie.Need-returns
+unfolding arctangent div ofBits
+returns c = simp (sym (c .before .is-finite .ensures) ∙ not-true _ (c .if1 .taken))
+
+-- src/lib.rt:116:9
+is-finite-requires-2 : tie.Need-is-finite-requires-2
+is-finite-requires-2 c κs = search needs
+
+-- src/lib.rt:117:9
+returns-2 : tie.Need-returns-2
+unfolding arctangent div ofBits
+returns-2 c = simp (and-false, sym (c .before .is-finite2 .ensures) ∙ not-true _ (c .if2 .taken))
+
+-- src/lib.rt:119:32
+abs-requires : tie.Need-abs-requires
+abs-requires c κs = search needs
+
+-- src/lib.rt:119:40
+abs-requires-2 : tie.Need-abs-requires-2
+abs-requires-2 c κs = search needs
+
+-- src/lib.rt:119:9
+quadrant-angle-requires : tie.Need-quadrant-angle-requires
+quadrant-angle-requires c κs = search needs
+
+-- src/lib.rt:120:8
+is-sign-negative-requires : tie.Need-is-sign-negative-requires
+is-sign-negative-requires c κs = search needs
+
+-- src/lib.rt:123:8
+is-sign-negative-requires-2 : tie.Need-is-sign-negative-requires-2
+is-sign-negative-requires-2 c κs = search needs
+
+-- src/lib.rt:110:1
+returns-3 : tie.Need-returns-3
+unfolding arctangent
+returns-3 c =
+    let j = c .before .before in
+    let s = j .before in
+    let q = s .before in
+    let b = q .before in
+    let a = b .before in
+    let z = a .before in
+    let y = z .before .before in
+    simp (
+      sym (y .before .is-finite .ensures) ∙ not-false _ (y .if1 .left),
+      sym (z .before .is-finite2 .ensures) ∙ not-false _ (z .if2 .left),
+      sym (c .before .is-sign-negative2 .ensures) ∙ c .if4 .taken,
+      half j,
+      q .quadrant-angle .ensures,
+      a .abs .ensures,
+      b .abs2 .ensures,
+    )
+
+-- src/lib.rt:110:1
+returns-4 : tie.Need-returns-4
+unfolding arctangent
+returns-4 c =
+    let j = c .before .before in
+    let s = j .before in
+    let q = s .before in
+    let b = q .before in
+    let a = b .before in
+    let z = a .before in
+    let y = z .before .before in
+    simp (
+      sym (y .before .is-finite .ensures) ∙ not-false _ (y .if1 .left),
+      sym (z .before .is-finite2 .ensures) ∙ not-false _ (z .if2 .left),
+      sym (c .before .is-sign-negative2 .ensures) ∙ c .if4 .left,
+      half j,
+      q .quadrant-angle .ensures,
+      a .abs .ensures,
+      b .abs2 .ensures,
+    )
+
+pub atan2-spec : {M : Type 1} → statement M
+atan2-spec =
+    tie.close
+    (tie.spec
+    is-finite-requires
+    returns
+    is-finite-requires-2
+    returns-2
+    abs-requires
+    abs-requires-2
+    quadrant-angle-requires
+    is-sign-negative-requires
+    is-sign-negative-requires-2
+    returns-3
+    returns-4)

@@ -1,0 +1,35 @@
+use Rattle.float.specs.Arctangent.{firstOctant}
+use mathlib.Core.Path.{_≡_, refl, sym, ap, _∙_, subst}
+use borrow.Author.Needs.{needs}
+use Rattle.float.proofs.arctangent.first_octant.Statement.{statement}
+use Rattle.float.proofs.arctangent.first_octant.Tie as tie
+use Rattle.float.proofs.arctangent.first_octant.Reads as reads
+use Rattle.float.proofs.arctangent.first_octant.Lts as lts
+use Rattle.float.proofs.arctangent.halved.Reads as halved-reads
+use Rattle.float.proofs.arctangent.series.Reads as series-reads
+
+-- src/lib.rt:84:27
+halved-requires : tie.Need-halved-requires
+halved-requires c κs = search needs
+
+-- src/lib.rt:84:20
+halved-requires-2 : tie.Need-halved-requires-2
+halved-requires-2 c κs = search needs
+
+-- src/lib.rt:84:9
+halved-requires-3 : tie.Need-halved-requires-3
+halved-requires-3 c κs = search needs
+
+-- src/lib.rt:85:16
+series-requires : tie.Need-series-requires
+series-requires c κs = search needs
+
+-- src/lib.rt:81:1
+returns : tie.Need-returns
+unfolding firstOctant
+returns c = cc
+
+pub first-octant-spec : {M : Type 1} → statement M
+first-octant-spec =
+    tie.close
+    (tie.spec halved-requires halved-requires-2 halved-requires-3 series-requires returns)

@@ -1,0 +1,14 @@
+use Rattle.float.specs.Arithmetic.{toDegrees}
+use mathlib.Core.Path.{_≡_, refl, sym, ap, _∙_, subst}
+use Rattle.float.proofs.arithmetic.to_degrees.Statement.{statement}
+use Rattle.float.proofs.arithmetic.to_degrees.Tie as tie
+use Rattle.float.proofs.arithmetic.to_degrees.Reads as reads
+use Rattle.float.proofs.arithmetic.to_degrees.Lts as lts
+
+-- src/lib.rt:46:1
+returns : tie.Need-returns
+unfolding toDegrees
+returns c = refl
+
+pub to-degrees-spec : {M : Type 1} → statement M
+to-degrees-spec = tie.close (tie.spec returns)

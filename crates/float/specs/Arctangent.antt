@@ -1,0 +1,40 @@
+-- Section 1's arctangent of (y, z). Definitions only.
+use mathlib.Core.Bool.{Bool, true, false, cond, _&&_}
+use Prim.Native.Nat.{ℕ, zero, suc, _+_, _-_, _*_, _%_}
+use lib.Dec.{eqb}
+use lib.IntN.{pos}
+use lib.Ieee.{Float, nan, binary64, add, sub, mul, div, neg, lt, eq, ofInt}
+use Rattle.float.specs.Root.{sqrtOf}
+use Rattle.float.specs.Arithmetic.{zero·0, one, two, eight, PI, signBitOf, absOf, finite}
+
+-- c(k) = 1 / (2k + 1), negated for odd k
+unfoldable pub coefficient : ℕ → Float
+coefficient k = let c = div binary64 one (ofInt binary64 (pos (2 * k + 1))) in cond (eqb (k % 2) 1) (neg c) c
+
+-- q / (1 + root(1 + q·q)): the tangent of half the angle
+unfoldable pub halved : Float → Float
+halved q = div binary64 q (add binary64 one (sqrtOf (add binary64 one (mul binary64 q q))))
+
+-- p after j rounds: it starts as c(8), and for k from 7 down becomes c(k) + s·p
+unfoldable pub series : Float → ℕ → Float
+series s zero = coefficient 8
+series s (suc j) = add binary64 (coefficient (7 - j)) (mul binary64 s (series s j))
+
+-- the angle whose tangent is t, 0 to 1: 8·(q·p), where q is t after three halvings and s = q·q
+unfoldable pub firstOctant : Float → Float
+firstOctant t = let q = halved (halved (halved t)) in mul binary64 eight (mul binary64 q (series (mul binary64 q q) 8))
+
+-- of m and M, the smaller and the larger: 0 where M = 0
+unfoldable pub ratioAngle : Float → Float → Float
+ratioAngle m l = cond (eq l zero·0) zero·0 (firstOctant (div binary64 m l))
+
+-- the angle of (a, b), neither negative: measured from the nearer axis
+unfoldable pub quadrantAngle : Float → Float → Float
+quadrantAngle a b = cond (lt b a) (sub binary64 (div binary64 PI two) (ratioAngle b a)) (ratioAngle a b)
+
+-- of (y, z): in the half plane that z's sign bit picks, then negated by y's; NaN unless both are finite
+unfoldable pub arctangent : Float → Float → Float
+arctangent y z =
+    let r = quadrantAngle (absOf y) (absOf z) in
+    let h = cond (signBitOf z) (sub binary64 PI r) r in
+    cond (finite y && finite z) (cond (signBitOf y) (neg h) h) nan

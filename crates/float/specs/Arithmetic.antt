@@ -1,0 +1,56 @@
+-- Section 1's arithmetic on f64, over the library's account of IEEE 754. Definitions only.
+use mathlib.Core.Bool.{Bool, true, false, cond}
+use Prim.Native.Nat.{ℕ}
+use lib.Ieee.{Float, nan, inf, fin, binary64, add, mul, div, rem, neg, lt, ofBits}
+
+-- constants, by their bit patterns
+abbrev pub zero·0 : Float
+zero·0 = ofBits binary64 0x0000_0000_0000_0000
+
+abbrev pub half : Float
+half = ofBits binary64 0x3fe0_0000_0000_0000
+
+abbrev pub one : Float
+one = ofBits binary64 0x3ff0_0000_0000_0000
+
+abbrev pub two : Float
+two = ofBits binary64 0x4000_0000_0000_0000
+
+abbrev pub eight : Float
+eight = ofBits binary64 0x4020_0000_0000_0000
+
+-- 180
+abbrev pub halfTurn : Float
+halfTurn = ofBits binary64 0x4066_8000_0000_0000
+
+-- 360
+abbrev pub fullTurn : Float
+fullTurn = ofBits binary64 0x4076_8000_0000_0000
+
+-- P, the f64 nearest to pi
+abbrev pub PI : Float
+PI = ofBits binary64 0x4009_21fb_5444_2d18
+
+-- the sign bit; a NaN's is not read
+unfoldable pub signBitOf : Float → Bool
+signBitOf nan = false
+signBitOf (inf s) = s
+signBitOf (fin s m e) = s
+
+unfoldable pub absOf : Float → Float
+absOf nan = nan
+absOf (inf s) = inf false
+absOf (fin s m e) = fin false m e
+
+unfoldable pub finite : Float → Bool
+finite nan = false
+finite (inf s) = false
+finite (fin s m e) = true
+
+-- Rust's rem_euclid: r = a % b, and r + |b| where r < 0
+unfoldable pub remEuclid : Float → Float → Float
+remEuclid a b = let r = rem binary64 a b in cond (lt r zero·0) (add binary64 r (absOf b)) r
+
+-- a times (180 / P)
+unfoldable pub toDegrees : Float → Float
+toDegrees a = mul binary64 a (div binary64 halfTurn PI)

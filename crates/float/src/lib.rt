@@ -1,0 +1,22 @@
+// Section 1's arithmetic on f64: each operation rounded once, in the order of the Rust.
+//
+// Every public function is total, and its contract gives its whole answer by a definition of specs/,
+// over the toolchain's account of IEEE 754.
+mod arctangent;
+mod arithmetic;
+mod root;
+
+pub use arctangent::atan2;
+pub use arithmetic::abs;
+pub use arithmetic::bits;
+pub use arithmetic::is_finite;
+pub use arithmetic::is_sign_negative;
+pub use arithmetic::of_bits;
+pub use arithmetic::rem_euclid;
+pub use arithmetic::rem_euclid_turn;
+pub use arithmetic::rem_turn;
+pub use arithmetic::to_degrees;
+pub use root::sqrt;
+
+// The f64 nearest to pi.
+pub const PI: f64 = 3.141592653589793;
