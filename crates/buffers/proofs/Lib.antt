@@ -1,0 +1,5 @@
+-- The laws of specs/, as loops and callers ask for them.
+pub mod Tests
+pub mod Ranges
+pub mod Lent
+pub mod Refusal

@@ -1,0 +1,187 @@
+-- Laws of ranges, in order: sums, tables, all below, any below, an element of a list. Of each, what a loop from 0 up asks: before its first
+-- turn (`-zero`), after one turn more (`-next`), where it leaves early (`-stop`). Assumes nothing.
+use mathlib.Core.Path.{_≡_, refl, sym, ap, ap₂, _∙_, subst}
+use mathlib.Core.Logic.{_↔_}
+use mathlib.Core.Bool.{Bool, true, false, _&&_, _||_, or-true}
+use mathlib.Core.List.{List, [], _∷_, _++_, append-assoc, append-nil}
+use Prim.Native.Nat.{ℕ, zero, suc, _+_, _*_, _≤_, _<_}
+use native.Mathlib.Nat.{not-suc-le-zero, add-zero, add-suc}
+use native.Mathlib.Numerals.{add-one}
+use native.Mathlib.Omega.{arith}
+use lib.Dec.{eqb}
+use lib.Arith.{lt-of-le-ne}
+use lib.ListN.{length, getD, drop, length-append, List·getD-append, drop-of-length-le}
+use lib.Seq.{getD-at, drop-cons}
+use borrow.Author.Tests.{eqb-true, eqb-false}
+use Rattle.buffers.specs.Ranges.{flag, sum, tab, allBelow, anyBelow, any}
+use Rattle.buffers.proofs.Tests.{and-left, and-right, and-both, and-stop, or-left, or-right}
+
+-- below n + 1: below n, or n itself
+below-suc : (P : ℕ → Type 0) (n : ℕ) → ((k : ℕ) → k < n → P k) → P n → (k : ℕ) → k < suc n → P k
+below-suc P n f e k h = go (eqb k n) refl
+  where
+    go : (t : Bool) → eqb k n ≡ t → P k
+    go true q = subst P (sym (eqb-true k n q)) e
+    go false q = f k (lt-of-le-ne (omega arith) (eqb-false k n q))
+
+-- ---- sums
+
+pub sum-zero : (f : ℕ → ℕ) → sum 0 f ≡ 0
+unfolding sum
+sum-zero f = refl
+
+pub sum-next : (n : ℕ) (f : ℕ → ℕ) → sum (n + 1) f ≡ sum n f + f n
+unfolding sum
+sum-next n f = ap (λ (k : ℕ). sum k f) (add-one n)
+
+pub sum-ext : (n : ℕ) (f g : ℕ → ℕ) → ((k : ℕ) → k < n → f k ≡ g k) → sum n f ≡ sum n g
+unfolding sum
+sum-ext zero f g h = refl
+sum-ext (suc n) f g h = ap₂ (λ (a b : ℕ). a + b) (sum-ext n f g (λ k l. h k (omega arith))) (h n (omega arith))
+
+pub sum-plus : (n : ℕ) (f g : ℕ → ℕ) → sum n (λ k. f k + g k) ≡ sum n f + sum n g
+unfolding sum
+sum-plus zero f g = refl
+sum-plus (suc n) f g = omega (arith, sum-plus n f g)
+
+-- the same number each time
+pub sum-same : (n a : ℕ) → sum n (λ k. a) ≡ n * a
+unfolding sum
+sum-same zero a = omega arith
+sum-same (suc n) a = omega (arith, sum-same n a)
+
+-- n + m terms: the first n, then m more
+pub sum-add : (n m : ℕ) (f : ℕ → ℕ) → sum (n + m) f ≡ sum n f + sum m (λ k. f (n + k))
+unfolding sum
+sum-add n zero f = ap (λ (k : ℕ). sum k f) (add-zero n) ∙ sym (add-zero (sum n f))
+sum-add n (suc m) f = ap (λ (k : ℕ). sum k f) (add-suc n m) ∙ omega (arith, sum-add n m f)
+
+-- term by term at most, the sum is at most
+pub sum-mono : (n : ℕ) (f g : ℕ → ℕ) → ((k : ℕ) → k < n → f k ≤ g k) → sum n f ≤ sum n g
+unfolding sum
+sum-mono zero f g h = omega arith
+sum-mono (suc n) f g h = omega (arith, sum-mono n f g (λ k l. h k (omega arith)), h n (omega arith))
+
+-- ---- tables
+
+module _ {A : Type 0} where
+  pub tab-next : (n : ℕ) (f : ℕ → A) → tab (n + 1) f ≡ tab n f ++ (f n ∷ [])
+  unfolding tab
+  tab-next n f = ap (λ (k : ℕ). tab k f) (add-one n)
+
+  pub length-tab : (n : ℕ) (f : ℕ → A) → length (tab n f) ≡ n
+  unfolding tab
+  length-tab zero f = refl
+  length-tab (suc n) f = simp length-append (omega (arith, length-tab n f))
+
+  pub tab-ext : (n : ℕ) (f g : ℕ → A) → ((k : ℕ) → k < n → f k ≡ g k) → tab n f ≡ tab n g
+  unfolding tab
+  tab-ext zero f g h = refl
+  tab-ext (suc n) f g h = ap₂ (λ (l : List A) (a : A). l ++ (a ∷ [])) (tab-ext n f g (λ k l. h k (omega arith))) (h n (omega arith))
+
+  pub getD-tab : (n : ℕ) (f : ℕ → A) (d : A) (i : ℕ) → i < n → getD (tab n f) i d ≡ f i
+  unfolding tab
+  getD-tab zero f d i h = absurd (not-suc-le-zero h)
+  getD-tab (suc n) f d i h =
+      below-suc (λ k. getD (tab n f ++ (f n ∷ [])) k d ≡ f k) n
+      (λ k l. List·getD-append (tab n f) (f n ∷ []) d k (omega (arith, length-tab n f)) ∙ getD-tab n f d k l)
+      (getD-at (tab n f) (f n) [] d n (length-tab n f))
+      i
+      h
+
+  -- n + m entries: the first n, then m more
+  pub tab-add : (n m : ℕ) (f : ℕ → A) → tab (n + m) f ≡ tab n f ++ tab m (λ k. f (n + k))
+  unfolding tab
+  tab-add n zero f = ap (λ (k : ℕ). tab k f) (add-zero n) ∙ sym (append-nil (tab n f))
+  tab-add n (suc m) f =
+      ap (λ (k : ℕ). tab k f) (add-suc n m)
+      ∙ ap (λ (l : List A). l ++ (f (n + m) ∷ [])) (tab-add n m f)
+      ∙ append-assoc (tab n f) (tab m (λ k. f (n + k))) (f (n + m) ∷ [])
+
+-- ---- all below
+
+pub all-zero : (p : ℕ → Bool) → allBelow 0 p ≡ true
+unfolding allBelow
+all-zero p = refl
+
+pub all-step : (n : ℕ) (p : ℕ → Bool) → allBelow (n + 1) p ≡ (allBelow n p && p n)
+unfolding allBelow
+all-step n p = ap (λ (k : ℕ). allBelow k p) (add-one n)
+
+pub all-next : (n : ℕ) (p : ℕ → Bool) → allBelow n p ≡ true → p n ≡ true → allBelow (n + 1) p ≡ true
+all-next n p h k = all-step n p ∙ and-both (allBelow n p) (p n) h k
+
+pub all-iff : (n : ℕ) (p : ℕ → Bool) → (allBelow n p ≡ true) ↔ ((k : ℕ) → k < n → p k ≡ true)
+unfolding allBelow
+all-iff zero p = (λ e k h. absurd (not-suc-le-zero h), λ f. refl)
+all-iff (suc n) p = (
+  λ e. below-suc (λ k. p k ≡ true) n ((all-iff n p) .0 (and-left (allBelow n p) (p n) e)) (and-right (allBelow n p) (p n) e),
+  λ f. and-both (allBelow n p) (p n) ((all-iff n p) .1 (λ k l. f k (omega arith))) (f n (omega arith)),
+)
+
+pub all-stop : (n : ℕ) (p : ℕ → Bool) (j : ℕ) → j < n → p j ≡ false → allBelow n p ≡ false
+unfolding allBelow
+all-stop zero p j h e = absurd (not-suc-le-zero h)
+all-stop (suc n) p j h e = go (eqb j n) refl (all-stop n p j)
+  where
+    go : (t : Bool) → eqb j n ≡ t → (j < n → p j ≡ false → allBelow n p ≡ false) → (allBelow n p && p n) ≡ false
+    go true q ih = and-stop (allBelow n p) (p n) (ap p (sym (eqb-true j n q)) ∙ e)
+    go false q ih = ap (λ (x : Bool). x && p n) (ih (lt-of-le-ne (omega arith) (eqb-false j n q)) e)
+
+pub all-ext : (n : ℕ) (p q : ℕ → Bool) → ((k : ℕ) → k < n → p k ≡ q k) → allBelow n p ≡ allBelow n q
+unfolding allBelow
+all-ext zero p q h = refl
+all-ext (suc n) p q h = ap₂ (λ (a b : Bool). a && b) (all-ext n p q (λ k l. h k (omega arith))) (h n (omega arith))
+
+-- ---- any below
+
+pub any-zero : (p : ℕ → Bool) → anyBelow 0 p ≡ false
+unfolding anyBelow
+any-zero p = refl
+
+pub any-step : (n : ℕ) (p : ℕ → Bool) → anyBelow (n + 1) p ≡ (anyBelow n p || p n)
+unfolding anyBelow
+any-step n p = ap (λ (k : ℕ). anyBelow k p) (add-one n)
+
+pub any-found : (n : ℕ) (p : ℕ → Bool) (j : ℕ) → j < n → p j ≡ true → anyBelow n p ≡ true
+unfolding anyBelow
+any-found zero p j h e = absurd (not-suc-le-zero h)
+any-found (suc n) p j h e = go (eqb j n) refl (any-found n p j)
+  where
+    go : (t : Bool) → eqb j n ≡ t → (j < n → p j ≡ true → anyBelow n p ≡ true) → (anyBelow n p || p n) ≡ true
+    go true q ih = ap (λ (x : Bool). anyBelow n p || x) (ap p (sym (eqb-true j n q)) ∙ e) ∙ or-true (anyBelow n p)
+    go false q ih = ap (λ (x : Bool). x || p n) (ih (lt-of-le-ne (omega arith) (eqb-false j n q)) e)
+
+pub any-none : (n : ℕ) (p : ℕ → Bool) → ((k : ℕ) → k < n → p k ≡ false) → anyBelow n p ≡ false
+unfolding anyBelow
+any-none zero p f = refl
+any-none (suc n) p f = ap₂ (λ (a b : Bool). a || b) (any-none n p (λ k l. f k (omega arith))) (f n (omega arith))
+
+pub any-ext : (n : ℕ) (p q : ℕ → Bool) → ((k : ℕ) → k < n → p k ≡ q k) → anyBelow n p ≡ anyBelow n q
+unfolding anyBelow
+any-ext zero p q h = refl
+any-ext (suc n) p q h = ap₂ (λ (a b : Bool). a || b) (any-ext n p q (λ k l. h k (omega arith))) (h n (omega arith))
+
+-- ---- an element of a list: a loop that looks for one. Before place i it has found none, so the rest decides
+
+module _ {A : Type 0} (p : A → Bool) (l : List A) (d : A) (i : ℕ) where
+  scan-here : i < length l → any p (drop i l) ≡ (p (getD l i d) || any p (drop (i + 1) l))
+  unfolding any
+  scan-here h = rw (add-one i, drop-cons l i d)
+
+  pub scan-next : i < length l → p (getD l i d) ≡ false → any p (drop i l) ≡ any p l → any p (drop (i + 1) l) ≡ any p l
+  scan-next h e w = ap (λ (b : Bool). b || any p (drop (i + 1) l)) (sym e) ∙ sym (scan-here h) ∙ w
+
+  pub scan-stop : i < length l → p (getD l i d) ≡ true → any p (drop i l) ≡ any p l → true ≡ any p l
+  scan-stop h e w = ap (λ (b : Bool). b || any p (drop (i + 1) l)) (sym e) ∙ sym (scan-here h) ∙ w
+
+  pub scan-end : length l ≤ i → any p (drop i l) ≡ any p l → false ≡ any p l
+  unfolding any
+  scan-end h w = ap (any p) (sym (drop-of-length-le l h)) ∙ w
+
+-- where no element has the property, none at any place has
+pub any-getD : {A : Type 0} (p : A → Bool) (l : List A) (d : A) (i : ℕ) → any p l ≡ false → i < length l → p (getD l i d) ≡ false
+unfolding any
+any-getD p [] d i e h = absurd (not-suc-le-zero h)
+any-getD p (x ∷ xs) d zero e h = or-left (p x) (any p xs) e
+any-getD p (x ∷ xs) d (suc i) e h = any-getD p xs d i (or-right (p x) (any p xs) e) (omega arith)

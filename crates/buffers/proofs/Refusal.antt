@@ -1,0 +1,52 @@
+-- Laws of refusals: a step along a chain of conditions, and back from an accepted call to what it knows. Assumes nothing.
+use mathlib.Core.Path.{_≡_, refl, sym, ap, _∙_}
+use mathlib.Core.Bool.{Bool, true, false, cond}
+use mathlib.Core.List.{List, [], _∷_}
+use Prim.Native.Nat.{ℕ, zero, suc, _<_}
+use native.Mathlib.Omega.{arith}
+use Rattle.buffers.specs.Refusal.{Conditions, first, Reply, refused, accepted, reply, unlessRefused}
+
+-- no condition is left
+pub first-none : first [] ≡ 0
+unfolding first
+first-none = refl
+
+-- this condition holds
+pub first-here : (b : Bool) (n : ℕ) (cs : Conditions) → b ≡ true → first ((b, n) ∷ cs) ≡ n
+unfolding first
+first-here b n cs e = ap (λ (t : Bool). cond t n (first cs)) e
+
+-- this condition does not hold
+pub first-skip : (b : Bool) (n : ℕ) (cs : Conditions) → b ≡ false → first ((b, n) ∷ cs) ≡ first cs
+unfolding first
+first-skip b n cs e = ap (λ (t : Bool). cond t n (first cs)) e
+
+-- a chain that refuses nothing: neither does its first condition hold, nor a later one
+pub first-clear : (b : Bool) (n : ℕ) (cs : Conditions) → 0 < n → first ((b, n) ∷ cs) ≡ 0 → (b ≡ false) × (first cs ≡ 0)
+unfolding first
+first-clear true n cs h e = absurd (omega arith)
+first-clear false n cs h e = (refl, e)
+
+-- a refusal handed on as a condition of its own, by its number
+pub first-number : (b : Bool) (n : ℕ) → first ((b, n) ∷ []) ≡ cond b n 0
+unfolding first
+first-number b n = refl
+
+module _ {A : Type 0} where
+  pub reply-none : (k : ℕ) (a : A) → k ≡ 0 → reply k a ≡ accepted a
+  unfolding reply
+  reply-none k a e = ap (λ (n : ℕ). reply n a) e
+
+  pub reply-some : (k : ℕ) (a : A) → 0 < k → reply k a ≡ refused k
+  unfolding reply
+  reply-some zero a h = absurd (omega arith)
+  reply-some (suc k) a h = refl
+
+  pub written-none : (k : ℕ) (w b : A) → k ≡ 0 → unlessRefused k w b ≡ w
+  unfolding unlessRefused
+  written-none k w b e = ap (λ (n : ℕ). unlessRefused n w b) e
+
+  pub written-some : (k : ℕ) (w b : A) → 0 < k → unlessRefused k w b ≡ b
+  unfolding unlessRefused
+  written-some zero w b h = absurd (omega arith)
+  written-some (suc k) w b h = refl
