@@ -4,7 +4,7 @@ use mathlib.Core.Bool.{Bool, true, false, cond}
 use mathlib.Core.List.{List, [], _∷_}
 use Prim.Native.Nat.{ℕ, zero, suc, _<_}
 use native.Mathlib.Omega.{arith}
-use Rattle.buffers.specs.Refusal.{Conditions, first, Reply, refused, accepted, reply, unlessRefused}
+use Rattle.buffers.specs.Refusal.{Conditions, first, carried, Reply, refused, accepted, reply, unlessRefused}
 
 -- no condition is left
 pub first-none : first [] ≡ 0
@@ -27,10 +27,20 @@ unfolding first
 first-clear true n cs h e = absurd (omega arith)
 first-clear false n cs h e = (refl, e)
 
--- a refusal handed on as a condition of its own, by its number
-pub first-number : (b : Bool) (n : ℕ) → first ((b, n) ∷ []) ≡ cond b n 0
-unfolding first
-first-number b n = refl
+-- a refusal carried in: it is given, or the rest decides, or, of a chain that refuses nothing, it was none
+pub carried-here : (k : ℕ) (cs : Conditions) → 0 < k → first (carried k ∷ cs) ≡ k
+unfolding first carried
+carried-here zero cs h = absurd (omega arith)
+carried-here (suc k) cs h = refl
+
+pub carried-skip : (k : ℕ) (cs : Conditions) → k ≡ 0 → first (carried k ∷ cs) ≡ first cs
+unfolding first carried
+carried-skip k cs e = ap (λ (n : ℕ). first (carried n ∷ cs)) e
+
+pub carried-clear : (k : ℕ) (cs : Conditions) → first (carried k ∷ cs) ≡ 0 → (k ≡ 0) × (first cs ≡ 0)
+unfolding first carried
+carried-clear zero cs e = (refl, e)
+carried-clear (suc k) cs e = absurd (omega arith)
 
 module _ {A : Type 0} where
   pub reply-none : (k : ℕ) (a : A) → k ≡ 0 → reply k a ≡ accepted a

@@ -1,8 +1,9 @@
 -- Refusals. A refusal is document 01's number, 0 for none: conditions are tried in order, and the first that holds gives it. What a call
 -- answers and what it leaves follow from that number. Definitions only. Assumes nothing.
-use mathlib.Core.Bool.{Bool, true, false, cond}
+use mathlib.Core.Bool.{Bool, true, false, cond, not}
 use mathlib.Core.List.{List, [], _∷_}
 use Prim.Native.Nat.{ℕ, zero, suc}
+use lib.Dec.{eqb}
 use Rattle.buffers.specs.declared.Answer.{Answer}
 use Rattle.buffers.specs.declared.Answer.the-variants.{Accepted, Refused}
 
@@ -14,6 +15,10 @@ Conditions = List (Bool × ℕ)
 unfoldable pub first : Conditions → ℕ
 first [] = 0
 first (c ∷ cs) = cond (c .0) (c .1) (first cs)
+
+-- a refusal that was found before, carried into a chain with its own number
+unfoldable pub carried : ℕ → Bool × ℕ
+carried k = (not (eqb k 0), k)
 
 -- what a call says: a refusal's number, or that it was accepted, with its answer
 pub data Reply (A : Type 0) : Type 0 where
