@@ -1,6 +1,7 @@
 -- Laws of refusals: a step along a chain of conditions, and back from an accepted call to what it knows. Assumes nothing.
 use mathlib.Core.Path.{_≡_, refl, sym, ap, _∙_}
-use mathlib.Core.Bool.{Bool, true, false, cond}
+use mathlib.Core.Bool.{Bool, true, false, cond, not}
+use borrow.Author.Tests.{ne-eqb}
 use mathlib.Core.List.{List, [], _∷_}
 use Prim.Native.Nat.{ℕ, zero, suc, _<_}
 use native.Mathlib.Omega.{arith}
@@ -30,17 +31,15 @@ first-clear false n cs h e = (refl, e)
 -- a refusal carried in: it is given, or the rest decides, or, of a chain that refuses nothing, it was none
 pub carried-here : (k : ℕ) (cs : Conditions) → 0 < k → first (carried k ∷ cs) ≡ k
 unfolding first carried
-carried-here zero cs h = absurd (omega arith)
-carried-here (suc k) cs h = refl
+carried-here k cs h = ap (λ (t : Bool). cond (not t) k (first cs)) (ne-eqb k 0 (omega arith))
 
 pub carried-skip : (k : ℕ) (cs : Conditions) → k ≡ 0 → first (carried k ∷ cs) ≡ first cs
 unfolding first carried
 carried-skip k cs e = ap (λ (n : ℕ). first (carried n ∷ cs)) e
 
 pub carried-clear : (k : ℕ) (cs : Conditions) → first (carried k ∷ cs) ≡ 0 → (k ≡ 0) × (first cs ≡ 0)
-unfolding first carried
-carried-clear zero cs e = (refl, e)
-carried-clear (suc k) cs e = absurd (omega arith)
+carried-clear zero cs e = (refl, sym (carried-skip 0 cs refl) ∙ e)
+carried-clear (suc k) cs e = absurd (omega (arith, carried-here (suc k) cs (omega arith)))
 
 module _ {A : Type 0} where
   pub reply-none : (k : ℕ) (a : A) → k ≡ 0 → reply k a ≡ accepted a
