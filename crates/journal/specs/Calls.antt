@@ -1,0 +1,118 @@
+-- Section 4: begin, work, recover and collect. Of each, the refusals in the order in which they are tried, the answer, and the bytes that it leaves:
+-- for every lent buffer b and used length u. Definitions only. Assumes nothing.
+use mathlib.Core.Bool.{Bool, cond, not}
+use mathlib.Core.List.{List, [], _∷_, _++_}
+use Prim.Native.Nat.{ℕ, _+_, _*_, _/_, _%_}
+use lib.Dec.{leb, ltb, eqb}
+use lib.ListN.{length}
+use Rattle.buffers.specs.Ranges.{tab}
+use Rattle.buffers.specs.Lent.{filled, put}
+use Rattle.buffers.specs.Refusal.{first, carried, Reply, reply, unlessRefused}
+use Rattle.roll_sweep.specs.Sweep.{Sweep, cells, chunks}
+use Rattle.journal.specs.Lines.{lineOf, hasChunk, hasChunks, heldMask, heldProbes, bitOf}
+use Rattle.journal.specs.Right.{wholeLines, torn, right}
+
+-- the plan's refusals, which every call tries first: a used length beyond the buffer is part of 1
+unfoldable pub planFirst : Sweep → List ℕ → ℕ → Bool × ℕ
+unfolding carried
+planFirst s b u = carried (s .refusal (ltb (length b) u))
+
+-- the journal is not right for the plan
+unfoldable pub wrong : Sweep → List ℕ → ℕ → Bool
+unfolding right
+wrong s b u = not (right (cells s) (s .samples) (s .header) b u)
+
+-- ---- 7, of each call that has it: by the lengths of what is lent
+
+unfoldable pub beginShort : ℕ → Bool
+beginShort room = ltb room 107
+
+unfoldable pub workShort : ℕ → ℕ → Bool
+workShort room u = ltb room (u + 33)
+
+unfoldable pub collectShort : Sweep → ℕ → Bool
+collectShort s room = ltb room (cells s)
+
+-- ---- begin makes the journal the header
+
+unfoldable pub beginRefusal : Sweep → List ℕ → ℕ → ℕ
+unfolding first planFirst beginShort
+beginRefusal s b u =
+    first (planFirst s b u
+    ∷ (not (eqb u 0), 13)
+    ∷ (beginShort (length b), 7)
+    ∷ [])
+
+-- the used length that it leaves
+unfoldable pub beginReply : Sweep → List ℕ → ℕ → Reply ℕ
+unfolding beginRefusal reply
+beginReply s b u = reply (beginRefusal s b u) 107
+
+unfoldable pub beginBytes : Sweep → List ℕ → ℕ → List ℕ
+unfolding beginRefusal unlessRefused put
+beginBytes s b u = unlessRefused (beginRefusal s b u) (put 0 (s .header) b) b
+
+-- ---- work c appends the line of chunk c
+
+unfoldable pub workRefusal : Sweep → ℕ → List ℕ → ℕ → ℕ
+unfolding first planFirst chunks wrong torn hasChunk workShort
+workRefusal s c b u =
+    first (planFirst s b u
+    ∷ (leb (chunks (cells s)) c, 9)
+    ∷ (wrong s b u, 11)
+    ∷ (torn u, 12)
+    ∷ (hasChunk b (wholeLines u) c, 10)
+    ∷ (workShort (length b) u, 7)
+    ∷ [])
+
+unfoldable pub workReply : Sweep → ℕ → List ℕ → ℕ → Reply ℕ
+unfolding workRefusal reply
+workReply s c b u = reply (workRefusal s c b u) (u + 33)
+
+unfoldable pub workBytes : Sweep → ℕ → List ℕ → ℕ → List ℕ
+unfolding workRefusal unlessRefused put lineOf
+workBytes s c b u = unlessRefused (workRefusal s c b u) (put u (lineOf s c) b) b
+
+-- ---- recover alters no byte: it shortens the used length
+
+-- to 0 if the header is incomplete, else to the header and its whole lines
+unfoldable pub kept : ℕ → ℕ
+unfolding wholeLines
+kept u = cond (ltb u 107) 0 (107 + 33 * wholeLines u)
+
+unfoldable pub recoverRefusal : Sweep → List ℕ → ℕ → ℕ
+unfolding first planFirst wrong
+recoverRefusal s b u =
+    first (planFirst s b u
+    ∷ (wrong s b u, 11)
+    ∷ [])
+
+unfoldable pub recoverReply : Sweep → List ℕ → ℕ → Reply ℕ
+unfolding recoverRefusal reply kept
+recoverReply s b u = reply (recoverRefusal s b u) (kept u)
+
+-- ---- collect, with the lent mask o
+
+unfoldable pub collectRefusal : Sweep → List ℕ → ℕ → List ℕ → ℕ
+unfolding first planFirst wrong torn hasChunks chunks collectShort
+collectRefusal s b u o =
+    first (planFirst s b u
+    ∷ (wrong s b u, 11)
+    ∷ (torn u, 12)
+    ∷ (not (hasChunks b (wholeLines u) (chunks (cells s))), 15)
+    ∷ (collectShort s (length o), 7)
+    ∷ [])
+
+-- the sum of the lines' probes
+unfoldable pub collectReply : Sweep → List ℕ → ℕ → List ℕ → Reply ℕ
+unfolding collectRefusal reply heldProbes
+collectReply s b u o = reply (collectRefusal s b u o) (heldProbes b (wholeLines u))
+
+-- the bit that the lines hold for cell i
+unfoldable pub heldBit : List ℕ → ℕ → ℕ → ℕ
+unfolding heldMask wholeLines
+heldBit b u i = bitOf (heldMask b (wholeLines u) (i / 64)) (i % 64)
+
+unfoldable pub collectMask : Sweep → List ℕ → ℕ → List ℕ → List ℕ
+unfolding collectRefusal unlessRefused filled heldBit
+collectMask s b u o = unlessRefused (collectRefusal s b u o) (filled (cells s) (heldBit b u) o) o

@@ -1,0 +1,2 @@
+-- Section 3: the sweep over rolls, and its chunks.
+pub mod Sweep
