@@ -9,6 +9,7 @@ pub mod Nearest
 pub mod Order
 pub mod Remainder
 pub mod Sign
+mod Grid
 mod Isqrt
 mod Patterns
 mod Rooted
