@@ -3,3 +3,4 @@ pub mod Tests
 pub mod Ranges
 pub mod Lent
 pub mod Refusal
+pub mod Rows

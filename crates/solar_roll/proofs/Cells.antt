@@ -1,0 +1,37 @@
+-- Laws of one cell: the answer from what rows and panels share, an answer that is not refused, a triple past the end. Assumes nothing.
+use mathlib.Core.Path.{_≡_, refl}
+use mathlib.Core.Bool.{Bool, true, false, cond}
+use mathlib.Core.List.{List}
+use Prim.Native.Nat.{ℕ, _+_, _*_, _≤_}
+use native.Mathlib.Omega.{arith}
+use lib.ListN.{length, List·getD-eq-default}
+use lib.Ieee.{Float, nan}
+use Rattle.buffers.specs.Refusal.{accepted}
+use Rattle.solar_roll.specs.Vectors.{Vector, vector}
+use Rattle.solar_roll.specs.Roll.{bodyAxes, panelOf, rollIsUnconstrained, solarOptimalRollDeg}
+use Rattle.solar_roll.specs.Cell.{optimalRoll, rollIn, cellReply}
+use Rattle.solar_roll.specs.Plan.{triple}
+use Rattle.solar_roll.specs.declared.cell.CellRoll.the-variants.{Free, At}
+
+-- what a row and a panel share makes the same answer
+pub roll-shared : (target sun normal : Vector) → rollIn (bodyAxes target) sun (panelOf normal) ≡ optimalRoll target sun normal
+unfolding rollIn optimalRoll bodyAxes panelOf rollIsUnconstrained solarOptimalRollDeg
+roll-shared target sun normal = refl
+
+-- an answer that is not refused
+pub answered : (target sun normal : Vector) → cellReply (optimalRoll target sun normal) ≡ accepted (optimalRoll target sun normal)
+unfolding optimalRoll cellReply
+answered target sun normal = go (rollIsUnconstrained target sun normal)
+  where
+    go : (b : Bool) → cellReply (cond b Free (At (solarOptimalRollDeg target sun normal))) ≡ accepted (cond b Free (At (solarOptimalRollDeg target sun normal)))
+    go true = refl
+    go false = refl
+
+-- past the end a triple is NaN
+pub triple-past : (xs : List Float) (i : ℕ) → length xs ≤ i → vector nan nan nan ≡ triple xs i
+unfolding triple
+triple-past xs i h =
+    let a : length xs ≤ 3 * i = omega arith in
+    let b : length xs ≤ 3 * i + 1 = omega arith in
+    let c : length xs ≤ 3 * i + 2 = omega arith in
+    simp (List·getD-eq-default xs nan a, List·getD-eq-default xs nan b, List·getD-eq-default xs nan c)

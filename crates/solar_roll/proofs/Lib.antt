@@ -1,0 +1,3 @@
+-- Laws of specs/.
+pub mod Cells
+pub mod Accepted

@@ -1,0 +1,23 @@
+use borrow.Author.Needs.{needs}
+use denote.Ref.{now}
+use lib.Ieee.{nan, div, ofBits}
+use lib.ListN.{List·getD-eq-default}
+use mathlib.Core.Path.{sym}
+use Rattle.solar_roll.proofs.plan.number.Statement.{statement}
+use Rattle.solar_roll.proofs.plan.number.Tie as tie
+
+mul-result : tie.Need-mul-result
+mul-result c = search needs
+
+shared-slice-read-result : tie.Need-shared-slice-read-result
+shared-slice-read-result c = search needs
+
+returns : tie.Need-returns
+returns c = search needs
+
+returns-2 : tie.Need-returns-2
+unfolding div ofBits
+returns-2 c = sym (List·getD-eq-default (now (c .before .args .xs)) nan (c .if1 .left))
+
+pub number-spec : {M : Type 1} → statement M
+number-spec = tie.close (tie.spec mul-result shared-slice-read-result returns returns-2)

@@ -1,0 +1,34 @@
+use Rattle.solar_roll.specs.Roll.{panelAngle, solarOptimalRollDeg}
+use borrow.Author.Needs.{needs}
+use Rattle.solar_roll.proofs.roll.solar_optimal_roll_deg.Statement.{statement}
+use Rattle.solar_roll.proofs.roll.solar_optimal_roll_deg.Tie as tie
+
+array-read-atan2 : tie.Need-array-read-atan2
+array-read-atan2 c = search needs
+
+array-read-atan2-2 : tie.Need-array-read-atan2-2
+array-read-atan2-2 c = search needs
+
+atan2-requires : tie.Need-atan2-requires
+atan2-requires c κs = search needs
+
+body-axes-requires : tie.Need-body-axes-requires
+body-axes-requires c κs = search needs
+
+roll-deg-in-requires : tie.Need-roll-deg-in-requires
+roll-deg-in-requires c κs = search needs
+
+returns : tie.Need-returns
+unfolding solarOptimalRollDeg panelAngle
+returns c = cc
+
+pub solar-optimal-roll-deg-spec : {M : Type 1} → statement M
+solar-optimal-roll-deg-spec =
+    tie.close
+    (tie.spec
+    array-read-atan2
+    array-read-atan2-2
+    atan2-requires
+    body-axes-requires
+    roll-deg-in-requires
+    returns)

@@ -1,0 +1,74 @@
+-- Section 2: the answer of one cell, when a roll violates it, and what the call on four triples refuses. Definitions only. Assumes nothing.
+use mathlib.Core.Bool.{Bool, true, false, cond, not, _||_}
+use mathlib.Core.List.{List, [], _∷_}
+use Prim.Native.Nat.{ℕ}
+use lib.Ieee.{Float, binary64, lt, le, ofBits}
+use Rattle.buffers.specs.Ranges.{any}
+use Rattle.buffers.specs.Refusal.{first, carried, Reply, refused, accepted}
+use Rattle.float.specs.Arithmetic.{one, absOf}
+use Rattle.solar_roll.specs.Vectors.{Vector}
+use Rattle.solar_roll.specs.Roll.{Axes, axis, sunAlongBoresight, rollIsUnconstrained, rollDegIn, solarOptimalRollDeg, circularDiffDeg}
+use Rattle.solar_roll.specs.declared.roll.Panel.{Panel}
+use Rattle.solar_roll.specs.declared.cell.CellRoll.{CellRoll}
+use Rattle.solar_roll.specs.declared.cell.CellRoll.the-variants.{Free, At, Refused}
+use Rattle.solar_roll.specs.declared.cell.ConfiguredRoll.{ConfiguredRoll}
+use Rattle.solar_roll.specs.declared.cell.ConfiguredRoll.the-variants.{None, Some}
+use Rattle.solar_roll.specs.declared.cell.EvaluationRoll.{EvaluationRoll}
+use Rattle.solar_roll.specs.declared.cell.EvaluationRoll.the-variants.{Sweep, Fixed}
+
+-- ---- Free, or At the optimal roll
+
+unfoldable pub optimalRoll : Vector → Vector → Vector → CellRoll
+optimalRoll target sun normal = cond (rollIsUnconstrained target sun normal) Free (At (solarOptimalRollDeg target sun normal))
+
+-- the same of what a target's cells share, its axes, and of what all cells share, the panel
+unfoldable pub rollIn : Axes → Vector → Panel → CellRoll
+rollIn axes sun panel = cond (sunAlongBoresight (axis 0 axes) sun || panel .free) Free (At (rollDegIn axes sun (panel .angle)))
+
+-- the number and the value of each case of the answer
+unfoldable pub cellReply : CellRoll → Reply CellRoll
+cellReply Free = accepted Free
+cellReply (At roll) = accepted (At roll)
+cellReply (Refused k) = refused k
+
+-- ---- violated at a roll: not Free, and the difference > tolerance
+
+unfoldable pub violates : CellRoll → Float → Float → Bool
+violates Free roll tolerance = false
+violates (At optimal) roll tolerance = lt tolerance (circularDiffDeg roll optimal)
+violates (Refused k) roll tolerance = false
+
+-- a configured roll overrides Sweep, never Fixed
+unfoldable pub inForce : EvaluationRoll → ConfiguredRoll → Float
+inForce (Sweep roll) None = roll
+inForce (Sweep roll) (Some configured) = configured
+inForce (Fixed roll) configured = roll
+
+-- ---- one triple's tests, and the call on four triples
+
+-- 1e100
+abbrev pub LIMIT : Float
+LIMIT = ofBits binary64 0x54b2_49ad_2594_c37d
+
+-- over the limit in size, or a NaN
+unfoldable pub tooLarge : Float → Float → Bool
+tooLarge limit a = not (le (absOf a) limit)
+
+-- 4, and 6 of the panel: a number not finite or over 1e100 in size
+unfoldable pub badPosition : List Float → Bool
+badPosition = any (tooLarge LIMIT)
+
+-- 5: a component not within -1 to 1
+unfoldable pub badDirection : List Float → Bool
+badDirection = any (tooLarge one)
+
+-- what is refused of one target's direction, 0 for none
+unfoldable pub directionRefusal : Vector → ℕ
+directionRefusal target = first ((badDirection target, 5) ∷ [])
+
+unfoldable pub cellRefusal : Vector → Vector → Vector → Vector → ℕ
+cellRefusal target sun observer normal =
+    first ((badPosition sun || badPosition observer, 4)
+    ∷ carried (directionRefusal target)
+    ∷ (badPosition normal, 6)
+    ∷ [])

@@ -1,0 +1,122 @@
+-- A plan as its calls lend it, and *Plan*, the refusals that come before every call with positions. A plan has rows and times; a cell is a row at
+-- a time. Everything above these definitions speaks of rows: a row's direction and settings are `directionOf` and `configOf`, and nothing else
+-- says where they come from. Definitions only. Assumes nothing.
+use mathlib.Core.Path.{_≡_}
+use mathlib.Core.Bool.{Bool, true, false, cond, not, _||_, _&&_}
+use mathlib.Core.List.{List, [], _∷_}
+use Prim.Native.Nat.{ℕ, _+_, _*_, _/_, _%_, _≤_}
+use lib.Dec.{eqb, leb, ltb}
+use lib.ListN.{length, getD}
+use lib.Ieee.{Float, nan}
+use Rattle.buffers.specs.Refusal.{first, carried}
+use Rattle.solar_roll.specs.Vectors.{Vector, vector}
+use Rattle.solar_roll.specs.Roll.{sunUnit}
+use Rattle.solar_roll.specs.Cell.{optimalRoll, violates, inForce, badPosition, badDirection}
+use Rattle.solar_roll.specs.declared.cell.CellRoll.{CellRoll}
+use Rattle.solar_roll.specs.declared.cell.ConfiguredRoll.{ConfiguredRoll}
+use Rattle.solar_roll.specs.declared.cell.EvaluationRoll.the-variants.{Sweep}
+use Rattle.solar_roll.specs.declared.plan.SolarRollConfig.{SolarRollConfig}
+
+-- flat lists of triples: the targets' directions, and of each time the Sun's and the observer's position
+pub record Plan : Type 0 where
+  pub targets : List Float
+  pub suns : List Float
+  pub observers : List Float
+  pub config : SolarRollConfig
+
+abbrev pub planOf : List Float → List Float → List Float → SolarRollConfig → Plan
+planOf targets suns observers config = record { targets = targets; suns = suns; observers = observers; config = config }
+
+-- how many triples a flat list holds, and the i-th of them, NaN past the end
+abbrev pub count : List Float → ℕ
+count xs = length xs / 3
+
+unfoldable pub triple : List Float → ℕ → Vector
+triple xs i = vector (getD xs (3 * i) nan) (getD xs (3 * i + 1) nan) (getD xs (3 * i + 2) nan)
+
+-- ---- rows, times and cells: cell number = row · times + time
+
+abbrev pub rowsOf : Plan → ℕ
+rowsOf p = count (p .targets)
+
+abbrev pub timesOf : Plan → ℕ
+timesOf p = count (p .suns)
+
+abbrev pub cells : Plan → ℕ
+cells p = rowsOf p * timesOf p
+
+-- the direction and the settings of a row
+unfoldable pub rowDirection : List Float → ℕ → Vector
+rowDirection targets r = triple targets r
+
+unfoldable pub rowConfig : SolarRollConfig → ℕ → SolarRollConfig
+rowConfig config r = config
+
+abbrev pub directionOf : Plan → ℕ → Vector
+directionOf p r = rowDirection (p .targets) r
+
+abbrev pub configOf : Plan → ℕ → SolarRollConfig
+configOf p r = rowConfig (p .config) r
+
+-- the Sun's unit at a time
+unfoldable pub sunAt : Plan → ℕ → Vector
+sunAt p j = sunUnit (triple (p .suns) j) (triple (p .observers) j)
+
+-- the answer of the cell of row r at time j
+unfoldable pub cellOf : Plan → ℕ → ℕ → CellRoll
+cellOf p r j = optimalRoll (directionOf p r) (sunAt p j) (configOf p r .«panel_normal»)
+
+-- what stands for the whole plan: the roll that is configured, and what the journal's header holds
+unfoldable pub headTolerance : Plan → Float
+headTolerance p = p .config .«tolerance_deg»
+
+unfoldable pub headPanel : Plan → Vector
+headPanel p = p .config .«panel_normal»
+
+unfoldable pub headConfigured : Plan → ConfiguredRoll
+headConfigured p = p .config .«roll_deg»
+
+-- a sample violates the cell of row r at time j: it is taken as a Sweep roll
+unfoldable pub violatesAt : Plan → ℕ → ℕ → Float → Bool
+violatesAt p r j roll = violates (cellOf p r j) (inForce (Sweep roll) (headConfigured p)) (configOf p r .«tolerance_deg»)
+
+-- ---- the refusals
+
+-- 1, of the lists' lengths: target numbers or positions not a multiple of 3, or Sun and observer lengths differ
+unfoldable pub unlikeLengths : ℕ → ℕ → ℕ → Bool
+unlikeLengths targets suns observers = not (eqb (targets % 3) 0) || (not (eqb (suns % 3) 0) || not (eqb suns observers))
+
+-- 2: rows or times over 65,536, or cells over 1,048,576
+unfoldable pub tooMany : ℕ → ℕ → Bool
+tooMany rows times = ltb 65536 rows || (ltb 65536 times || ltb 1048576 (rows * times))
+
+-- the number in the place of 3, 0 for none: n outside 1 to 3,600; in section 6's calls 0 is allowed
+unfoldable pub samplingOf : ℕ → ℕ
+samplingOf n = cond (leb 1 n && leb n 3600) 0 3
+
+unfoldable pub samplingOrNone : ℕ → ℕ
+samplingOrNone n = cond (leb n 3600) 0 3
+
+-- `sampling` is the number said in the place of 3, 0 for none; `beyond` says that a used length lies beyond its buffer
+unfoldable pub planRefusal : Plan → ℕ → Bool → ℕ
+planRefusal p sampling beyond =
+    first ((unlikeLengths (length (p .targets)) (length (p .suns)) (length (p .observers)) || beyond, 1)
+    ∷ (tooMany (rowsOf p) (timesOf p), 2)
+    ∷ carried sampling
+    ∷ (badPosition (p .suns) || badPosition (p .observers), 4)
+    ∷ (badDirection (p .targets), 5)
+    ∷ (badPosition (headPanel p), 6)
+    ∷ [])
+
+-- what is known of a plan that is not refused
+pub record PlanFacts (p : Plan) : Type 0 where
+  pub targets-length : length (p .targets) ≡ 3 * rowsOf p
+  pub suns-length : length (p .suns) ≡ 3 * timesOf p
+  pub observers-length : length (p .observers) ≡ 3 * timesOf p
+  pub few-rows : rowsOf p ≤ 65536
+  pub few-times : timesOf p ≤ 65536
+  pub few-cells : cells p ≤ 1048576
+  pub suns-small : badPosition (p .suns) ≡ false
+  pub observers-small : badPosition (p .observers) ≡ false
+  pub targets-small : badDirection (p .targets) ≡ false
+  pub panel-small : badPosition (headPanel p) ≡ false

@@ -1,0 +1,102 @@
+-- Section 2: the Sun's unit, the free cells, the body's axes, the optimal roll and the difference of two rolls, as solar_roll.rs has them, with
+-- every fallback. What the roll takes of the target (its axes) and of the panel (its angle) are definitions of their own. Definitions only.
+-- Assumes nothing.
+use mathlib.Core.Bool.{Bool, true, false, cond, _||_}
+use mathlib.Core.List.{List, [], _∷_}
+use Prim.Native.Nat.{ℕ}
+use lib.ListN.{getD}
+use lib.Ieee.{Float, nan, binary64, add, sub, mul, lt, le, ofBits}
+use Rattle.float.specs.Root.{sqrtOf}
+use Rattle.float.specs.Arithmetic.{zero·0, one, halfTurn, fullTurn, absOf, remEuclid, toDegrees}
+use Rattle.float.specs.Arctangent.{arctangent}
+use Rattle.solar_roll.specs.Vectors.{Vector, x, y, z, vector, NEAR_ZERO, dot3, norm3, cross3, over3, normalize3, unwrapOr}
+use Rattle.solar_roll.specs.declared.roll.Panel.{Panel}
+
+-- 0.9
+abbrev pub nineTenths : Float
+nineTenths = ofBits binary64 0x3fec_cccc_cccc_cccd
+
+-- the coordinate axes
+abbrev pub xHat : Vector
+xHat = vector one zero·0 zero·0
+
+abbrev pub yHat : Vector
+yHat = vector zero·0 one zero·0
+
+abbrev pub zHat : Vector
+zHat = vector zero·0 zero·0 one
+
+-- ---- the Sun
+
+-- the Sun's unit: (Sun - observer) / its norm, or [1, 0, 0] if the norm < 1e-12
+unfoldable pub sunUnit : Vector → Vector → Vector
+sunUnit sun observer =
+    let v = vector (sub binary64 (x sun) (x observer)) (sub binary64 (y sun) (y observer)) (sub binary64 (z sun) (z observer)) in
+    cond (lt (norm3 v) NEAR_ZERO) xHat (over3 v (norm3 v))
+
+-- |sun·target| > 1 - 1e-12
+unfoldable pub sunAlongBoresight : Vector → Vector → Bool
+sunAlongBoresight target sun = lt (sub binary64 one NEAR_ZERO) (absOf (dot3 sun target))
+
+-- ---- the panel
+
+-- the panel's y-z norm <= 1e-12
+unfoldable pub panelIsFree : Vector → Bool
+panelIsFree normal = le (sqrtOf (add binary64 (mul binary64 (y normal) (y normal)) (mul binary64 (z normal) (z normal)))) NEAR_ZERO
+
+-- the angle of the panel's normal in the body's y-z plane
+unfoldable pub panelAngle : Vector → Float
+panelAngle normal = arctangent (z normal) (y normal)
+
+-- what a cell's roll takes of the panel
+unfoldable pub panelOf : Vector → Panel
+panelOf normal = record { free = panelIsFree normal; angle = panelAngle normal }
+
+-- Free, document 01's word: no roll is better than another
+unfoldable pub rollIsUnconstrained : Vector → Vector → Vector → Bool
+rollIsUnconstrained target sun normal = sunAlongBoresight target sun || panelIsFree normal
+
+-- ---- the body's axes
+
+-- v less its part along t
+unfoldable pub perpendicular : Vector → Vector → Vector
+perpendicular t v =
+    let d = dot3 t v in
+    vector (sub binary64 (x v) (mul binary64 d (x t))) (sub binary64 (y v) (mul binary64 d (y t))) (sub binary64 (z v) (mul binary64 d (z t)))
+
+-- near the pole another reference than celestial north
+unfoldable pub poleFallback : Vector → Vector
+poleFallback t = cond (lt (absOf (z t)) nineTenths) zHat yHat
+
+-- celestial north, projected onto the plane perpendicular to the boresight t
+unfoldable pub north : Vector → Vector
+north t = unwrapOr (normalize3 (perpendicular t zHat)) (unwrapOr (normalize3 (perpendicular t (poleFallback t))) yHat)
+
+unfoldable pub yAxis : Vector → Vector
+yAxis t = unwrapOr (normalize3 (cross3 (north t) t)) yHat
+
+-- the three axes, as `[[f64; 3]; 3]` holds them, and one of them
+abbrev pub Axes : Type 0
+Axes = List Vector
+
+abbrev pub axis : ℕ → Axes → Vector
+axis k axes = getD axes k []
+
+-- x is the boresight, y = north × x, z = x × y
+unfoldable pub bodyAxes : Vector → Axes
+bodyAxes t = t ∷ yAxis t ∷ cross3 t (yAxis t) ∷ []
+
+-- ---- the optimal roll, in degrees
+
+-- of a body's axes, the Sun's unit and the panel's angle
+unfoldable pub rollDegIn : Axes → Vector → Float → Float
+rollDegIn axes sun angle = toDegrees (sub binary64 (arctangent (dot3 sun (axis 2 axes)) (dot3 sun (axis 1 axes))) angle)
+
+-- of a target, the Sun's unit and the panel's normal
+unfoldable pub solarOptimalRollDeg : Vector → Vector → Vector → Float
+solarOptimalRollDeg target sun normal = rollDegIn (bodyAxes target) sun (panelAngle normal)
+
+-- ---- the difference of two rolls: the shorter arc between them
+
+unfoldable pub circularDiffDeg : Float → Float → Float
+circularDiffDeg a b = let d = remEuclid (sub binary64 a b) fullTurn in sub binary64 halfTurn (absOf (sub binary64 d halfTurn))

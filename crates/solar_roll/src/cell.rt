@@ -1,0 +1,136 @@
+// One cell: a target at a time.
+use crate::roll::Panel;
+use crate::roll::circular_diff_deg;
+use crate::roll::roll_deg_in;
+use crate::roll::roll_is_unconstrained;
+use crate::roll::solar_optimal_roll_deg;
+use crate::roll::sun_along_boresight;
+use crate::roll::sun_unit;
+use float::abs;
+ghost use mathlib.Core.Path.{_≡_};
+ghost use Rattle.buffers.specs.Ranges.{any};
+ghost use Rattle.buffers.specs.Refusal.{reply};
+ghost use Rattle.solar_roll.specs.Roll.{sunUnit};
+ghost use Rattle.solar_roll.specs.Cell.{optimalRoll, rollIn, cellReply, violates, inForce, tooLarge, badPosition, badDirection, cellRefusal};
+
+// The largest size of a position's or a panel's number.
+const LIMIT: f64 = 1.0e100;
+
+// A roll that may be configured: the Rust's Option<f64>.
+pub enum ConfiguredRoll {
+    None,
+    Some(f64),
+}
+
+// A roll to evaluate at: one candidate of a sweep, or the one that is asked for.
+pub enum EvaluationRoll {
+    Sweep(f64),
+    Fixed(f64),
+}
+
+// A cell's answer: no roll is better than another, the optimal roll, or the number of a refusal.
+pub enum CellRoll {
+    Free,
+    At(f64),
+    Refused(u64),
+}
+
+// The cell's answer, from what its row and its panel share. A free cell costs no arctangent.
+pub fn roll_in(axes: [[f64; 3]; 3], sun_unit: [f64; 3], panel: Panel) -> CellRoll
+    ensures { λ r. ⌜ r ≡ rollIn axes «sun_unit» panel ⌝ }
+{
+    let target = axes[0];
+    if sun_along_boresight(target, sun_unit) {
+        return CellRoll::Free;
+    }
+    if panel.free {
+        return CellRoll::Free;
+    }
+    CellRoll::At(roll_deg_in(axes, sun_unit, panel.angle))
+}
+
+fn optimal_roll(target: [f64; 3], sun_unit: [f64; 3], panel_normal: [f64; 3]) -> CellRoll
+    ensures { λ r. ⌜ r ≡ optimalRoll target «sun_unit» «panel_normal» ⌝ }
+{
+    if roll_is_unconstrained(target, sun_unit, panel_normal) {
+        CellRoll::Free
+    } else {
+        CellRoll::At(solar_optimal_roll_deg(target, sun_unit, panel_normal))
+    }
+}
+
+// Whether the cell is violated at a roll: a tolerance met exactly is not.
+pub fn violated(cell: CellRoll, roll_deg: f64, tolerance_deg: f64) -> bool
+    ensures { λ r. ⌜ r ≡ violates cell «roll_deg» «tolerance_deg» ⌝ }
+{
+    match cell {
+        CellRoll::Free => false,
+        CellRoll::At(optimal) => circular_diff_deg(roll_deg, optimal) > tolerance_deg,
+        CellRoll::Refused(_) => false,
+    }
+}
+
+// The roll to evaluate at: a configured roll overrides Sweep, never Fixed.
+pub fn in_force(roll: EvaluationRoll, configured: ConfiguredRoll) -> f64
+    ensures { λ r. ⌜ r ≡ inForce roll configured ⌝ }
+{
+    match roll {
+        EvaluationRoll::Sweep(candidate) => match configured {
+            ConfiguredRoll::None => candidate,
+            ConfiguredRoll::Some(roll_deg) => roll_deg,
+        },
+        EvaluationRoll::Fixed(roll_deg) => roll_deg,
+    }
+}
+
+// Whether a number is over the limit in size, or a NaN.
+fn any_too_large(xs: &[f64], limit: f64) -> bool
+    ensures { λ r. ⌜ r ≡ any (tooLarge limit) (now (xs .entry)) ⌝ }
+{
+    let mut i = 0;
+    while i < xs.len() {
+        let x = xs[i];
+        if abs(x) <= limit {
+            i += 1;
+        } else {
+            return true;
+        }
+    }
+    false
+}
+
+pub fn bad_position(xs: &[f64]) -> bool
+    ensures { λ r. ⌜ r ≡ badPosition (now (xs .entry)) ⌝ }
+{
+    any_too_large(xs, LIMIT)
+}
+
+pub fn bad_direction(xs: &[f64]) -> bool
+    ensures { λ r. ⌜ r ≡ badDirection (now (xs .entry)) ⌝ }
+{
+    any_too_large(xs, 1.0)
+}
+
+// The answer of one cell, given by its four triples.
+pub fn cell_roll(
+    target: [f64; 3],
+    sun: [f64; 3],
+    observer: [f64; 3],
+    panel_normal: [f64; 3],
+) -> CellRoll
+    ensures { λ r. ⌜ cellReply r ≡ reply (cellRefusal target sun observer «panel_normal») (optimalRoll target (sunUnit sun observer) «panel_normal») ⌝ }
+{
+    if bad_position(&sun) {
+        return CellRoll::Refused(4);
+    }
+    if bad_position(&observer) {
+        return CellRoll::Refused(4);
+    }
+    if bad_direction(&target) {
+        return CellRoll::Refused(5);
+    }
+    if bad_position(&panel_normal) {
+        return CellRoll::Refused(6);
+    }
+    optimal_roll(target, sun_unit(sun, observer), panel_normal)
+}

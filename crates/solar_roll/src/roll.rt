@@ -1,0 +1,139 @@
+// A cell's optimal roll, and the difference of two rolls.
+use crate::vectors::NEAR_ZERO;
+use crate::vectors::cross3;
+use crate::vectors::dot3;
+use crate::vectors::norm3;
+use crate::vectors::normalize3;
+use crate::vectors::over3;
+use crate::vectors::unwrap_or;
+use float::abs;
+use float::atan2;
+use float::rem_euclid_turn;
+use float::sqrt;
+use float::to_degrees;
+ghost use mathlib.Core.Path.{_≡_};
+ghost use Rattle.solar_roll.specs.Roll.{sunUnit, sunAlongBoresight, panelIsFree, panelAngle, panelOf, rollIsUnconstrained, perpendicular, poleFallback, north, bodyAxes, rollDegIn, solarOptimalRollDeg, circularDiffDeg};
+
+// The unit vector from the observer to the Sun.
+pub fn sun_unit(sun: [f64; 3], observer: [f64; 3]) -> [f64; 3]
+    ensures { λ r. ⌜ r ≡ sunUnit sun observer ⌝ }
+{
+    let v = [
+        sun[0] - observer[0],
+        sun[1] - observer[1],
+        sun[2] - observer[2],
+    ];
+    let n = norm3(v);
+    if n < NEAR_ZERO {
+        [1.0, 0.0, 0.0]
+    } else {
+        over3(v, n)
+    }
+}
+
+// With the Sun along the boresight the panel is edge-on to it at every roll.
+pub fn sun_along_boresight(target: [f64; 3], sun_unit: [f64; 3]) -> bool
+    ensures { λ r. ⌜ r ≡ sunAlongBoresight target «sun_unit» ⌝ }
+{
+    abs(dot3(sun_unit, target)) > 1.0 - NEAR_ZERO
+}
+
+// What all cells share of a panel: whether its normal has no part in the body's y-z plane, so that
+// no roll changes its light, and else the normal's angle there.
+pub struct Panel {
+    pub free: bool,
+    pub angle: f64,
+}
+
+pub fn panel_is_free(panel_normal: [f64; 3]) -> bool
+    ensures { λ r. ⌜ r ≡ panelIsFree «panel_normal» ⌝ }
+{
+    let panel_proj = sqrt(panel_normal[1] * panel_normal[1] + panel_normal[2] * panel_normal[2]);
+    panel_proj <= NEAR_ZERO
+}
+
+pub fn panel_of(panel_normal: [f64; 3]) -> Panel
+    ensures { λ r. ⌜ r ≡ panelOf «panel_normal» ⌝ }
+{
+    Panel {
+        free: panel_is_free(panel_normal),
+        angle: atan2(panel_normal[2], panel_normal[1]),
+    }
+}
+
+pub fn roll_is_unconstrained(target: [f64; 3], sun_unit: [f64; 3], panel_normal: [f64; 3]) -> bool
+    ensures { λ r. ⌜ r ≡ rollIsUnconstrained target «sun_unit» «panel_normal» ⌝ }
+{
+    if sun_along_boresight(target, sun_unit) {
+        return true;
+    }
+    panel_is_free(panel_normal)
+}
+
+// The part of v perpendicular to x.
+fn perpendicular(x: [f64; 3], v: [f64; 3]) -> [f64; 3]
+    ensures { λ r. ⌜ r ≡ perpendicular x v ⌝ }
+{
+    let d = dot3(x, v);
+    [v[0] - d * x[0], v[1] - d * x[1], v[2] - d * x[2]]
+}
+
+// A reference that is stable near the celestial pole.
+fn pole_fallback(x: [f64; 3]) -> [f64; 3]
+    ensures { λ r. ⌜ r ≡ poleFallback x ⌝ }
+{
+    if abs(x[2]) < 0.9 {
+        [0.0, 0.0, 1.0]
+    } else {
+        [0.0, 1.0, 0.0]
+    }
+}
+
+// Celestial north, projected onto the plane perpendicular to x.
+fn north(x: [f64; 3]) -> [f64; 3]
+    ensures { λ r. ⌜ r ≡ north x ⌝ }
+{
+    let projected = normalize3(perpendicular(x, [0.0, 0.0, 1.0]));
+    if projected.found {
+        return projected.vector;
+    }
+    let raw = perpendicular(x, pole_fallback(x));
+    unwrap_or(normalize3(raw), [0.0, 1.0, 0.0])
+}
+
+// The north-referenced body frame: x is the boresight, y = north × x, z recomputed from them.
+pub fn body_axes(target: [f64; 3]) -> [[f64; 3]; 3]
+    ensures { λ r. ⌜ r ≡ bodyAxes target ⌝ }
+{
+    let y_raw = cross3(north(target), target);
+    let y_axis = unwrap_or(normalize3(y_raw), [0.0, 1.0, 0.0]);
+    let z_axis = cross3(target, y_axis);
+    [target, y_axis, z_axis]
+}
+
+// The optimal roll of a cell, from what its row and its panel share.
+pub fn roll_deg_in(axes: [[f64; 3]; 3], sun_unit: [f64; 3], panel_angle: f64) -> f64
+    ensures { λ r. ⌜ r ≡ rollDegIn axes «sun_unit» «panel_angle» ⌝ }
+{
+    let y_axis = axes[1];
+    let z_axis = axes[2];
+    let sun_y = dot3(sun_unit, y_axis);
+    let sun_z = dot3(sun_unit, z_axis);
+    to_degrees(atan2(sun_z, sun_y) - panel_angle)
+}
+
+// The roll, in degrees from north, at which the panel gets the most light.
+pub fn solar_optimal_roll_deg(target: [f64; 3], sun_unit: [f64; 3], panel_normal: [f64; 3]) -> f64
+    ensures { λ r. ⌜ r ≡ solarOptimalRollDeg target «sun_unit» «panel_normal» ⌝ }
+{
+    let panel_angle = atan2(panel_normal[2], panel_normal[1]);
+    roll_deg_in(body_axes(target), sun_unit, panel_angle)
+}
+
+// The shorter arc between two rolls.
+pub fn circular_diff_deg(a: f64, b: f64) -> f64
+    ensures { λ r. ⌜ r ≡ circularDiffDeg a b ⌝ }
+{
+    let d = rem_euclid_turn(a - b);
+    180.0 - abs(d - 180.0)
+}
