@@ -1,0 +1,2 @@
+-- Laws of the journal's text.
+pub mod Text

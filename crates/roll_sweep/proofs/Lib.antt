@@ -1,0 +1,3 @@
+-- The laws of specs/, as loops and callers ask for them.
+pub mod Words
+pub mod Tried
