@@ -2,17 +2,17 @@
 -- turn (`-zero`), after one turn more (`-next`), where it leaves early (`-stop`). Assumes nothing.
 use mathlib.Core.Path.{_≡_, refl, sym, ap, ap₂, _∙_, subst}
 use mathlib.Core.Logic.{_↔_}
-use mathlib.Core.Bool.{Bool, true, false, _&&_, _||_, or-true}
+use mathlib.Core.Bool.{Bool, true, false, cond, _&&_, _||_, or-true}
 use mathlib.Core.List.{List, [], _∷_, _++_, append-assoc, append-nil}
-use Prim.Native.Nat.{ℕ, zero, suc, _+_, _*_, _≤_, _<_}
+use Prim.Native.Nat.{ℕ, zero, suc, _+_, _-_, _*_, _≤_, _<_}
 use native.Mathlib.Nat.{not-suc-le-zero, add-zero, add-suc}
 use native.Mathlib.Numerals.{add-one}
 use native.Mathlib.Omega.{arith}
 use lib.Dec.{eqb}
 use lib.Arith.{lt-of-le-ne}
-use lib.ListN.{length, getD, drop, length-append, List·getD-append, drop-of-length-le}
-use lib.Seq.{getD-at, drop-cons}
-use borrow.Author.Tests.{eqb-true, eqb-false}
+use lib.ListN.{length, getD, take, drop, length-append, List·getD-append, drop-of-length-le}
+use lib.Seq.{getD-at, drop-cons, take-at, drop-append-add}
+use borrow.Author.Tests.{eqb-true, eqb-false, ne-eqb}
 use Rattle.buffers.specs.Ranges.{flag, sum, tab, allBelow, anyBelow, any}
 use Rattle.buffers.proofs.Tests.{and-left, and-right, and-both, and-stop, or-left, or-right}
 
@@ -62,6 +62,23 @@ unfolding sum
 sum-mono zero f g h = omega arith
 sum-mono (suc n) f g h = omega (arith, sum-mono n f g (λ k l. h k (omega arith)), h n (omega arith))
 
+-- one term only: below m, none of which is c; below m, one of which is c
+sum-none : (m c : ℕ) (f : ℕ → ℕ) → m ≤ c → sum m (λ d. cond (eqb c d) (f d) 0) ≡ 0
+sum-none m c f h =
+    sum-ext m (λ d. cond (eqb c d) (f d) 0) (λ d. 0) (λ d l. ap (λ (t : Bool). cond t (f d) 0) (ne-eqb c d (λ e. omega arith)))
+    ∙ omega (arith, sum-same m 0)
+
+pub sum-one : (m c : ℕ) (f : ℕ → ℕ) → c < m → sum m (λ d. cond (eqb c d) (f d) 0) ≡ f c
+unfolding sum
+sum-one zero c f h = absurd (not-suc-le-zero h)
+sum-one (suc m) c f h = go (eqb c m) refl (sum-one m c f)
+  where
+    go : (t : Bool) → eqb c m ≡ t → (c < m → sum m (λ d. cond (eqb c d) (f d) 0) ≡ f c) → sum m (λ d. cond (eqb c d) (f d) 0) + cond t (f m) 0 ≡ f c
+    go true e ih =
+        let q : c ≡ m = eqb-true c m e in
+        omega (arith, sum-none m c f (omega arith), ap f q)
+    go false e ih = omega (arith, ih (lt-of-le-ne (omega arith) (eqb-false c m e)))
+
 -- ---- tables
 
 module _ {A : Type 0} where
@@ -97,6 +114,20 @@ module _ {A : Type 0} where
       ap (λ (k : ℕ). tab k f) (add-suc n m)
       ∙ ap (λ (l : List A). l ++ (f (n + m) ∷ [])) (tab-add n m f)
       ∙ append-assoc (tab n f) (tab m (λ k. f (n + k))) (f (n + m) ∷ [])
+
+  -- m entries from place n on, of a longer table
+  pub tab-part : (n m k : ℕ) (f : ℕ → A) → n + m ≤ k → take m (drop n (tab k f)) ≡ tab m (λ j. f (n + j))
+  tab-part n m k f h =
+      let r : ℕ = k - (n + m) in
+      let e : k ≡ n + (m + r) = omega arith in
+      let z : length (tab n f) + 0 ≡ n = omega (arith, length-tab n f) in
+      let g : ℕ → A = λ j. f (n + j) in
+      ap (λ (i : ℕ). take m (drop n (tab i f))) e
+      ∙ ap (λ (t : List A). take m (drop n t)) (tab-add n (m + r) f)
+      ∙ ap (λ (i : ℕ). take m (drop i (tab n f ++ tab (m + r) g))) (sym z)
+      ∙ ap (take m) (drop-append-add (tab n f) (tab (m + r) g) 0)
+      ∙ ap (take m) (tab-add m r g)
+      ∙ take-at (tab m g) (tab r (λ j. g (m + j))) m (length-tab m g)
 
 -- ---- all below
 

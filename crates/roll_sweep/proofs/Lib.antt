@@ -1,3 +1,5 @@
 -- The laws of specs/, as loops and callers ask for them.
 pub mod Words
 pub mod Tried
+pub mod Chunks
+pub mod Rows

@@ -1,0 +1,3 @@
+-- Demand 3 and what it rests on.
+pub mod Chunks
+pub mod Written
