@@ -1,6 +1,6 @@
 -- Laws of section 1's arithmetic.
 -- For callers: Nearest (what the root is), Bounds and Angle (sizes), Sign, Order (of any floats), Remainder (by 360), Exact (whole numbers), Examples.
--- For the root's own proofs: Isqrt, Patterns, Rooted, Scaling, Split.
+-- For the root's own proofs: Grid, Guessed, Isqrt, Patterns, Rooted, Scaling, Steps.
 pub mod Angle
 pub mod Bounds
 pub mod Examples
@@ -10,8 +10,9 @@ pub mod Order
 pub mod Remainder
 pub mod Sign
 mod Grid
+mod Guessed
 mod Isqrt
 mod Patterns
 mod Rooted
 mod Scaling
-mod Split
+mod Steps

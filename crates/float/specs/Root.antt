@@ -70,3 +70,8 @@ scaledOf b = scaledFrom (magnitude b * 2 ^ 1074)
 abbrev pub halfway : ℕ → Bool → Ordering
 halfway zero exact = Ordering·lt
 halfway (suc h) exact = cond exact Ordering·eq Ordering·gt
+
+-- Steps 2 and 3: the root of m * 2 ^ 52, to the nearest whole number, from the root of four times that.
+unfoldable pub roundedRoot : ℕ → ℕ
+unfolding isqrt
+roundedRoot m = let r = isqrt (m * 2 ^ 54) in nearest (r / 2) (halfway (r % 2) (eqb (r * r) (m * 2 ^ 54)))

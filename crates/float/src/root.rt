@@ -1,31 +1,35 @@
-// The square root of an f64, correctly rounded: IEEE 754-2019's squareRoot, to nearest, ties to even.
+// The square root of an f64: IEEE 754-2019's squareRoot, to nearest, ties to even.
+//
+// `sqrt_by_steps` goes in the order of the text: special operands, the floor of the root, rounding. `sqrt` first guesses
+// the root by float steps and checks the guess exactly, with integers; where that fails it goes by the steps.
 ghost use mathlib.Core.Path.{_≡_};
 ghost use mathlib.Core.Bool.{true, false};
-ghost use Prim.Native.Nat.{_+_, _-_, _*_, _/_, _%_, _^_, _<_, _≤_};
+ghost use Prim.Native.Nat.{_+_, _*_, _/_, _%_, _^_, _<_, _≤_};
 ghost use lib.Dec.{eqb};
 ghost use lib.Ieee.{binary64, nearest, units};
-ghost use Rattle.float.specs.Root.{isqrt, sqrtOf, operandOf, pairedOf, scaledOf, halfway};
+ghost use Rattle.float.specs.Root.{isqrt, sqrtOf, operandOf, pairedOf, scaledOf, halfway, roundedRoot};
+use std::num::wrapping_sub_u64;
 
 // What the root of an operand asks: nothing more, or the root of a number finite and above 0.
-pub enum Operand {
+enum Operand {
     Answer(f64),
     Positive,
 }
 
 // A number as significand * 4^half.
-pub struct Scaled {
-    pub significand: u64,
-    pub half: u64,
+struct Scaled {
+    significand: u64,
+    half: u64,
 }
 
-// A floor of a square root, and whether it is the root.
-pub struct Floor {
-    pub root: u64,
-    pub exact: bool,
+// The floor of a square root, and whether it is the root.
+struct Floor {
+    root: u64,
+    exact: bool,
 }
 
 // Step 1: the special operands and their answers.
-pub fn special(x: f64) -> Operand
+fn special(x: f64) -> Operand
     ensures { λ r. ⌜ r ≡ operandOf x ⌝ }
 {
     if x != x {
@@ -94,66 +98,6 @@ fn floor_root(m: u64) -> Floor
     }
 }
 
-// About the root of m, where the float steps go well. Nothing is promised of it: `quick_root` checks it.
-fn guess(m: u64) -> u64
-    requires { ⌜ m < 2 ^ 54 ⌝ }
-{
-    let f = (m / 2) as f64;
-    if f != f {
-        return 0;
-    }
-    let i = f64::to_bits(f) / 2;
-    if 0x5fe6_eb50_c7b5_37a9 < i {
-        return 0;
-    }
-    let y = f64::from_bits(0x5fe6_eb50_c7b5_37a9 - i);
-    let h = f * 0.5;
-    let y1 = y * (1.5 - h * y * y);
-    let y2 = y1 * (1.5 - h * y1 * y1);
-    let y3 = y2 * (1.5 - h * y2 * y2);
-    let g = f * y3 * 1.4142135623730951 - 0.5 + 4503599627370496.0;
-    if g != g {
-        return 0;
-    }
-    f64::to_bits(g) % 0x1000_0000
-}
-
-// Step 2, quicker: the root a of m, guessed and then checked, and from it the root's lower 27 bits by one division.
-fn quick_root(m: u64) -> Floor
-    requires { ⌜ m < 2 ^ 54 ⌝ }
-    ensures { λ r. ⌜ (r .root ≡ isqrt (m * 2 ^ 54)) × (r .exact ≡ eqb (r .root * r .root) (m * 2 ^ 54)) ⌝ }
-{
-    let a = guess(m);
-    if a < 0x400_0000 {
-        return floor_root(m);
-    }
-    if 0x800_0000 <= a {
-        return floor_root(m);
-    }
-    if m < a * a {
-        return floor_root(m);
-    }
-    let rest = m - a * a;
-    if a * 2 < rest {
-        return floor_root(m);
-    }
-    let over = rest * 0x800_0000;
-    let b = over / (a * 2);
-    let c = over % (a * 2) * 0x800_0000;
-    let root = a * 0x800_0000 + b;
-    if b * b <= c {
-        Floor {
-            root,
-            exact: b * b == c,
-        }
-    } else {
-        Floor {
-            root: root - 1,
-            exact: c + root * 2 == b * b + 1,
-        }
-    }
-}
-
 // q times 2^k units, q having 53 digits, or the next power of two.
 fn packed(q: u64, k: u64) -> f64
     requires { ⌜ (2 ^ 52 ≤ q) × (q ≤ 2 ^ 53) × (k < 2000) ⌝ }
@@ -176,16 +120,81 @@ fn rounded(root: u64, exact: bool, k: u64) -> f64
     }
 }
 
-// The square root.
-pub fn sqrt(x: f64) -> f64
+// The square root, by the three steps.
+fn sqrt_by_steps(x: f64) -> f64
     ensures { λ r. ⌜ r ≡ sqrtOf x ⌝ }
 {
     match special(x) {
         Operand::Answer(r) => r,
         Operand::Positive => {
             let s = scale(f64::to_bits(x));
-            let f = quick_root(s.significand);
+            let f = floor_root(s.significand);
             rounded(f.root, f.exact, s.half - 26)
         }
     }
+}
+
+// The root of the normal pattern b's number, as 53 digits: right but for one operand in about 2,500. Nothing more is promised of it.
+fn guess(b: u64) -> u64
+    requires { ⌜ b < 2047 * 2 ^ 52 ⌝ }
+    ensures { λ r. ⌜ (2 ^ 52 ≤ r) × (r < 2 ^ 53) ⌝ }
+{
+    // The number times a power of four, from 1 to 4.
+    let n = (b + 0x10_0000_0000_0000) % 0x20_0000_0000_0000 + 0x3ff0_0000_0000_0000;
+    let f = f64::from_bits(n);
+    // 1 / root(f): half the exponent, negated, and two steps of Newton's, to 4e-7. The constants spread the error to both sides.
+    let y0 = f64::from_bits(0x5fe5_8b37_0000_0000 - n / 2);
+    let y1 = y0 * (1.58114 - 0.584783 * f * y0 * y0);
+    let y = y1 * (1.5000004 - 0.5 * f * y1 * y1);
+    // The root to 26 digits, whose square is exact, and what is left of f divided by twice the root.
+    let s = (f * y + 201326592.0) - 201326592.0;
+    let t = s * s;
+    let h = 0.5 * y;
+    let g = s + (f - t) * h * (1.5 - (f + t) * (h * h));
+    if g != g {
+        return 0x10_0000_0000_0000;
+    }
+    0x10_0000_0000_0000 + f64::to_bits(g) % 0x10_0000_0000_0000
+}
+
+// Whether q is what steps 2 and 3 make of m: m * 2^52 lies above the square of q - 1/2 and below that of q + 1/2.
+// `rest` is m * 2^52 less the square of d = q - 1, by the upper and the lower digits of d.
+fn is_rounded_root(m: u64, q: u64) -> bool
+    requires { ⌜ (m < 2 ^ 54) × (2 ^ 52 ≤ q) × (q < 2 ^ 53) ⌝ }
+    ensures { λ r. ⌜ (r ≡ true → roundedRoot m ≡ q) ⌝ }
+{
+    let d = q - 1;
+    let a = d / 0x400_0000;
+    let c = d % 0x400_0000;
+    let over = wrapping_sub_u64(m, a * a);
+    if over < 0x1000_0000 {
+        let part = wrapping_sub_u64(over * 0x400_0000, a * c * 2);
+        if part < 0x8000_0000 {
+            let rest = wrapping_sub_u64(part * 0x400_0000, c * c);
+            if d < rest {
+                return rest <= d * 3 + 2;
+            }
+        }
+    }
+    false
+}
+
+// The square root.
+pub fn sqrt(x: f64) -> f64
+    ensures { λ r. ⌜ r ≡ sqrtOf x ⌝ }
+{
+    if x > 0.0 {
+        let b = f64::to_bits(x);
+        let field = b >> 52;
+        if 0 < field {
+            if field < 2047 {
+                let q = guess(b);
+                let s = scale(b);
+                if is_rounded_root(s.significand, q) {
+                    return packed(q, s.half - 26);
+                }
+            }
+        }
+    }
+    sqrt_by_steps(x)
 }

@@ -1,11 +1,11 @@
-use Rattle.float.specs.Arithmetic.{PI, signBitOf, absOf}
+use Rattle.float.specs.Arithmetic.{PI, signBitOf}
 use mathlib.Core.Bool.{cond, _&&_, Bool, true, false}
 use lib.Ieee.{ofBits, div, binary64, sub}
 use mathlib.Core.Logic.{⊎-elim}
 use borrow.Author.Tests.{not-true, not-false}
 use lib.Ieee.{ofBits, div}
 use Rattle.float.specs.Arctangent.{arctangent}
-use mathlib.Core.Path.{_≡_, refl, sym, ap, _∙_, subst}
+use mathlib.Core.Path.{_≡_, refl, sym, _∙_}
 use borrow.Author.Needs.{needs}
 use Rattle.float.proofs.arctangent.atan2.Statement.{statement}
 use Rattle.float.proofs.arctangent.atan2.Tie as tie

@@ -1,6 +1,5 @@
 use borrow.Author.Tests.{eq-eqb, ne-eqb}
 use Rattle.float.specs.Arctangent.{coefficient}
-use mathlib.Core.Path.{_≡_, refl, sym, ap, _∙_, subst}
 use borrow.Author.Needs.{needs}
 use Rattle.float.proofs.arctangent.coefficient.Statement.{statement}
 use Rattle.float.proofs.arctangent.coefficient.Tie as tie

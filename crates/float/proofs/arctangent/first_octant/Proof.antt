@@ -1,5 +1,4 @@
 use Rattle.float.specs.Arctangent.{firstOctant}
-use mathlib.Core.Path.{_≡_, refl, sym, ap, _∙_, subst}
 use borrow.Author.Needs.{needs}
 use Rattle.float.proofs.arctangent.first_octant.Statement.{statement}
 use Rattle.float.proofs.arctangent.first_octant.Tie as tie

@@ -1,5 +1,4 @@
 use Rattle.float.specs.Arctangent.{halved}
-use mathlib.Core.Path.{_≡_, refl, sym, ap, _∙_, subst}
 use borrow.Author.Needs.{needs}
 use Rattle.float.proofs.arctangent.halved.Statement.{statement}
 use Rattle.float.proofs.arctangent.halved.Tie as tie

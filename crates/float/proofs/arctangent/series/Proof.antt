@@ -3,7 +3,7 @@ use native.Mathlib.Numerals.{add-one}
 use native.Mathlib.Omega.{arith}
 use borrow.Author.Needs.{needs}
 use Rattle.float.specs.Arctangent.{coefficient, series}
-use mathlib.Core.Path.{_≡_, refl, sym, ap, _∙_, subst}
+use mathlib.Core.Path.{_≡_, ap, _∙_}
 use Rattle.float.proofs.arctangent.series.Statement.{statement}
 use Rattle.float.proofs.arctangent.series.Tie as tie
 use Rattle.float.proofs.arctangent.series.Reads as reads

@@ -1,5 +1,5 @@
 use Rattle.float.proofs.Sign.{abs-negative, abs-positive}
-use mathlib.Core.Path.{_≡_, refl, sym, ap, _∙_, subst}
+use mathlib.Core.Path.{sym, _∙_}
 use borrow.Author.Needs.{needs}
 use Rattle.float.proofs.arithmetic.abs.Statement.{statement}
 use Rattle.float.proofs.arithmetic.abs.Tie as tie

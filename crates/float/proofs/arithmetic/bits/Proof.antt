@@ -1,6 +1,5 @@
 -- `float::bits` meets its contract. Assumes nothing.
-use mathlib.Core.Path.{_∙_}
-use Rattle.float.proofs.Patterns.{nan-bits, not-nan, zero-by-zero, high-pattern, other-pattern}
+use Rattle.float.proofs.Patterns.{nan-bits, not-nan}
 use borrow.Author.Needs.{needs}
 use Rattle.float.proofs.arithmetic.bits.Statement.{statement}
 use Rattle.float.proofs.arithmetic.bits.Tie as tie

@@ -1,6 +1,5 @@
 use lib.Ieee.{ofBits, div}
 use Rattle.float.proofs.Sign.{below-infinity}
-use mathlib.Core.Path.{_≡_, refl, sym, ap, _∙_, subst}
 use borrow.Author.Needs.{needs}
 use Rattle.float.proofs.arithmetic.is_finite.Statement.{statement}
 use Rattle.float.proofs.arithmetic.is_finite.Tie as tie

@@ -1,6 +1,6 @@
 use lib.Dec.{T}
 use Rattle.float.proofs.Sign.{no-nan, nan-sign, sign-of-bits}
-use mathlib.Core.Path.{_≡_, refl, sym, ap, _∙_, subst}
+use mathlib.Core.Path.{sym, subst}
 use Rattle.float.proofs.arithmetic.is_sign_negative.Statement.{statement}
 use Rattle.float.proofs.arithmetic.is_sign_negative.Tie as tie
 use Rattle.float.proofs.arithmetic.is_sign_negative.Reads as reads

@@ -1,6 +1,6 @@
 -- `float::of_bits` meets its contract. Assumes nothing.
 use mathlib.Core.Path.{_∙_}
-use Rattle.float.proofs.Patterns.{nan-bits, not-nan, zero-by-zero, high-pattern, other-pattern}
+use Rattle.float.proofs.Patterns.{zero-by-zero, high-pattern, other-pattern}
 use borrow.Author.Needs.{needs}
 use Rattle.float.proofs.arithmetic.of_bits.Statement.{statement}
 use Rattle.float.proofs.arithmetic.of_bits.Tie as tie

@@ -1,5 +1,4 @@
 use Rattle.float.specs.Arithmetic.{remEuclid}
-use mathlib.Core.Path.{_≡_, refl, sym, ap, _∙_, subst}
 use borrow.Author.Needs.{needs}
 use Rattle.float.proofs.arithmetic.rem_euclid.Statement.{statement}
 use Rattle.float.proofs.arithmetic.rem_euclid.Tie as tie

@@ -1,4 +1,4 @@
-use mathlib.Core.Path.{_≡_, refl, sym, ap, _∙_, subst}
+use mathlib.Core.Path.{refl, sym, subst}
 use lib.Dec.{T}
 use lib.Ieee.{ofBits, neg}
 use Rattle.float.proofs.Remainder.{rem-turn-small, rem-turn-once}

@@ -1,5 +1,5 @@
 use Rattle.float.specs.Arithmetic.{toDegrees}
-use mathlib.Core.Path.{_≡_, refl, sym, ap, _∙_, subst}
+use mathlib.Core.Path.{refl}
 use Rattle.float.proofs.arithmetic.to_degrees.Statement.{statement}
 use Rattle.float.proofs.arithmetic.to_degrees.Tie as tie
 use Rattle.float.proofs.arithmetic.to_degrees.Reads as reads

@@ -2,17 +2,15 @@
 -- square leaves of them, and `bits` has the next 64. Assumes nothing.
 use mathlib.Core.Path.{_≡_, refl, sym, ap, _∙_, subst, subst₂}
 use mathlib.Core.Logic.{⊎-elim}
-use mathlib.Core.Bool.{Bool, true, false}
 use Prim.Native.Nat.{ℕ, zero, suc, _+_, _-_, _*_, _/_, _%_, _^_, _≤_, _<_}
-use native.Mathlib.Nat.{lt-of-lt-of-le, le-trans, mul-assoc, mul-mul-mul-comm, pow-suc}
+use native.Mathlib.Nat.{lt-of-lt-of-le, mul-assoc, mul-mul-mul-comm, pow-suc}
 use native.Mathlib.Numerals.{add-one}
 use native.Mathlib.Omega.{arith}
-use borrow.Author.Needs.{needs}
 use borrow.Author.Tests.{eq-eqb, ne-eqb}
-use lib.Dec.{eqb, lit<, lit≤}
+use lib.Dec.{eqb}
 use lib.Pow.{pow-mono}
 use Rattle.float.specs.Root.{isqrt}
-use Rattle.float.proofs.Isqrt.{sq-odd, sq-suc, sq-even, isqrt-is, Root}
+use Rattle.float.proofs.Isqrt.{sq-suc, isqrt-is}
 use Rattle.float.proofs.root.floor_root.Statement.{statement}
 use Rattle.float.proofs.root.floor_root.Tie as tie
 use Rattle.float.proofs.root.floor_root.Reads as reads

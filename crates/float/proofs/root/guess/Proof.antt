@@ -1,64 +1,58 @@
--- `float::guess` is safe and ends; its contract promises nothing. Assumes nothing.
-use Prim.Native.Nat.{ℕ, _/_, _^_, _≤_, _<_}
+-- `float::root::guess` meets its contract: of its float steps nothing is asked but that they read no NaN's bits. Assumes nothing.
 use native.Mathlib.Omega.{arith}
-use lib.Dec.{T}
-use lib.IntN.{pos}
-use lib.Ieee.{binary64, inFloat}
-use lib.Dec.{leb}
-use borrow.Author.Tests.{le-leb}
-use mathlib.Core.Path.{_≡_, sym, subst}
-use Rattle.float.proofs.Patterns.{not-nan, low-pattern}
+use Rattle.float.proofs.Patterns.{low-pattern, not-nan}
 use borrow.Author.Needs.{needs}
 use Rattle.float.proofs.root.guess.Statement.{statement}
 use Rattle.float.proofs.root.guess.Tie as tie
 use Rattle.float.proofs.root.guess.Reads as reads
 use Rattle.float.proofs.root.guess.Lts as lts
 
-in-float : (n : ℕ) → n ≤ 2 ^ 53 → T (inFloat binary64 (pos n))
-unfolding inFloat
-in-float n h = subst T (sym (le-leb n (2 ^ 53) h)) tt
+-- src/root.rt:143:14
+add-n : tie.Need-add-n
+add-n c = search needs
 
--- src/lib.rt:108:13
-int-to-float-f : tie.Need-int-to-float-f
-int-to-float-f c = in-float (c .before .args .m / 2) (omega arith)
+-- src/root.rt:143:13
+add-n-2 : tie.Need-add-n-2
+add-n-2 c = search needs
 
--- src/lib.rt:110:9
+-- src/root.rt:144:13
+float-from-bits-f : tie.Need-float-from-bits-f
+float-from-bits-f c = low-pattern _ (omega arith)
+
+-- src/root.rt:146:29
+sub-y0 : tie.Need-sub-y0
+sub-y0 c = search needs
+
+-- src/root.rt:146:14
+float-from-bits-y0 : tie.Need-float-from-bits-y0
+float-from-bits-y0 c = low-pattern _ (omega arith)
+
+-- src/root.rt:155:9
 returns : tie.Need-returns
 returns c = search needs
 
--- src/lib.rt:112:13
-float-to-bits-i : tie.Need-float-to-bits-i
-float-to-bits-i c = not-nan _ (c .if1 .left)
+-- src/root.rt:157:27
+float-to-bits-result : tie.Need-float-to-bits-result
+float-to-bits-result c = not-nan _ (c .if1 .left)
 
--- src/lib.rt:114:9
+-- src/root.rt:157:5
+add-result : tie.Need-add-result
+add-result c = search needs
+
+-- src/root.rt:138:1
 returns-2 : tie.Need-returns-2
 returns-2 c = search needs
-
--- src/lib.rt:116:13
-float-from-bits-y : tie.Need-float-from-bits-y
-float-from-bits-y c = low-pattern _ (omega arith)
-
--- src/lib.rt:123:9
-returns-3 : tie.Need-returns-3
-returns-3 c = search needs
-
--- src/lib.rt:125:5
-float-to-bits-result : tie.Need-float-to-bits-result
-float-to-bits-result c = not-nan _ (c .if3 .left)
-
--- src/lib.rt:105:1
-returns-4 : tie.Need-returns-4
-returns-4 c = search needs
 
 pub guess-spec : {M : Type 1} → statement M
 guess-spec =
     tie.close
     (tie.spec
-    int-to-float-f
+    add-n
+    add-n-2
+    float-from-bits-f
+    sub-y0
+    float-from-bits-y0
     returns
-    float-to-bits-i
-    returns-2
-    float-from-bits-y
-    returns-3
     float-to-bits-result
-    returns-4)
+    add-result
+    returns-2)

@@ -1,17 +1,15 @@
 -- `float::special` meets its contract. Assumes nothing.
-use mathlib.Core.Path.{_≡_, refl, sym, ap, _∙_, subst, subst₂}
-use mathlib.Core.Bool.{Bool, true, false, not, _&&_, _||_, Bool·beq, true≢false}
-use Prim.Native.Nat.{ℕ, zero, suc, _+_, _-_, _*_, _/_, _%_, _^_, _≤_, _<_}
-use native.Mathlib.Nat.{zero-mul, mul-one, mul-pos, zero-lt-suc}
+use mathlib.Core.Path.{_≡_, refl, sym, _∙_, subst, subst₂}
+use mathlib.Core.Bool.{Bool, true, false, _||_, Bool·beq, true≢false}
+use Prim.Native.Nat.{ℕ, zero, suc, _+_, _*_, _<_}
+use native.Mathlib.Nat.{zero-mul, mul-pos, zero-lt-suc}
 use native.Mathlib.Omega.{arith}
-use lib.Dec.{T, ltb, eqb, ltb→lt, eqb→eq}
-use lib.IntN.{ℤ, pos, negsuc}
-use lib.Ieee.{Float, nan, inf, fin, binary64, up, down, eq, lt, ne, div, ofBits, nanBits, below, level}
+use lib.Dec.{T, eqb, eqb→eq}
+use lib.Ieee.{Float, nan, inf, fin, binary64, up, down, eq, lt, ne, div, ofBits, nanBits, level}
 use lib.Ieee.Compare.{differs-from-itself}
 use lib.Ieee.Fits.{up-pos, and-l}
 use borrow.Author.Tests.{ltb-true, lt-ltb}
 use Rattle.float.specs.Root.{operandOf}
-use Rattle.float.specs.declared.root.Operand.{Operand}
 use Rattle.float.specs.declared.root.Operand.the-variants.{Answer, Positive}
 use Rattle.float.proofs.root.special.Statement.{statement}
 use Rattle.float.proofs.root.special.Tie as tie
