@@ -4,3 +4,4 @@ pub mod Written
 pub mod Known
 pub mod Simulation
 pub mod Theorem
+pub mod Split

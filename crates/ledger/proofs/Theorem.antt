@@ -36,7 +36,7 @@ module _ (s : Sweep) (a : Accepted s) where
           record { state = t; machine = λ i. record { journal = ledgerJournal s (p i); added = 0 }; ledger = p }
 
   -- where a list of entries leads from a start
-  reach : (l : Ledger) → Start s l → (es : List Entry) → Reached s a (run s es (machineAt s l)) (ledgerRun s (events s es (machineAt s l)) l)
+  pub reach : (l : Ledger) → Start s l → (es : List Entry) → Reached s a (run s es (machineAt s l)) (ledgerRun s (events s es (machineAt s l)) l)
   reach l h es =
       let t = start l h in
       let r = reach-from s a es (t .state) in
@@ -94,7 +94,7 @@ module _ (s : Sweep) (a : Accepted s) where
       }
 
   -- ---- from the empty journal
-  start-blank : Start s blank
+  pub start-blank : Start s blank
   unfolding isIn
   start-blank = record {
     exist = λ c e. absurd (false≢true e);

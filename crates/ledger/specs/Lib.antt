@@ -2,3 +2,4 @@
 pub mod Machine
 pub mod Ledger
 pub mod Demand3
+pub mod Split
