@@ -4,7 +4,7 @@ use mathlib.Core.Path.{_≡_, refl, sym, ap, ap₂, _∙_, subst}
 use mathlib.Core.Bool.{Bool, true, false, _||_, cond, false≢true, or-false, or-true, or-assoc}
 use mathlib.Core.Logic.{_↔_}
 use mathlib.Core.List.{List, [], _∷_, _++_, append-assoc, append-nil}
-use Prim.Native.Nat.{ℕ, zero, suc, _+_, _-_, _*_, _≤_, _<_}
+use Prim.Native.Nat.{ℕ, suc, _+_, _-_, _<_}
 use native.Mathlib.Nat.{add-zero}
 use native.Mathlib.Numerals.{add-one}
 use native.Mathlib.Omega.{arith}
@@ -12,7 +12,7 @@ use lib.ListN.{length, take, length-append}
 use lib.Seq.{take-at}
 use lib.Dec.{eqb}
 use borrow.Author.Tests.{eqb-true, eqb-false, eq-eqb, ne-eqb}
-use Rattle.buffers.specs.Ranges.{sum, allBelow}
+use Rattle.buffers.specs.Ranges.{sum}
 use Rattle.buffers.proofs.Ranges.{sum-ext, sum-plus, sum-same, sum-one, all-iff}
 use Rattle.buffers.proofs.Tests.{or-left, or-right, or-here}
 use Rattle.roll_sweep.specs.Sweep.{Sweep, cells, chunks}
@@ -76,12 +76,12 @@ unfolding isIn
 distinct-end [] c = (λ h. (tt, refl), λ h. (refl, tt))
 distinct-end (d ∷ L) c = (
   (λ h.
-    let e : isIn d L || eqb c d ≡ false = sym (in-end d L c) ∙ h .0 in
-    let r = (distinct-end L c) .0 (h .1) in
-    ((or-left (isIn d L) (eqb c d) e, r .0), ap₂ (λ (x y : Bool). x || y) (eqb-comm d c ∙ or-right (isIn d L) (eqb c d) e) (r .1))),
+      let e : isIn d L || eqb c d ≡ false = sym (in-end d L c) ∙ h .0 in
+      let r = (distinct-end L c) .0 (h .1) in
+      ((or-left (isIn d L) (eqb c d) e, r .0), ap₂ (λ (x y : Bool). x || y) (eqb-comm d c ∙ or-right (isIn d L) (eqb c d) e) (r .1))),
   (λ h.
-    let e : eqb c d ≡ false = eqb-comm c d ∙ or-left (eqb d c) (isIn c L) (h .1) in
-    (in-end d L c ∙ ap₂ (λ (x y : Bool). x || y) (h .0 .0) e, (distinct-end L c) .1 (h .0 .1, or-right (eqb d c) (isIn c L) (h .1)))),
+      let e : eqb c d ≡ false = eqb-comm c d ∙ or-left (eqb d c) (isIn c L) (h .1) in
+      (in-end d L c ∙ ap₂ (λ (x y : Bool). x || y) (h .0 .0) e, (distinct-end L c) .1 (h .0 .1, or-right (eqb d c) (isIn c L) (h .1)))),
 )
 
 module _ (s : Sweep) where

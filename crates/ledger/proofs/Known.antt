@@ -1,13 +1,13 @@
 -- What the calls find out about a journal that the ledger knows: each of their tests and readings, in the ledger's words. Assumes nothing.
 use mathlib.Core.Path.{_≡_, refl, sym, ap, ap₂, _∙_}
-use mathlib.Core.Bool.{Bool, true, false, cond, not, _||_, false≢true}
+use mathlib.Core.Bool.{Bool, true, false, cond, not, false≢true}
 use mathlib.Core.List.{List, [], _∷_, _++_, append-assoc}
 use Prim.Native.Nat.{ℕ, _+_, _*_, _/_, _%_, _<_}
 use native.Mathlib.Omega.{arith}
 use lib.ListN.{length, take, length-append}
-use lib.Dec.{ltb, leb, eqb, eqb·suc-zero}
+use lib.Dec.{leb, eqb, eqb·suc-zero}
 use borrow.Author.Tests.{lt-ltb, le-ltb, eq-eqb}
-use Rattle.buffers.specs.Ranges.{flag, tab, allBelow, anyBelow}
+use Rattle.buffers.specs.Ranges.{flag, tab}
 use Rattle.buffers.specs.Refusal.{first, carried}
 use Rattle.buffers.proofs.Ranges.{tab-ext, all-ext}
 use Rattle.roll_sweep.specs.Sweep.{Sweep, cells, marked, sweepMask, sweepProbes, chunks, chunkProbes}
@@ -15,10 +15,10 @@ use Rattle.roll_sweep.proofs.Chunks.{cell-bit, probes-chunks}
 use Rattle.journal.specs.Lines.{hasChunk, hasChunks, heldMask, heldProbes, bitOf}
 use Rattle.journal.specs.Right.{wholeLines, torn, right}
 use Rattle.journal.specs.Calls.{planFirst, wrong, beginShort, workShort, collectShort, beginRefusal, workRefusal, kept, recoverRefusal, collectRefusal, heldBit}
-use Rattle.ledger.specs.Ledger.{Event, begins, works, recovers, collects, Write, Ledger, linesOf, ended, ledgerJournal, isEmpty, isIn, areIn, unfinished, ledgerRefusal}
+use Rattle.ledger.specs.Ledger.{begins, works, collects, Write, Ledger, ended, ledgerJournal, isEmpty, isIn, areIn, unfinished, ledgerRefusal}
 use Rattle.ledger.specs.Demand3.{Accepted}
 use Rattle.ledger.proofs.Chunks.{Good, good-nil, in-all, sum-all}
-use Rattle.ledger.proofs.Written.{front, length-front, has-front, all-front, probes-front, mask-front, used-on, whole-on, torn-on, right-on, used-off, whole-off, torn-off, right-off}
+use Rattle.ledger.proofs.Written.{front, length-front, has-front, probes-front, mask-front, used-on, whole-on, torn-on, right-on, used-off, whole-off, torn-off, right-off}
 
 -- J is the ledger's, with any bytes x after it in its buffer
 pub record Known (s : Sweep) (l : Ledger) : Type 0 where

@@ -5,3 +5,4 @@ pub mod Known
 pub mod Simulation
 pub mod Theorem
 pub mod Split
+pub mod Journal

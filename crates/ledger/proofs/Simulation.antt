@@ -8,17 +8,17 @@ use lib.ListN.{length, take, drop, length-append, length-take}
 use lib.Seq.{take-at, take-all, take-append-add}
 use lib.Dec.{leb, ltb}
 use borrow.Author.Tests.{le-leb, ltb-true, ltb-false, leb-true, leb-false, not-false}
-use Rattle.buffers.specs.Refusal.{Reply, refused, accepted, reply, unlessRefused}
+use Rattle.buffers.specs.Refusal.{Reply, accepted, reply, unlessRefused}
 use Rattle.buffers.specs.Lent.{put, filled}
 use Rattle.buffers.proofs.Refusal.{first-clear}
 use Rattle.buffers.proofs.Lent.{take-filled}
 use Rattle.roll_sweep.specs.Sweep.{Sweep, cells, chunks, sweepMask, sweepProbes}
 use Rattle.journal.specs.Lines.{lineOf, heldProbes}
 use Rattle.journal.specs.Right.{wholeLines}
-use Rattle.journal.specs.Calls.{beginShort, workShort, collectShort, beginRefusal, beginReply, beginBytes, workRefusal, workReply, workBytes, kept, recoverRefusal, recoverReply, collectRefusal, collectReply, heldBit, collectMask}
+use Rattle.journal.specs.Calls.{beginShort, workShort, collectShort, beginRefusal, workRefusal, kept, recoverReply, collectRefusal, heldBit}
 use Rattle.ledger.specs.Machine.{Entry, begin, work, cut, recover, collect, Machine, usedAfter, leaveOf, journalAfter, step, Outcome, done, gathered, answering, answer, Seen, trace, run}
-use Rattle.ledger.specs.Ledger.{Event, begins, works, cuts, recovers, collects, Write, none, header, line, textOf, Ledger, linesOf, ended, ledgerJournal, isEmpty, isIn, areIn, unfinished, ledgerRefusal, ledgerOutcome, idle, takeBack, ledgerAccepts, ledgerStep, ledgerAnswer, ledgerTrace, ledgerRun}
-use Rattle.ledger.specs.Demand3.{Accepted, eventOf, events, Start, machineAt}
+use Rattle.ledger.specs.Ledger.{begins, works, cuts, collects, none, header, line, Ledger, linesOf, ended, ledgerJournal, isEmpty, isIn, areIn, unfinished, ledgerRefusal, idle, takeBack, ledgerAccepts, ledgerStep, ledgerAnswer, ledgerTrace, ledgerRun}
+use Rattle.ledger.specs.Demand3.{Accepted, eventOf, events}
 use Rattle.ledger.proofs.Chunks.{without-last, Good, good-nil, good-before, good-end, lines-end}
 use Rattle.ledger.proofs.Written.{front, length-line, length-front}
 use Rattle.ledger.proofs.Known.{Known, known-off, known-on, begin-same, work-same, recover-same, collect-same}
@@ -340,7 +340,7 @@ module _ (s : Sweep) (a : Accepted s) where
   module _ (t t' : State s) (k : ℕ) (p q : List ℕ) (n : ℕ) (j : ledgerJournal s (lg s t) ≡ p ++ q) (z : length q ≡ n) (d : addedOf s t ≡ n) (h : k < n) where
     cut-short : p ++ take k q ≡ ledgerJournal s (lg s t') → addedOf s t' ≡ 0 → ledgerAccepts s (cuts k) (lg s t) ≡ lg s t' → Next s t (cut k)
     unfolding journalAfter answer ledgerAnswer ledgerStep
-    cut-short j' d' e = 
+    cut-short j' d' e =
         let u : length (p ++ take k q) - length (ledgerJournal s (lg s t)) ≡ addedOf s t' = ap (λ (b : List ℕ). length (p ++ take k q) - length b) j ∙ omega (arith, length-append p q, length-append p (take k q), length-take k q) in
         record {
           next = t';

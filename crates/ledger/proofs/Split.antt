@@ -1,18 +1,18 @@
 -- A sweep that was split: the header followed by the lines of several runs of one plan, no chunk twice, is a state from which demand 3 holds.
 -- Assumes nothing.
 use mathlib.Core.Path.{_≡_, refl, sym, ap, ap₂, _∙_, subst}
-use mathlib.Core.Bool.{Bool, true, false, _||_, false≢true, or-false, or-assoc}
+use mathlib.Core.Bool.{Bool, true, false, _||_, false≢true, or-assoc}
 use mathlib.Core.List.{List, [], _∷_, _++_, append-assoc, append-nil}
-use Prim.Native.Nat.{ℕ, _+_, _<_}
+use Prim.Native.Nat.{ℕ, _<_}
 use native.Mathlib.Omega.{arith}
-use lib.ListN.{length, drop}
+use lib.ListN.{drop}
 use lib.Seq.{drop-at}
 use lib.Dec.{eqb}
 use Rattle.roll_sweep.specs.Sweep.{Sweep, cells, chunks}
 use Rattle.journal.specs.Lines.{lineOf}
-use Rattle.ledger.specs.Machine.{Entry, recover, step, run, powerUp}
-use Rattle.ledger.specs.Ledger.{Ledger, blank, linesOf, ended, ledgerJournal, isIn, ledgerRun}
-use Rattle.ledger.specs.Demand3.{Accepted, events, Exist, Distinct, Start, Demand3}
+use Rattle.ledger.specs.Machine.{Entry}
+use Rattle.ledger.specs.Ledger.{Ledger, blank, linesOf, ended, ledgerJournal, isIn}
+use Rattle.ledger.specs.Demand3.{Accepted, Exist, Distinct, Start, Demand3}
 use Rattle.ledger.specs.Split.{runChunks, runLines, splitChunks, splitLines, splitLedger}
 use Rattle.ledger.proofs.Chunks.{Good, good-nil}
 use Rattle.ledger.proofs.Simulation.{State, off, on, began, worked, lg}

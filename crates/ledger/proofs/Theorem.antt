@@ -1,24 +1,22 @@
 -- Demand 3 for the sweep of any accepted plan, but for the windows, and what follows from it: `demand3-from`, `demand3`; that recover is accepted, and
 -- when collect is; a sweep that was split. Assumes nothing.
 use mathlib.Core.Path.{_≡_, refl, sym, ap, ap₂, _∙_, subst}
-use mathlib.Core.Logic.{_↔_}
-use mathlib.Core.Bool.{Bool, true, false, not, cond, _||_, false≢true}
-use mathlib.Core.List.{List, [], _∷_, _++_, append-assoc, append-nil}
-use Prim.Native.Nat.{ℕ, zero, suc, _+_, _≤_, _<_}
+use mathlib.Core.Bool.{Bool, true, false, not, false≢true}
+use mathlib.Core.List.{List, [], _∷_}
+use Prim.Native.Nat.{ℕ, zero, suc, _≤_, _<_}
 use native.Mathlib.Omega.{arith}
-use lib.ListN.{length, getD, take, drop}
-use Rattle.buffers.specs.Ranges.{flag, sum, tab}
+use lib.ListN.{length, getD}
+use Rattle.buffers.specs.Ranges.{flag}
 use Rattle.buffers.specs.Refusal.{first, accepted, reply}
 use Rattle.buffers.proofs.Ranges.{length-tab, getD-tab}
 use Rattle.buffers.proofs.Tests.{flag-le, flag-one}
-use Rattle.roll_sweep.specs.Sweep.{Sweep, cells, tried, marked, cellProbes, sweepMask, sweepProbes, chunks}
+use Rattle.roll_sweep.specs.Sweep.{Sweep, cells, marked, sweepMask, sweepProbes, chunks}
 use Rattle.roll_sweep.proofs.Chunks.{marked-iff}
 use Rattle.journal.specs.Calls.{collectShort}
-use Rattle.ledger.specs.Machine.{Entry, recover, collect, Machine, step, Outcome, done, gathered, answer, trace, run, powerUp}
-use Rattle.ledger.specs.Ledger.{Write, none, Ledger, blank, ended, ledgerJournal, linesOf, isIn, areIn, unfinished, ledgerRefusal, ledgerAnswer, ledgerTrace, ledgerRun}
+use Rattle.ledger.specs.Machine.{Entry, recover, collect, Machine, step, done, gathered, answer, trace, run, powerUp}
+use Rattle.ledger.specs.Ledger.{Ledger, blank, ended, ledgerJournal, isIn, areIn, unfinished, ledgerRefusal, ledgerAnswer, ledgerTrace, ledgerRun}
 use Rattle.ledger.specs.Demand3.{Accepted, eventOf, events, Start, machineAt, Demand3}
-use Rattle.ledger.proofs.Chunks.{Good}
-use Rattle.ledger.proofs.Simulation.{State, off, on, began, worked, lg, mc, Reached, same-from, reach-from, recover-at, collect-at}
+use Rattle.ledger.proofs.Simulation.{State, off, on, lg, mc, Reached, same-from, reach-from, recover-at, collect-at}
 
 module _ (s : Sweep) (a : Accepted s) where
   -- a start is one of the states that the machine and the ledger go through

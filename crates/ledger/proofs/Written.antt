@@ -1,26 +1,25 @@
 -- What the journal's tests and readings say of a journal that begins with the header and the lines of a list L of chunks that exist, none twice:
 -- one line read back, all of L's lines, and a journal that ends in a remnant. Assumes nothing.
 use mathlib.Core.Path.{_≡_, refl, sym, ap, ap₂, _∙_}
-use mathlib.Core.Bool.{Bool, true, false, _&&_, _||_, cond, not, false≢true, or-false}
-use mathlib.Core.List.{List, [], _∷_, _++_, append-assoc, append-nil}
-use Prim.Native.Nat.{ℕ, zero, suc, _+_, _-_, _*_, _/_, _%_, _^_, _≤_, _<_, min}
+use mathlib.Core.Bool.{Bool, true, false, _||_, cond, not, false≢true, or-false}
+use mathlib.Core.List.{List, [], _∷_, _++_, append-assoc}
+use Prim.Native.Nat.{ℕ, suc, _+_, _-_, _*_, _%_, _^_, _<_, min}
 use native.Mathlib.Nat.{lt-of-lt-of-le, mul-le-mul}
 use native.Mathlib.Omega.{arith}
 use lib.Pow.{pow-mono}
 use lib.ListN.{length, getD, take, length-append, List·getD-append}
 use lib.Seq.{getD-at, getD-take, length-take-le}
-use lib.Dec.{leb, ltb, eqb, eqb·suc-zero}
+use lib.Dec.{ltb, eqb, eqb·suc-zero}
 use borrow.Author.Tests.{lt-ltb, le-ltb, le-leb, eq-eqb, eqb-true}
-use Rattle.buffers.specs.Ranges.{sum, allBelow, anyBelow}
-use Rattle.buffers.proofs.Ranges.{all-iff, all-ext}
+use Rattle.buffers.proofs.Ranges.{all-iff}
 use Rattle.buffers.proofs.Tests.{and-both}
-use Rattle.roll_sweep.specs.Sweep.{Sweep, cells, chunks, cellsIn, chunkMask, chunkProbes}
+use Rattle.roll_sweep.specs.Sweep.{Sweep, cells, chunks, chunkMask, chunkProbes}
 use Rattle.roll_sweep.proofs.Chunks.{cells-le, mask-lt, probes-low, probes-high}
 use Rattle.journal.specs.Hex.{hexText, areDigits, hexValue}
-use Rattle.journal.specs.Lines.{lineText, lineOf, lineStart, chunkAt, maskAt, probesAt, hasChunk, hasChunks, heldMask, heldProbes}
+use Rattle.journal.specs.Lines.{lineText, lineOf, lineStart, chunkAt, maskAt, probesAt, hasChunk, heldMask, heldProbes}
 use Rattle.journal.specs.Right.{wholeLines, torn, agree, possible, lineFits, lineRight, linesRight, right}
-use Rattle.journal.proofs.Text.{length-hex, value-hex, digits-hex, digits-add}
-use Rattle.ledger.specs.Ledger.{linesOf, isEmpty, isIn, areIn}
+use Rattle.journal.proofs.Text.{value-hex, digits-hex, digits-add}
+use Rattle.ledger.specs.Ledger.{linesOf, isEmpty, isIn}
 use Rattle.ledger.specs.Demand3.{Accepted}
 use Rattle.ledger.proofs.Chunks.{from-end, length-end, lines-end, in-end, Good, good-before, good-last, good-new, sumOver, over-nil, over-end}
 
@@ -46,7 +45,7 @@ module _ (s : Sweep) where
 
 pub length-line : (s : Sweep) (c : ℕ) → length (lineOf s c) ≡ 33
 unfolding lineOf
-length-line s c = simp (length-append, length-hex) refl
+length-line s c = simp length-append refl
 
 -- line l of b is chunk c's
 record LineAt (s : Sweep) (b : List ℕ) (l c : ℕ) : Type 0 where
@@ -73,9 +72,9 @@ read-line s a c l p q h n =
     let e₂ : b ≡ (p ++ x) ++ (y ++ (z ++ (10 ∷ q))) = simp append-assoc in
     let e₃ : b ≡ (p ++ x ++ y) ++ (z ++ (10 ∷ q)) = simp append-assoc in
     let e₄ : b ≡ (p ++ x ++ y ++ z) ++ (10 ∷ q) = simp append-assoc in
-    let n₂ : length (p ++ x) ≡ lineStart l + 8 = simp (length-append, length-hex) (omega arith) in
-    let n₃ : length (p ++ x ++ y) ≡ lineStart l + 24 = simp (length-append, length-hex) (omega arith) in
-    let n₄ : length (p ++ x ++ y ++ z) ≡ lineStart l + 32 = simp (length-append, length-hex) (omega arith) in
+    let n₂ : length (p ++ x) ≡ lineStart l + 8 = simp length-append (omega arith) in
+    let n₃ : length (p ++ x ++ y) ≡ lineStart l + 24 = simp length-append (omega arith) in
+    let n₄ : length (p ++ x ++ y ++ z) ≡ lineStart l + 32 = simp length-append (omega arith) in
     record {
       chunk = value-at 8 c (lineStart l) b p (y ++ (z ++ (10 ∷ q))) e₁ n (chunk-fits s a c h);
       mask = value-at 16 (chunkMask s c) (lineStart l + 8) b (p ++ x) (z ++ (10 ∷ q)) e₂ n₂ (mask-fits s c);
@@ -121,13 +120,9 @@ module _ (s : Sweep) (a : Accepted s) where
       from-end (λ L. (q : List ℕ) → Good s L → (d : ℕ) → hasChunk (front s L ++ q) (length L) d ≡ isIn d L)
       (λ q g d. refl)
       (λ L c ih q g d.
-        split L c q g (λ b l. hasChunk b l d)
-        ∙ ap₂ (λ (x : Bool) (y : ℕ). x || eqb y d) (ih (lineOf s c ++ q) (good-before s L c g) d) ((last-line L c q g) .chunk)
-        ∙ sym (in-end d L c))
-
-  pub all-front : (L q : List ℕ) → Good s L → (m : ℕ) → hasChunks (front s L ++ q) (length L) m ≡ areIn m L
-  unfolding hasChunks areIn
-  all-front L q g m = all-ext m _ (λ c. isIn c L) (λ c l. has-front L q g c)
+      split L c q g (λ b l. hasChunk b l d)
+      ∙ ap₂ (λ (x : Bool) (y : ℕ). x || eqb y d) (ih (lineOf s c ++ q) (good-before s L c g) d) ((last-line L c q g) .chunk)
+      ∙ sym (in-end d L c))
 
   pub probes-front : (L q : List ℕ) → Good s L → heldProbes (front s L ++ q) (length L) ≡ sumOver (chunkProbes s) L
   unfolding heldProbes
@@ -135,9 +130,9 @@ module _ (s : Sweep) (a : Accepted s) where
       from-end (λ L. (q : List ℕ) → Good s L → heldProbes (front s L ++ q) (length L) ≡ sumOver (chunkProbes s) L)
       (λ q g. sym (over-nil (chunkProbes s)))
       (λ L c ih q g.
-        split L c q g heldProbes
-        ∙ ap₂ (λ (x y : ℕ). x + y) (ih (lineOf s c ++ q) (good-before s L c g)) ((last-line L c q g) .probes)
-        ∙ sym (over-end (chunkProbes s) L c))
+      split L c q g heldProbes
+      ∙ ap₂ (λ (x y : ℕ). x + y) (ih (lineOf s c ++ q) (good-before s L c g)) ((last-line L c q g) .probes)
+      ∙ sym (over-end (chunkProbes s) L c))
 
   pub mask-front : (d : ℕ) (L q : List ℕ) → Good s L → isIn d L ≡ true → heldMask (front s L ++ q) (length L) d ≡ chunkMask s d
   unfolding heldMask isIn
@@ -145,10 +140,10 @@ module _ (s : Sweep) (a : Accepted s) where
       from-end (λ L. (q : List ℕ) → Good s L → isIn d L ≡ true → heldMask (front s L ++ q) (length L) d ≡ chunkMask s d)
       (λ q g h. absurd (false≢true h))
       (λ L c ih q g h.
-        let n = last-line L c q g in
-        split L c q g (λ b l. heldMask b l d)
-        ∙ ap₂ (λ (x y : ℕ). cond (eqb x d) y (heldMask (front s L ++ (lineOf s c ++ q)) (length L) d)) (n .chunk) (n .mask)
-        ∙ pick L c q (eqb c d) refl (sym (in-end d L c) ∙ h) (ih (lineOf s c ++ q) (good-before s L c g)))
+      let n = last-line L c q g in
+      split L c q g (λ b l. heldMask b l d)
+      ∙ ap₂ (λ (x y : ℕ). cond (eqb x d) y (heldMask (front s L ++ (lineOf s c ++ q)) (length L) d)) (n .chunk) (n .mask)
+      ∙ pick L c q (eqb c d) refl (sym (in-end d L c) ∙ h) (ih (lineOf s c ++ q) (good-before s L c g)))
     where
       pick : (L : List ℕ) (c : ℕ) (q : List ℕ) (t : Bool) → eqb c d ≡ t → isIn d L || t ≡ true
           → (isIn d L ≡ true → heldMask (front s L ++ (lineOf s c ++ q)) (length L) d ≡ chunkMask s d)
@@ -174,8 +169,8 @@ module _ (s : Sweep) (a : Accepted s) where
       from-end (λ L. (q : List ℕ) → Good s L → linesRight (cells s) (s .samples) (front s L ++ q) (length L) ≡ true)
       (λ q g. refl)
       (λ L c ih q g.
-        split L c q g (linesRight (cells s) (s .samples))
-        ∙ and-both _ _ (ih (lineOf s c ++ q) (good-before s L c g)) (line-right L c q g))
+      split L c q g (linesRight (cells s) (s .samples))
+      ∙ and-both _ _ (ih (lineOf s c ++ q) (good-before s L c g)) (line-right L c q g))
 
 -- ---- a journal is right: the header, lines and less than a line more; or a beginning of the header. `q` is what lies beyond it
 

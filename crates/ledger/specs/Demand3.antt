@@ -1,7 +1,7 @@
 -- Demand 3 for the sweep of one plan, but for its windows. Each clause stands under the customer's words. Definitions only. Assumes nothing.
 use mathlib.Core.Path.{_≡_}
 use mathlib.Core.Logic.{_↔_}
-use mathlib.Core.Bool.{Bool, true, false}
+use mathlib.Core.Bool.{true, false}
 use mathlib.Core.List.{List, [], _∷_, _++_}
 use Prim.Native.Nat.{ℕ, _≤_, _<_}
 use lib.ListN.{length, getD, take}
@@ -9,7 +9,7 @@ use Rattle.buffers.specs.Ranges.{sum}
 use Rattle.buffers.specs.Refusal.{accepted}
 use Rattle.roll_sweep.specs.Sweep.{Sweep, cells, chunks, tried}
 use Rattle.ledger.specs.Machine.{Entry, begin, work, cut, recover, collect, Machine, step, done, gathered, answer, trace, run}
-use Rattle.ledger.specs.Ledger.{Event, begins, works, cuts, recovers, collects, none, Ledger, linesOf, ended, ledgerJournal, isIn, ledgerTrace, ledgerRun}
+use Rattle.ledger.specs.Ledger.{Event, begins, works, cuts, recovers, collects, none, Ledger, ended, ledgerJournal, isIn, ledgerTrace, ledgerRun}
 
 -- "Take one accepted plan of 1 to 3,600 rolls": its refusals pass where the used length lies in its buffer. The bound on cells is refusal 2's.
 pub record Accepted (s : Sweep) : Type 0 where

@@ -9,7 +9,7 @@ use native.Mathlib.Omega.{arith}
 use lib.Count.{ones}
 use lib.Dec.{leb}
 use borrow.Author.Tests.{leb-true, leb-false}
-use Rattle.buffers.specs.Ranges.{flag, sum, allBelow}
+use Rattle.buffers.specs.Ranges.{flag, sum}
 use Rattle.buffers.proofs.Ranges.{sum-add, all-iff}
 use Rattle.roll_sweep.specs.Sweep.{Sweep, cells, marked, cellProbes, sweepProbes, chunks, cellsIn, chunkMask, chunkProbes}
 use Rattle.roll_sweep.proofs.Words.{word-lt, bit-at, ones-word}
