@@ -1,2 +1,3 @@
 -- Laws of the journal's text.
 pub mod Text
+pub mod Write

@@ -3,3 +3,4 @@ pub mod Hex
 pub mod Lines
 pub mod Right
 pub mod Calls
+pub mod Pass

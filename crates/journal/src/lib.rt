@@ -1,1 +1,4 @@
-// The sweep's journal.
+// The journal of a sweep: section 4's frames, when a journal is right, and begin, work, recover and collect.
+mod hex;
+mod line;
+mod pass;

@@ -1,0 +1,44 @@
+-- What the pass over a journal reads, answers and leaves in its tables, for the contracts of its functions. When a journal is right is said in
+-- `Right`. Definitions only. Assumes nothing.
+use mathlib.Core.Path.{_≡_}
+use mathlib.Core.Bool.{Bool, true, false, _&&_}
+use mathlib.Core.List.{List}
+use Prim.Native.Nat.{ℕ, _+_, _<_}
+use lib.Dec.{ltb, eqb}
+use lib.ListN.{length, getD}
+use Rattle.buffers.specs.Ranges.{flag}
+use Rattle.roll_sweep.specs.Sweep.{chunks}
+use Rattle.journal.specs.Hex.{areDigits}
+use Rattle.journal.specs.Lines.{lineStart, chunkAt, maskAt, probesAt, hasChunk, heldMask}
+use Rattle.journal.specs.Right.{possible}
+use Rattle.journal.specs.declared.line.Line.{Line}
+use Rattle.journal.specs.declared.pass.Checked.{Checked}
+use Rattle.journal.specs.declared.pass.Checked.the-variants.{Right, Wrong}
+
+-- line l of b, as it is read
+unfoldable pub lineAt : List ℕ → ℕ → Line
+unfolding areDigits lineStart chunkAt maskAt probesAt
+lineAt b l =
+    record {
+      framed = areDigits b (lineStart l) 32 && eqb (getD b (lineStart l + 32) 0) 10;
+      chunk = chunkAt b l;
+      mask = maskAt b l;
+      probes = probesAt b l;
+    }
+
+-- a line that was read fits: `lineFits` of the line
+unfoldable pub fits : ℕ → ℕ → Line → Bool
+unfolding chunks possible
+fits n k l = l .framed && ltb (l .chunk) (chunks n) && possible n k (l .chunk) (l .mask) (l .probes)
+
+-- the answer: the sum of probes of a journal that is right
+unfoldable pub checkedOf : Bool → ℕ → Checked
+checkedOf true p = Right p
+checkedOf false p = Wrong
+
+-- the tables after l lines, for each chunk: 1 if one of them is its, and the mask that they hold for it
+pub record Tables (b : List ℕ) (l : ℕ) (seen masks : List ℕ) : Type 0 where
+  pub flags : length seen ≡ 16384
+  pub words : length masks ≡ 16384
+  pub chunk : (c : ℕ) → c < 16384 → getD seen c 0 ≡ flag (hasChunk b l c)
+  pub mask : (c : ℕ) → c < 16384 → getD masks c 0 ≡ heldMask b l c
