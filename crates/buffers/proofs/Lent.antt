@@ -5,8 +5,8 @@ use Prim.Native.Nat.{ℕ, zero, suc, _+_, _-_, _<_, _≤_}
 use native.Mathlib.Nat.{add-zero, zero-add}
 use native.Mathlib.Omega.{arith}
 use native.Mathlib.Numerals.{add-one}
-use lib.ListN.{length, getD, take, drop, set, length-append, length-drop, take-append-drop, List·getD-append}
-use lib.Seq.{drop-cons, set-at, drop-append-add, drop-drop, take-at, length-take-le, getD-append-add, getD-take, getD-drop, take-add}
+use lib.ListN.{length, getD, take, drop, set, length-append, length-drop, take-append-drop, drop-of-length-le, List·getD-append}
+use lib.Seq.{drop-cons, set-at, drop-append-add, drop-drop, take-at, length-take-le, getD-append-add, getD-take, getD-drop, take-add, take-all}
 use Rattle.buffers.specs.Ranges.{tab}
 use Rattle.buffers.specs.Lent.{over, filled, put}
 use Rattle.buffers.proofs.Ranges.{length-tab, getD-tab, tab-next}
@@ -183,3 +183,19 @@ module _ {A : Type 0} where
       ∙ set-at t (getD l (length t) v) (drop (suc (length t)) l) v k (sym e)
       ∙ sym (append-assoc t (v ∷ []) (drop (suc (length t)) l))
       ∙ ap (λ (j : ℕ). (t ++ (v ∷ [])) ++ drop j l) (sym n)
+
+  -- a text over the first places, and a text directly after it
+  pub over-put : (j : ℕ) (s t l : List A) → j ≡ length s → j + length t ≤ length l → put j t (over s l) ≡ over (s ++ t) l
+  over-put j s t l e h =
+      ap (put j t) (sym (put-first s l))
+      ∙ put-put 0 j s t l (e ∙ sym (zero-add (length s))) (omega arith)
+      ∙ put-first (s ++ t) l
+
+  -- the part from place i to the end, lent, and back with t over its first places
+  pub over-part : (i : ℕ) (t l part : List A) → part ≡ over t (take (length l - i) (drop i l))
+      → take i l ++ (part ++ drop (length l - i) (drop i l)) ≡ put i t l
+  over-part i t l part e =
+      let n : length (drop i l) ≤ length l - i = omega (arith, length-drop i l) in
+      ap₂ (λ (x y : List A). take i l ++ (x ++ y)) (e ∙ ap (over t) (take-all (length l - i) (drop i l) n)) (drop-of-length-le (drop i l) n)
+      ∙ ap (λ (m : List A). take i l ++ m) (append-nil (over t (drop i l)))
+      ∙ put-tail i t l

@@ -1,3 +1,5 @@
--- Laws of the journal's text.
+-- Laws of the journal's text, of its lines, and of the pass over them.
 pub mod Text
 pub mod Write
+pub mod Possible
+pub mod Scan

@@ -6,8 +6,10 @@ use native.Mathlib.Nat.{add-suc}
 use native.Mathlib.Omega.{arith}
 use lib.ListN.{length, getD, take, drop, set, length-append, length-drop, length-set, take-append-drop}
 use lib.Seq.{drop-cons, set-append-left, take-at, getD-at, getD-take, take-take, take-length, drop-length, take-suc-set, take-set-lt, length-take-le, append-snoc}
-use Rattle.buffers.specs.Lent.{put}
+use Rattle.buffers.specs.Lent.{over, put}
+use Rattle.buffers.proofs.Lent.{put-first, over-put, over-next, length-over}
 use Rattle.journal.specs.Hex.{hexDigit, hexText}
+use Rattle.journal.specs.Lines.{lineText}
 use Rattle.journal.proofs.Text.{length-hex}
 
 -- ---- a text put from its end
@@ -90,3 +92,27 @@ module _ (o : List ℕ) (at w x : ℕ) (h : at + w ≤ length o) where
 
   pub written-all : (j v : ℕ) (out : List ℕ) → j ≡ 0 → Written o at w x j v out → out ≡ put at (hexText w x) o
   written-all j v out e p = p .1 ∙ ap (putFrom o at (hexText w x)) e ∙ from-start o at (hexText w x) fits
+
+-- ---- a line, field by field
+
+pub line-written : (o o₁ o₂ o₃ : List ℕ) (c m p : ℕ) → 33 ≤ length o
+    → o₁ ≡ put 0 (hexText 8 c) o → o₂ ≡ put 8 (hexText 16 m) o₁ → o₃ ≡ put 24 (hexText 8 p) o₂
+    → (set o₃ 32 10 ≡ over (lineText c m p) o) × (length (set o₃ 32 10) ≡ length o)
+unfolding lineText
+line-written o o₁ o₂ o₃ c m p h e₁ e₂ e₃ =
+    let x : List ℕ = hexText 8 c in
+    let y : List ℕ = hexText 16 m in
+    let z : List ℕ = hexText 8 p in
+    let nx : length x ≡ 8 = length-hex 8 c in
+    let ny : length y ≡ 16 = length-hex 16 m in
+    let nz : length z ≡ 8 = length-hex 8 p in
+    let nxy : length (x ++ y) ≡ 24 = length-append x y ∙ omega arith in
+    let nxyz : length (x ++ y ++ z) ≡ 32 = length-append (x ++ y) z ∙ omega arith in
+    let f₁ : o₁ ≡ over x o = e₁ ∙ put-first x o in
+    let f₂ : o₂ ≡ over (x ++ y) o = e₂ ∙ ap (put 8 y) f₁ ∙ over-put 8 x y o (sym nx) (omega arith) in
+    let f₃ : o₃ ≡ over (x ++ y ++ z) o = e₃ ∙ ap (put 24 z) f₂ ∙ over-put 24 (x ++ y) z o (sym nxy) (omega arith) in
+    let n : length o₃ ≡ length o = ap length f₃ ∙ length-over (x ++ y ++ z) o (omega arith) in
+    let s : x ++ y ++ z ++ (10 ∷ []) ≡ lineText c m p = simp append-assoc in (
+      ap (λ (l : List ℕ). set l 32 10) f₃ ∙ over-next (x ++ y ++ z) o 32 10 (sym nxyz) (omega arith) ∙ ap (λ (t : List ℕ). over t o) s,
+      length-set o₃ 32 10 ∙ n,
+    )

@@ -1,3 +1,5 @@
+use Rattle.buffers.proofs.Lent.{over-part}
+use Rattle.journal.specs.Lines.{lineText}
 use borrow.Author.Needs.{needs}
 use Rattle.journal.proofs.line.append_line.Statement.{statement}
 use Rattle.journal.proofs.line.append_line.Tie as tie
@@ -27,7 +29,9 @@ same-length c = search needs
 
 -- src/line.rt:32:1
 returns : tie.Need-returns
-returns c = ?
+returns c =
+    let a = c .before .before .before .before .before .args in
+    over-part (a .used) (lineText (a .chunk) (a .mask) (a .probes)) (a .journal .now) (c .before .before .write-line .last .0) (c .before .before .write-line .ensures)
 
 pub append-line-spec : {M : Type 1} → statement M
 append-line-spec =

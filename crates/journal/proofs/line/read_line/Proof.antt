@@ -1,3 +1,9 @@
+use Rattle.journal.specs.Lines.{lineStart, chunkAt, maskAt, probesAt}
+use Rattle.journal.specs.Pass.{lineAt}
+use Prim.Native.Nat.{_+_, _*_}
+use lib.Dec.{eqb}
+use lib.ListN.{getD}
+use mathlib.Core.Bool.{_&&_}
 use borrow.Author.Needs.{needs}
 use Rattle.journal.proofs.line.read_line.Statement.{statement}
 use Rattle.journal.proofs.line.read_line.Tie as tie
@@ -48,7 +54,16 @@ hex-value-requires-3 c κs = search needs
 
 -- src/line.rt:40:1
 returns : tie.Need-returns
-returns c = ?
+unfolding lineAt lineStart chunkAt maskAt probesAt
+returns c =
+    let a = c .before .before .before .before .before .before .args in
+    λ i.
+    record {
+      framed = (c .before .before .before .before .are-digits .ensures i) && eqb (getD (a .journal .now) (107 + 33 * a .l + 32) 0) 10;
+      chunk = c .before .before .hex-value .ensures i;
+      mask = c .before .hex-value2 .ensures i;
+      probes = c .hex-value3 .ensures i;
+    }
 
 pub read-line-spec : {M : Type 1} → statement M
 read-line-spec =

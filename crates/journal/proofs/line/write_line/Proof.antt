@@ -1,3 +1,4 @@
+use Rattle.journal.proofs.Write.{line-written}
 use borrow.Author.Needs.{needs}
 use Rattle.journal.proofs.line.write_line.Statement.{statement}
 use Rattle.journal.proofs.line.write_line.Tie as tie
@@ -23,11 +24,21 @@ slice-write-tail c = search needs
 
 -- src/line.rt:21:1
 same-length : tie.Need-same-length
-same-length c = ?
+same-length c =
+    let s = c .before .before .before .before .before .before .before .before .before .before .before .before .before in
+    (line-written (s .args .tail .now) _ _ _ (s .args .chunk) (s .args .mask) (s .args .probes) (s .pre)
+    (c .before .before .before .before .before .before .before .before .before .before .write-hex .ensures)
+    (c .before .before .before .before .before .before .write-hex2 .ensures)
+    (c .before .before .write-hex3 .ensures)) .1
 
 -- src/line.rt:21:1
 returns : tie.Need-returns
-returns c = ?
+returns c =
+    let s = c .before .before .before .before .before .before .before .before .before .before .before .before .before in
+    (line-written (s .args .tail .now) _ _ _ (s .args .chunk) (s .args .mask) (s .args .probes) (s .pre)
+    (c .before .before .before .before .before .before .before .before .before .before .write-hex .ensures)
+    (c .before .before .before .before .before .before .write-hex2 .ensures)
+    (c .before .before .write-hex3 .ensures)) .0
 
 pub write-line-spec : {M : Type 1} → statement M
 write-line-spec =

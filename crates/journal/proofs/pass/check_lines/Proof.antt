@@ -1,3 +1,15 @@
+use Rattle.journal.proofs.Scan.{fits-read, fits-exists, chunks-le, lines-zero, lines-next, lines-unfit, lines-repeat, lines-few, probes-zero, probes-next, probes-lt, probes-fit, tables-zero, tables-next, unseen, has-line, is-wrong, is-right, blank-length}
+use Rattle.journal.specs.Lines.{chunkAt, maskAt, probesAt, hasChunk, heldProbes}
+use Rattle.journal.specs.Right.{lineFits, linesRight}
+use Rattle.journal.specs.Pass.{lineAt, fits, Tables}
+use Rattle.journal.specs.declared.line.Line.{Line}
+use borrow.Author.Tests.{not-true, not-false}
+use borrow.Author.Needs.{needs}
+use lib.ListN.{length, getD, set, length-set}
+use Prim.Native.Nat.{ℕ, _+_, _-_, _*_, _≤_, _<_}
+use native.Mathlib.Omega.{arith}
+use mathlib.Core.Bool.{true, false}
+use mathlib.Core.Path.{_≡_, refl, sym, ap, _∙_, subst}
 use Rattle.journal.proofs.pass.check_lines.Statement.{statement}
 use Rattle.journal.proofs.pass.check_lines.Tie as tie
 use Rattle.journal.proofs.pass.check_lines.Reads as reads
@@ -6,90 +18,192 @@ use Rattle.journal.proofs.line.read_line.Reads as read-line-reads
 use Rattle.journal.proofs.pass.line_fits.Reads as line-fits-reads
 
 abbrev Inv-loop : tie.InvT-loop
-Inv-loop journal lines cells n seen₀ masks₀ probes₀ l₀ seen masks probes l = ?
+Inv-loop journal lines cells n seen₀ masks₀ probes₀ l₀ seen masks probes l = (l ≤ lines) × (linesRight cells n journal l ≡ true) × (probes ≡ heldProbes journal l) × Tables journal l seen masks
 
 abbrev μ-loop : tie.MeasureT-loop
-μ-loop journal lines cells n seen₀ masks₀ probes₀ l₀ seen masks probes l = ?
+μ-loop journal lines cells n seen₀ masks₀ probes₀ l₀ seen masks probes l = lines - l
 
 -- src/pass.rt:80:5
 loop-holds : tie.Need-loop-holds Inv-loop μ-loop
-loop-holds c = ?
+loop-holds c =
+    let s = c .before .before .before in
+    (omega arith, lines-zero _ _ _, sym (probes-zero (s .args .journal .now)), tables-zero (s .args .journal .now) _ _ (s .pre .3) (s .pre .4))
 
 -- src/pass.rt:81:13
 read-line-requires : tie.Need-read-line-requires Inv-loop μ-loop
-read-line-requires c κs = ?
+read-line-requires c κs = omega arith
 
 -- src/pass.rt:82:13
 line-fits-requires : tie.Need-line-fits-requires Inv-loop μ-loop
-line-fits-requires c κs = ?
+line-fits-requires c κs = (c .before .before .before .before .before .before .pre .1, c .before .before .before .before .before .before .pre .2)
 
 -- src/pass.rt:83:13
 same-length : tie.Need-same-length Inv-loop μ-loop
-same-length c = ?
+same-length c =
+    let s = c .before .before .before .before .before .before .before .before in
+    let p = c .before .before .before .before .loop in
+    blank-length (p .seen) (s .args .seen .now) (p .inv .3 .flags) (s .pre .3)
 
 -- src/pass.rt:83:13
 same-length-2 : tie.Need-same-length-2 Inv-loop μ-loop
-same-length-2 c = ?
+same-length-2 c =
+    let s = c .before .before .before .before .before .before .before .before in
+    let p = c .before .before .before .before .loop in
+    blank-length (p .masks) (s .args .masks .now) (p .inv .3 .words) (s .pre .4)
 
 -- src/pass.rt:83:13
 returns : tie.Need-returns Inv-loop μ-loop
-returns c = ?
+returns c =
+    let a = c .before .before .before .before .before .before .before .before .args in
+    let p = c .before .before .before .before .loop in
+    let u : lineFits (a .cells) (a .n) (a .journal .now) (p .l) ≡ false =
+    sym (fits-read (a .cells) (a .n) (a .journal .now) (p .l))
+    ∙ ap (fits (a .cells) (a .n)) (sym (c .before .before .read-line .ensures))
+    ∙ sym (c .before .line-fits .ensures)
+    ∙ not-true (c .before .line-fits .result) (c .if1 .taken) in
+    is-wrong _ _ _ (lines-unfit (a .cells) (a .n) (a .journal .now) (p .l) (a .lines) (omega arith) u)
+
+-- the line fits, so its chunk is one of 16384
+fitting : (c : tie.After-slice-known3 Inv-loop μ-loop) →
+    lineFits (c .before .before .before .before .before .before .before .before .before .args .cells) (c .before .before .before .before .before .before .before .before .before .args .n) (c .before .before .before .before .before .before .before .before .before .args .journal .now) (c .before .before .before .before .before .loop .l) ≡ true
+fitting c =
+    let a = c .before .before .before .before .before .before .before .before .before .args in
+    let p = c .before .before .before .before .before .loop in
+    sym (fits-read (a .cells) (a .n) (a .journal .now) (p .l))
+    ∙ ap (fits (a .cells) (a .n)) (sym (c .before .before .before .read-line .ensures))
+    ∙ sym (c .before .before .line-fits .ensures)
+    ∙ not-false (c .before .before .line-fits .result) (c .before .if1 .left)
+
+chunk-read : (c : tie.After-slice-known3 Inv-loop μ-loop) →
+    c .before .before .before .read-line .result .chunk ≡ chunkAt (c .before .before .before .before .before .before .before .before .before .args .journal .now) (c .before .before .before .before .before .loop .l)
+unfolding lineAt
+chunk-read c = ap (λ (x : Line). x .chunk) (c .before .before .before .read-line .ensures)
+
+mask-read : (c : tie.After-slice-known3 Inv-loop μ-loop) →
+    c .before .before .before .read-line .result .mask ≡ maskAt (c .before .before .before .before .before .before .before .before .before .args .journal .now) (c .before .before .before .before .before .loop .l)
+unfolding lineAt
+mask-read c = ap (λ (x : Line). x .mask) (c .before .before .before .read-line .ensures)
+
+probes-read : (c : tie.After-slice-known3 Inv-loop μ-loop) →
+    c .before .before .before .read-line .result .probes ≡ probesAt (c .before .before .before .before .before .before .before .before .before .args .journal .now) (c .before .before .before .before .before .loop .l)
+unfolding lineAt
+probes-read c = ap (λ (x : Line). x .probes) (c .before .before .before .read-line .ensures)
+
+within : (c : tie.After-slice-known3 Inv-loop μ-loop) → c .before .before .before .read-line .result .chunk < 16384
+within c =
+    let s = c .before .before .before .before .before .before .before .before .before in
+    let a = s .args in
+    let p = c .before .before .before .before .before .loop in
+    omega (arith, chunk-read c, fits-exists (a .cells) (a .n) (a .journal .now) (p .l) (fitting c), chunks-le (a .cells) (s .pre .1))
 
 -- src/pass.rt:86:12
 slice-read-if2 : tie.Need-slice-read-if2 Inv-loop μ-loop
-slice-read-if2 c = ?
+slice-read-if2 c = omega (arith, within c, c .before .before .before .before .before .loop .inv .3 .flags)
 
 -- src/pass.rt:87:13
 same-length-3 : tie.Need-same-length-3 Inv-loop μ-loop
-same-length-3 c = ?
+same-length-3 c =
+    let s = c .before .before .before .before .before .before .before .before .before .before in
+    let p = c .before .before .before .before .before .before .loop in
+    blank-length (p .seen) (s .args .seen .now) (p .inv .3 .flags) (s .pre .3)
 
 -- src/pass.rt:87:13
 same-length-4 : tie.Need-same-length-4 Inv-loop μ-loop
-same-length-4 c = ?
+same-length-4 c =
+    let s = c .before .before .before .before .before .before .before .before .before .before in
+    let p = c .before .before .before .before .before .before .loop in
+    blank-length (p .masks) (s .args .masks .now) (p .inv .3 .words) (s .pre .4)
 
 -- src/pass.rt:87:13
 returns-2 : tie.Need-returns-2 Inv-loop μ-loop
-returns-2 c = ?
+returns-2 c =
+    let k = c .before in
+    let a = k .before .before .before .before .before .before .before .before .before .args in
+    let p = k .before .before .before .before .before .loop in
+    let b = a .journal .now in
+    let r : hasChunk b (p .l) (chunkAt b (p .l)) ≡ true =
+    ap (hasChunk b (p .l)) (sym (chunk-read k)) ∙ has-line b (p .seen) (p .masks) (p .l) (k .before .before .before .read-line .result .chunk) (p .inv .3) (within k) (c .if2 .taken) in
+    is-wrong _ _ _ (lines-repeat (a .cells) (a .n) b (p .l) (a .lines) (omega arith) (fitting k) r)
 
 -- src/pass.rt:89:9
 slice-write-seen : tie.Need-slice-write-seen Inv-loop μ-loop
-slice-write-seen c = ?
+slice-write-seen c = slice-read-if2 (c .before)
 
 -- src/pass.rt:90:9
 mul-masks : tie.Need-mul-masks Inv-loop μ-loop
-mul-masks c = ?
+mul-masks c = omega (arith, within (c .before))
 
 -- src/pass.rt:90:9
 slice-write-masks : tie.Need-slice-write-masks Inv-loop μ-loop
-slice-write-masks c = ?
+slice-write-masks c = omega (arith, within (c .before), c .before .before .before .before .before .before .loop .inv .3 .words)
 
 -- src/pass.rt:91:9
 add-probes : tie.Need-add-probes Inv-loop μ-loop
-add-probes c = ?
+add-probes c =
+    let k = c .before .before in
+    let s = k .before .before .before .before .before .before .before .before .before in
+    let a = s .args in
+    let p = k .before .before .before .before .before .loop in
+    let b = a .journal .now in
+    omega (
+      arith,
+      p .inv .2,
+      probes-read k,
+      probes-lt b (p .l),
+      probes-fit b (p .l),
+      lines-few (a .cells) (a .n) b (p .l) (p .inv .1),
+      chunks-le (a .cells) (s .pre .1),
+    )
 
 -- src/pass.rt:92:9
 add-l : tie.Need-add-l Inv-loop μ-loop
-add-l c = ?
+add-l c = omega arith
 
 -- src/pass.rt:80:5
 loop-less : tie.Need-loop-less Inv-loop μ-loop
-loop-less c = ?
+loop-less c = omega arith
 
 -- src/pass.rt:80:5
 loop-again : tie.Need-loop-again Inv-loop μ-loop
-loop-again c = ?
+loop-again c =
+    let k = c .before .before in
+    let a = k .before .before .before .before .before .before .before .before .before .args in
+    let p = k .before .before .before .before .before .loop in
+    let b = a .journal .now in
+    let d = k .before .before .before .read-line .result in
+    let new : hasChunk b (p .l) (chunkAt b (p .l)) ≡ false =
+    ap (hasChunk b (p .l)) (sym (chunk-read k)) ∙ unseen b (p .seen) (p .masks) (p .l) (d .chunk) (p .inv .3) (within k) (c .before .if2 .left) in (
+      omega arith,
+      lines-next (a .cells) (a .n) b (p .l) (p .inv .1) (fitting k) new,
+      omega (arith, p .inv .2, probes-read k, probes-next b (p .l)),
+      tables-next b (p .seen) (p .masks) (p .l) (d .chunk) (d .mask) (chunk-read k) (mask-read k) (within k) (p .inv .3),
+    )
 
 -- src/pass.rt:73:1
 same-length-5 : tie.Need-same-length-5 Inv-loop μ-loop
-same-length-5 c = ?
+same-length-5 c =
+    let s = c .before .before .before .before .before in
+    let p = c .before .loop in
+    blank-length (p .seen) (s .args .seen .now) (p .inv .3 .flags) (s .pre .3)
 
 -- src/pass.rt:73:1
 same-length-6 : tie.Need-same-length-6 Inv-loop μ-loop
-same-length-6 c = ?
+same-length-6 c =
+    let s = c .before .before .before .before .before in
+    let p = c .before .loop in
+    blank-length (p .masks) (s .args .masks .now) (p .inv .3 .words) (s .pre .4)
 
 -- src/pass.rt:73:1
 returns-3 : tie.Need-returns-3 Inv-loop μ-loop
-returns-3 c = ?
+returns-3 c =
+    let a = c .before .before .before .before .before .args in
+    let p = c .before .loop in
+    let b = a .journal .now in
+    let e : p .l ≡ a .lines = omega arith in
+    is-right _ _ _ _
+    (ap (linesRight (a .cells) (a .n) b) (sym e) ∙ p .inv .1)
+    (p .inv .2 ∙ ap (heldProbes b) e)
+    (subst (λ (l : ℕ). Tables b l (p .seen) (p .masks)) e (p .inv .3))
 
 pub check-lines-spec : {M : Type 1} → statement M
 check-lines-spec =

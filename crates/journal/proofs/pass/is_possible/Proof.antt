@@ -1,3 +1,11 @@
+use Rattle.journal.proofs.Possible.{possible-at, marked-le, least-le, most-le, cells-le}
+use lib.Dec.{leb, ltb}
+use lib.Count.{ones}
+use borrow.Author.Tests.{lt-leb, le-leb, not-true, not-false}
+use Prim.Native.Nat.{ℕ, _+_, _-_, _*_, _≤_, _<_, _^_}
+use native.Mathlib.Omega.{arith}
+use mathlib.Core.Bool.{Bool, true, false, _&&_}
+use mathlib.Core.Path.{_≡_, sym, ap, ap₂, _∙_}
 use borrow.Author.Needs.{needs}
 use Rattle.journal.proofs.pass.is_possible.Statement.{statement}
 use Rattle.journal.proofs.pass.is_possible.Tie as tie
@@ -12,39 +20,67 @@ cells-in-requires c κs = search needs
 
 -- src/pass.rt:48:9
 no-bit-from-requires : tie.Need-no-bit-from-requires
-no-bit-from-requires c κs = ?
+no-bit-from-requires c κs = omega (arith, c .cells-in .ensures, cells-le (c .before .args .cells) (c .before .args .chunk))
 
 -- src/pass.rt:49:9
 returns : tie.Need-returns
-returns c = ?
-
--- src/pass.rt:51:18
-cast-marked : tie.Need-cast-marked
-cast-marked c = ?
+returns c =
+    let a = c .before .before .before .args in
+    let w = c .before .before .cells-in .result in
+    let e : ltb (a .mask) (2 ^ w) ≡ false = sym (c .before .no-bit-from .ensures) ∙ not-true (c .before .no-bit-from .result) (c .if1 .taken) in
+    sym (possible-at (a .cells) (a .n) (a .chunk) (a .mask) (a .probes) w (c .before .before .cells-in .ensures)
+    ∙ ap (λ (t : Bool). t && leb (w - ones (a .mask) + a .n * ones (a .mask)) (a .probes) && leb (a .probes) (a .n * w)) e)
 
 -- src/pass.rt:52:17
 sub-if2 : tie.Need-sub-if2
-sub-if2 c = ?
+sub-if2 c = marked-le (c .before .before .before .args .mask) (c .before .before .cells-in .result) (sym (c .before .no-bit-from .ensures) ∙ not-false (c .before .no-bit-from .result) (c .if1 .left))
+
+-- src/pass.rt:51:18
+cast-marked : tie.Need-cast-marked
+cast-marked c =
+    let o : ones (c .before .before .before .args .mask) ≤ c .before .before .cells-in .result = sub-if2 c in
+    omega (arith, c .before .before .cells-in .ensures, cells-le (c .before .before .before .args .cells) (c .before .before .before .args .chunk))
 
 -- src/pass.rt:52:32
 mul-if2 : tie.Need-mul-if2
-mul-if2 c = ?
+mul-if2 c =
+    let a = c .before .before .before .args in
+    let w = c .before .before .cells-in .result in
+    omega (arith, least-le (a .mask) (a .n) w (c .before .before .before .pre) (omega (arith, c .before .before .cells-in .ensures, cells-le (a .cells) (a .chunk))) (sub-if2 c))
 
 -- src/pass.rt:52:17
 add-if2 : tie.Need-add-if2
-add-if2 c = ?
+add-if2 c =
+    let a = c .before .before .before .args in
+    let w = c .before .before .cells-in .result in
+    omega (arith, least-le (a .mask) (a .n) w (c .before .before .before .pre) (omega (arith, c .before .before .cells-in .ensures, cells-le (a .cells) (a .chunk))) (sub-if2 c))
 
 -- src/pass.rt:53:9
 returns-2 : tie.Need-returns-2
-returns-2 c = ?
+returns-2 c =
+    let a = c .before .before .before .before .args in
+    let w = c .before .before .before .cells-in .result in
+    let e : ltb (a .mask) (2 ^ w) ≡ true = sym (c .before .before .no-bit-from .ensures) ∙ not-false (c .before .before .no-bit-from .result) (c .before .if1 .left) in
+    let f : leb (w - ones (a .mask) + a .n * ones (a .mask)) (a .probes) ≡ false = lt-leb _ _ (c .if2 .taken) in
+    sym (possible-at (a .cells) (a .n) (a .chunk) (a .mask) (a .probes) w (c .before .before .before .cells-in .ensures)
+    ∙ ap₂ (λ (t u : Bool). t && u && leb (a .probes) (a .n * w)) e f)
 
 -- src/pass.rt:55:15
 mul-result : tie.Need-mul-result
-mul-result c = ?
+mul-result c =
+    let a = c .before .before .before .before .args in
+    let w = c .before .before .before .cells-in .result in
+    omega (arith, most-le (a .n) w (c .before .before .before .before .pre) (omega (arith, c .before .before .before .cells-in .ensures, cells-le (a .cells) (a .chunk))))
 
 -- src/pass.rt:43:1
 returns-3 : tie.Need-returns-3
-returns-3 c = ?
+returns-3 c =
+    let a = c .before .before .before .before .args in
+    let w = c .before .before .before .cells-in .result in
+    let e : ltb (a .mask) (2 ^ w) ≡ true = sym (c .before .before .no-bit-from .ensures) ∙ not-false (c .before .before .no-bit-from .result) (c .before .if1 .left) in
+    let f : leb (w - ones (a .mask) + a .n * ones (a .mask)) (a .probes) ≡ true = le-leb _ _ (c .if2 .left) in
+    sym (possible-at (a .cells) (a .n) (a .chunk) (a .mask) (a .probes) w (c .before .before .before .cells-in .ensures)
+    ∙ ap₂ (λ (t u : Bool). t && u && leb (a .probes) (a .n * w)) e f)
 
 pub is-possible-spec : {M : Type 1} → statement M
 is-possible-spec =

@@ -1,3 +1,5 @@
+use Rattle.journal.specs.Right.{torn}
+use borrow.Author.Tests.{lt-ltb, le-ltb}
 use Rattle.journal.proofs.pass.is_torn.Statement.{statement}
 use Rattle.journal.proofs.pass.is_torn.Tie as tie
 use Rattle.journal.proofs.pass.is_torn.Reads as reads
@@ -5,11 +7,13 @@ use Rattle.journal.proofs.pass.is_torn.Lts as lts
 
 -- src/pass.rt:127:9
 returns : tie.Need-returns
-returns c = ?
+unfolding torn
+returns c = simp (lt-ltb _ _ (c .if1 .taken))
 
 -- src/pass.rt:123:1
 returns-2 : tie.Need-returns-2
-returns-2 c = ?
+unfolding torn
+returns-2 c = simp (le-ltb _ _ (c .if1 .left))
 
 pub is-torn-spec : {M : Type 1} → statement M
 is-torn-spec = tie.close (tie.spec returns returns-2)

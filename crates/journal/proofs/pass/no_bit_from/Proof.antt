@@ -1,3 +1,8 @@
+use Rattle.journal.proofs.Possible.{shr-zero}
+use borrow.Author.Tests.{lt-ltb}
+use Prim.Native.Nat.{ℕ, _<_, _^_}
+use native.Mathlib.Omega.{arith}
+use mathlib.Core.Path.{_≡_, sym, subst}
 use borrow.Author.Needs.{needs}
 use Rattle.journal.proofs.pass.no_bit_from.Statement.{statement}
 use Rattle.journal.proofs.pass.no_bit_from.Tie as tie
@@ -6,7 +11,9 @@ use Rattle.journal.proofs.pass.no_bit_from.Lts as lts
 
 -- src/pass.rt:37:9
 returns : tie.Need-returns
-returns c = ?
+returns c =
+    let a = c .before .args in
+    sym (lt-ltb (a .mask) (2 ^ a .k) (subst (λ (k : ℕ). a .mask < 2 ^ k) (sym (c .if1 .taken)) (omega arith)))
 
 -- src/pass.rt:39:5
 shr-result : tie.Need-shr-result
@@ -14,7 +21,7 @@ shr-result c = search needs
 
 -- src/pass.rt:32:1
 returns-2 : tie.Need-returns-2
-returns-2 c = ?
+returns-2 c = shr-zero (c .before .args .mask) (c .before .args .k)
 
 pub no-bit-from-spec : {M : Type 1} → statement M
 no-bit-from-spec = tie.close (tie.spec returns shr-result returns-2)
