@@ -2,7 +2,7 @@
 use mathlib.Core.Path.{_≡_, refl, sym, ap, ap₂, _∙_, subst}
 use mathlib.Core.Bool.{Bool, true, false, _&&_, _||_, not, cond, or-false, or-true, false≢true}
 use mathlib.Core.List.{List}
-use Prim.Native.Nat.{ℕ, zero, suc, _+_, _*_, _/_, _≤_, _<_}
+use Prim.Native.Nat.{ℕ, zero, suc, _+_, _*_, _/_, _≤_, _<_, min}
 use native.Mathlib.Omega.{arith}
 use native.Mathlib.Numerals.{add-one}
 use lib.ListN.{length, getD, set, replicate, getD-replicate, length-replicate, length-set}
@@ -16,7 +16,7 @@ use Rattle.buffers.proofs.Distinct.{distinct-le}
 use Rattle.roll_sweep.specs.Sweep.{chunks}
 use Rattle.journal.specs.Hex.{areDigits, hexValue}
 use Rattle.journal.specs.Lines.{lineStart, chunkAt, maskAt, probesAt, hasChunk, heldMask, heldProbes}
-use Rattle.journal.specs.Right.{possible, lineFits, lineRight, linesRight}
+use Rattle.journal.specs.Right.{wholeLines, agree, possible, lineFits, lineRight, linesRight, right}
 use Rattle.journal.specs.Pass.{lineAt, fits, checkedOf, Tables}
 use Rattle.journal.specs.declared.pass.Checked.{Checked}
 use Rattle.journal.specs.declared.pass.Checked.the-variants.{Right, Wrong}
@@ -160,3 +160,14 @@ is-right t p q X e f x = (ap₂ checkedOf (sym e) f, λ h. x)
 -- the tables keep their length
 pub blank-length : (t blank : List ℕ) → length t ≡ 16384 → blank ≡ replicate 16384 0 → length t ≡ length blank
 blank-length t blank n e = n ∙ sym (ap length e ∙ length-replicate {A = ℕ} 16384 0)
+
+-- ---- a whole journal: its header, and its lines
+
+module _ (n k : ℕ) (h b : List ℕ) (u m : ℕ) (e : m ≡ min u 107) where
+  pub right-off : agree b h m ≡ false → right n k h b u ≡ false
+  unfolding right
+  right-off f = ap (λ (t : Bool). t && linesRight n k b (wholeLines u)) (ap (agree b h) (sym e) ∙ f)
+
+  pub right-on : agree b h m ≡ true → right n k h b u ≡ linesRight n k b (wholeLines u)
+  unfolding right
+  right-on f = ap (λ (t : Bool). t && linesRight n k b (wholeLines u)) (ap (agree b h) (sym e) ∙ f)

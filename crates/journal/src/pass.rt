@@ -1,7 +1,7 @@
 // The pass that work, recover and collect make over a journal: whether it is right, which chunks have a line, and what their masks are.
 ghost use mathlib.Core.Path.{_≡_};
 ghost use mathlib.Core.Bool.{true};
-ghost use Prim.Native.Nat.{_+_, _*_, _^_, _≤_};
+ghost use Prim.Native.Nat.{ℕ, _+_, _*_, _^_, _≤_, _<_};
 ghost use lib.Dec.{ltb};
 ghost use lib.ListN.{length, replicate};
 ghost use Rattle.roll_sweep.specs.Sweep.{cellsIn};
@@ -71,7 +71,7 @@ fn line_fits(line: Line, cells: u64, n: u64) -> bool
 
 // Whether each of the first lines is right. The tables come blank, and are filled if they all are.
 fn check_lines(journal: &[u8], lines: usize, cells: u64, n: u64, seen: &mut [u8], masks: &mut [u64]) -> Checked
-    requires { ⌜ (107 + 33 * lines ≤ length (now journal)) × (cells ≤ 1048576) × (n ≤ 3600) × (now seen ≡ replicate 16384 0) × (now masks ≡ replicate 16384 0) ⌝ }
+    requires { ⌜ ((l : ℕ) → l < lines → 107 + 33 * l + 33 ≤ length (now journal)) × (cells ≤ 1048576) × (n ≤ 3600) × (now seen ≡ replicate 16384 0) × (now masks ≡ replicate 16384 0) ⌝ }
     ensures { λ r. ⌜ (r ≡ checkedOf (linesRight cells n (now (journal .entry)) lines) (heldProbes (now (journal .entry)) lines))
         × (linesRight cells n (now (journal .entry)) lines ≡ true → Tables (now (journal .entry)) lines (now (seen .exit)) (now (masks .exit))) ⌝ }
 {

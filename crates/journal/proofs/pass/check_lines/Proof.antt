@@ -31,7 +31,7 @@ loop-holds c =
 
 -- src/pass.rt:81:13
 read-line-requires : tie.Need-read-line-requires Inv-loop μ-loop
-read-line-requires c κs = omega arith
+read-line-requires c κs = c .before .before .before .before .before .pre .0 (c .before .loop .l) (omega arith)
 
 -- src/pass.rt:82:13
 line-fits-requires : tie.Need-line-fits-requires Inv-loop μ-loop

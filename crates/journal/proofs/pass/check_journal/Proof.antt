@@ -1,0 +1,80 @@
+use Rattle.journal.proofs.Scan.{is-wrong, right-off, right-on}
+use Rattle.journal.specs.Lines.{heldProbes}
+use Rattle.journal.specs.Right.{wholeLines, agree, linesRight, right}
+use Rattle.journal.specs.Pass.{checkedOf, Tables}
+use borrow.Author.Tests.{not-true, not-false}
+use Prim.Native.Nat.{ℕ, _≤_, min}
+use native.Mathlib.Omega.{arith}
+use mathlib.Core.Bool.{Bool, true, false}
+use mathlib.Core.Logic.{⊎-elim}
+use mathlib.Core.Path.{_≡_, sym, ap, ap₂, subst, _∙_}
+use borrow.Author.Needs.{needs}
+use Rattle.journal.proofs.pass.check_journal.Statement.{statement}
+use Rattle.journal.proofs.pass.check_journal.Tie as tie
+use Rattle.journal.proofs.pass.check_journal.Reads as reads
+use Rattle.journal.proofs.pass.check_journal.Lts as lts
+use Rattle.journal.proofs.pass.agrees.Reads as agrees-reads
+use Rattle.journal.proofs.pass.check_lines.Reads as check-lines-reads
+use Rattle.journal.proofs.pass.whole_lines.Reads as whole-lines-reads
+
+-- src/pass.rt:139:9
+agrees-requires : tie.Need-agrees-requires
+agrees-requires c κs = ⊎-elim (λ w. (omega arith, omega arith)) (λ w. (omega arith, omega arith)) (c .if1 .came)
+
+-- src/pass.rt:140:9
+returns : tie.Need-returns
+returns c =
+    let a = c .before .before .before .before .before .before .before .args in
+    let m : c .before .before .if1 .m ≡ min (a .used) 107 = ⊎-elim (λ w. omega arith) (λ w. omega arith) (c .before .before .if1 .came) in
+    is-wrong _ _ _ (right-off (a .cells) (a .n) (a .header .now) (a .journal .now) (a .used) (c .before .before .if1 .m) m
+    (sym (c .before .agrees .ensures) ∙ not-true (c .before .agrees .result) (c .if2 .taken)))
+
+-- src/pass.rt:142:26
+whole-lines-requires : tie.Need-whole-lines-requires
+whole-lines-requires c κs = search needs
+
+-- src/pass.rt:142:5
+check-lines-requires : tie.Need-check-lines-requires
+unfolding wholeLines
+check-lines-requires c κs =
+    let s = c .before .before .before .before .before .before .before .before .before .before in
+    (λ l h. omega (arith, c .before .before .whole-lines .ensures), s .pre .1, s .pre .2, s .pre .4, s .pre .5)
+
+-- src/pass.rt:133:1
+same-length : tie.Need-same-length
+same-length c = search needs
+
+-- src/pass.rt:133:1
+same-length-2 : tie.Need-same-length-2
+same-length-2 c = search needs
+
+-- src/pass.rt:133:1
+returns-2 : tie.Need-returns-2
+returns-2 c =
+    let s = c .before .before .before .before .before .before .before .before .before .before .before .before .before .before .before in
+    let a = s .args in
+    let j = c .before .before .before .before .before .before .before .before .before .before in
+    let g = c .before .before .before .before .before .before .before .before .before .agrees in
+    let w = c .before .before .before .before .before .before .before .whole-lines .ensures in
+    let m : j .if1 .m ≡ min (a .used) 107 = ⊎-elim (λ w. omega arith) (λ w. omega arith) (j .if1 .came) in
+    let r : right (a .cells) (a .n) (a .header .now) (a .journal .now) (a .used) ≡ linesRight (a .cells) (a .n) (a .journal .now) (wholeLines (a .used)) =
+    right-on (a .cells) (a .n) (a .header .now) (a .journal .now) (a .used) (j .if1 .m) m
+    (sym (g .ensures) ∙ not-false (g .result) (c .before .before .before .before .before .before .before .before .if2 .left)) in
+    let z = c .before .before .before .before .check-lines .ensures in (
+      z .0 ∙ ap (λ (l : ℕ). checkedOf (linesRight (a .cells) (a .n) (a .journal .now) l) (heldProbes (a .journal .now) l)) w
+          ∙ ap (λ (t : Bool). checkedOf t (heldProbes (a .journal .now) (wholeLines (a .used)))) (sym r),
+      λ h. subst (λ (l : ℕ). Tables (a .journal .now) l (c .before .before .before .before .check-lines .last .1 .1 .1 .1 .0) (c .before .before .before .before .check-lines .last .1 .1 .1 .1 .1 .0)) w
+          (z .1 (ap (linesRight (a .cells) (a .n) (a .journal .now)) w ∙ sym r ∙ h)),
+    )
+
+pub check-journal-spec : {M : Type 1} → statement M
+check-journal-spec =
+    tie.close
+    (tie.spec
+    agrees-requires
+    returns
+    whole-lines-requires
+    check-lines-requires
+    same-length
+    same-length-2
+    returns-2)
