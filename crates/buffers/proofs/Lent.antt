@@ -9,7 +9,7 @@ use lib.ListN.{length, getD, take, drop, set, length-append, length-drop, take-a
 use lib.Seq.{drop-cons, set-at, drop-append-add, drop-drop, take-at, length-take-le, getD-append-add, getD-take, getD-drop, take-add, take-all}
 use Rattle.buffers.specs.Ranges.{tab}
 use Rattle.buffers.specs.Lent.{over, filled, put}
-use Rattle.buffers.proofs.Ranges.{length-tab, getD-tab, tab-next}
+use Rattle.buffers.proofs.Ranges.{length-tab, getD-tab, tab-next, tab-add}
 
 -- ---- the first places filled: one store a turn
 
@@ -199,3 +199,17 @@ module _ {A : Type 0} where
       ap₂ (λ (x y : List A). take i l ++ (x ++ y)) (e ∙ ap (over t) (take-all (length l - i) (drop i l) n)) (drop-of-length-le (drop i l) n)
       ∙ ap (λ (m : List A). take i l ++ m) (append-nil (over t (drop i l)))
       ∙ put-tail i t l
+
+-- the first places filled, several at a time
+module _ {A : Type 0} (f : ℕ → A) where
+  filled-over : (n : ℕ) (l : List A) → filled n f l ≡ over (tab n f) l
+  unfolding filled over
+  filled-over n l = ap (λ (k : ℕ). tab n f ++ drop k l) (sym (length-tab n f))
+
+  pub filled-put : (n w : ℕ) (t l : List A) → t ≡ tab w (λ k. f (n + k)) → n + w ≤ length l → put n t (filled n f l) ≡ filled (n + w) f l
+  filled-put n w t l e h =
+      let m : length t ≡ w = ap length e ∙ length-tab w (λ k. f (n + k)) in
+      ap (put n t) (filled-over n l)
+      ∙ over-put n (tab n f) t l (sym (length-tab n f)) (omega arith)
+      ∙ ap (λ (s : List A). over s l) (ap (λ (s : List A). tab n f ++ s) e ∙ sym (tab-add n w f))
+      ∙ sym (filled-over (n + w) l)

@@ -3,3 +3,4 @@ pub mod Text
 pub mod Write
 pub mod Possible
 pub mod Scan
+pub mod Cells

@@ -7,9 +7,10 @@ use native.Mathlib.Omega.{arith}
 use lib.ListN.{length, getD, take, drop, set, length-append, length-drop, length-set, take-append-drop}
 use lib.Seq.{drop-cons, set-append-left, take-at, getD-at, getD-take, take-take, take-length, drop-length, take-suc-set, take-set-lt, length-take-le, append-snoc}
 use Rattle.buffers.specs.Lent.{over, put}
-use Rattle.buffers.proofs.Lent.{put-first, over-put, over-next, length-over}
+use Rattle.buffers.proofs.Lent.{put-first, put-put, over-next, length-over}
 use Rattle.journal.specs.Hex.{hexDigit, hexText}
 use Rattle.journal.specs.Lines.{lineText}
+use Rattle.journal.specs.Header.{headerText}
 use Rattle.journal.proofs.Text.{length-hex}
 
 -- ---- a text put from its end
@@ -93,26 +94,66 @@ module _ (o : List ℕ) (at w x : ℕ) (h : at + w ≤ length o) where
   pub written-all : (j v : ℕ) (out : List ℕ) → j ≡ 0 → Written o at w x j v out → out ≡ put at (hexText w x) o
   written-all j v out e p = p .1 ∙ ap (putFrom o at (hexText w x)) e ∙ from-start o at (hexText w x) fits
 
--- ---- a line, field by field
+-- ---- fields one after the other
 
-pub line-written : (o o₁ o₂ o₃ : List ℕ) (c m p : ℕ) → 33 ≤ length o
-    → o₁ ≡ put 0 (hexText 8 c) o → o₂ ≡ put 8 (hexText 16 m) o₁ → o₃ ≡ put 24 (hexText 8 p) o₂
-    → (set o₃ 32 10 ≡ over (lineText c m p) o) × (length (set o₃ 32 10) ≡ length o)
-unfolding lineText
-line-written o o₁ o₂ o₃ c m p h e₁ e₂ e₃ =
-    let x : List ℕ = hexText 8 c in
-    let y : List ℕ = hexText 16 m in
-    let z : List ℕ = hexText 8 p in
-    let nx : length x ≡ 8 = length-hex 8 c in
-    let ny : length y ≡ 16 = length-hex 16 m in
-    let nz : length z ≡ 8 = length-hex 8 p in
-    let nxy : length (x ++ y) ≡ 24 = length-append x y ∙ omega arith in
-    let nxyz : length (x ++ y ++ z) ≡ 32 = length-append (x ++ y) z ∙ omega arith in
-    let f₁ : o₁ ≡ over x o = e₁ ∙ put-first x o in
-    let f₂ : o₂ ≡ over (x ++ y) o = e₂ ∙ ap (put 8 y) f₁ ∙ over-put 8 x y o (sym nx) (omega arith) in
-    let f₃ : o₃ ≡ over (x ++ y ++ z) o = e₃ ∙ ap (put 24 z) f₂ ∙ over-put 24 (x ++ y) z o (sym nxy) (omega arith) in
-    let n : length o₃ ≡ length o = ap length f₃ ∙ length-over (x ++ y ++ z) o (omega arith) in
-    let s : x ++ y ++ z ++ (10 ∷ []) ≡ lineText c m p = simp append-assoc in (
-      ap (λ (l : List ℕ). set l 32 10) f₃ ∙ over-next (x ++ y ++ z) o 32 10 (sym nxyz) (omega arith) ∙ ap (λ (t : List ℕ). over t o) s,
-      length-set o₃ 32 10 ∙ n,
+-- three fields from index at on
+pub fields-written : (o o₁ o₂ o₃ : List ℕ) (at a x b y c z : ℕ) → at + a + b + c ≤ length o
+    → o₁ ≡ put at (hexText a x) o → o₂ ≡ put (at + a) (hexText b y) o₁ → o₃ ≡ put (at + a + b) (hexText c z) o₂
+    → o₃ ≡ put at (hexText a x ++ (hexText b y ++ hexText c z)) o
+fields-written o o₁ o₂ o₃ at a x b y c z h e₁ e₂ e₃ =
+    let xs : List ℕ = hexText a x in
+    let ys : List ℕ = hexText b y in
+    let zs : List ℕ = hexText c z in
+    let nx : length xs ≡ a = length-hex a x in
+    let ny : length ys ≡ b = length-hex b y in
+    let nz : length zs ≡ c = length-hex c z in
+    let nxy : length (xs ++ ys) ≡ a + b = length-append xs ys ∙ omega arith in
+    let f₂ : o₂ ≡ put at (xs ++ ys) o = e₂ ∙ ap (put (at + a) ys) e₁ ∙ put-put at (at + a) xs ys o (omega arith) (omega arith) in
+    e₃
+    ∙ ap (put (at + a + b) zs) f₂
+    ∙ put-put at (at + a + b) (xs ++ ys) zs o (omega arith) (omega arith)
+    ∙ ap (λ (t : List ℕ). put at t o) (append-assoc xs ys zs)
+
+length-fields : (a x b y c z : ℕ) → length (hexText a x ++ (hexText b y ++ hexText c z)) ≡ a + (b + c)
+length-fields a x b y c z = simp (length-append, length-hex)
+
+-- a text, and the byte that ends a frame
+ended : (o s out : List ℕ) (j : ℕ) → out ≡ put 0 s o → length s ≡ j → j < length o → (set out j 10 ≡ over (s ++ (10 ∷ [])) o) × (length (set out j 10) ≡ length o)
+ended o s out j e n h =
+    let f : out ≡ over s o = e ∙ put-first s o in (
+      ap (λ (l : List ℕ). set l j 10) f ∙ over-next s o j 10 (sym n) h,
+      length-set out j 10 ∙ ap length f ∙ length-over s o (omega arith),
     )
+
+pub line-written : (o o₁ : List ℕ) (c m p : ℕ) → 33 ≤ length o → o₁ ≡ put 0 (hexText 8 c ++ (hexText 16 m ++ hexText 8 p)) o
+    → (set o₁ 32 10 ≡ over (lineText c m p) o) × (length (set o₁ 32 10) ≡ length o)
+unfolding lineText
+line-written o o₁ c m p h e =
+    let r = ended o _ o₁ 32 e (length-fields 8 c 16 m 8 p) (omega arith) in
+    let s : hexText 8 c ++ (hexText 16 m ++ hexText 8 p) ++ (10 ∷ []) ≡ lineText c m p = simp append-assoc in
+    (r .0 ∙ ap (λ (t : List ℕ). over t o) s, r .1)
+
+pub header-written : (o o₁ o₂ o₃ : List ℕ) (rows times n tolerance configured roll x y z : ℕ) → 107 ≤ length o
+    → o₁ ≡ put 0 (hexText 8 rows ++ (hexText 8 times ++ hexText 8 n)) o
+    → o₂ ≡ put 24 (hexText 16 tolerance ++ (hexText 2 configured ++ hexText 16 roll)) o₁
+    → o₃ ≡ put 58 (hexText 16 x ++ (hexText 16 y ++ hexText 16 z)) o₂
+    → (set o₃ 106 10 ≡ over (headerText rows times n tolerance configured roll x y z) o) × (length (set o₃ 106 10) ≡ length o)
+unfolding headerText
+header-written o o₁ o₂ o₃ rows times n tolerance configured roll x y z h e₁ e₂ e₃ =
+    let a : List ℕ = hexText 8 rows ++ (hexText 8 times ++ hexText 8 n) in
+    let b : List ℕ = hexText 16 tolerance ++ (hexText 2 configured ++ hexText 16 roll) in
+    let c : List ℕ = hexText 16 x ++ (hexText 16 y ++ hexText 16 z) in
+    let na : length a ≡ 24 = length-fields 8 rows 8 times 8 n in
+    let nb : length b ≡ 34 = length-fields 16 tolerance 2 configured 16 roll in
+    let nc : length c ≡ 48 = length-fields 16 x 16 y 16 z in
+    let nab : length (a ++ b) ≡ 58 = length-append a b ∙ omega arith in
+    let nabc : length (a ++ b ++ c) ≡ 106 = length-append (a ++ b) c ∙ omega arith in
+    let f₂ : o₂ ≡ put 0 (a ++ b) o = e₂ ∙ ap (put 24 b) e₁ ∙ put-put 0 24 a b o (omega arith) (omega arith) in
+    let f₃ : o₃ ≡ put 0 (a ++ b ++ c) o = e₃ ∙ ap (put 58 c) f₂ ∙ put-put 0 58 (a ++ b) c o (omega arith) (omega arith) in
+    let r = ended o (a ++ b ++ c) o₃ 106 f₃ nabc (omega arith) in
+    let s : a ++ b ++ c ++ (10 ∷ []) ≡ headerText rows times n tolerance configured roll x y z = simp append-assoc in
+    (r .0 ∙ ap (λ (t : List ℕ). over t o) s, r .1)
+
+pub length-header : (rows times n tolerance configured roll x y z : ℕ) → length (headerText rows times n tolerance configured roll x y z) ≡ 107
+unfolding headerText
+length-header rows times n tolerance configured roll x y z = simp (length-append, length-hex) refl

@@ -1,5 +1,6 @@
 // Lowercase hexadecimal, written and read.
 ghost use mathlib.Core.Path.{_≡_};
+ghost use mathlib.Core.List.{_++_};
 ghost use Prim.Native.Nat.{_+_, _≤_, _<_};
 ghost use lib.ListN.{length};
 ghost use Rattle.buffers.specs.Lent.{put};
@@ -14,7 +15,7 @@ fn hex_digit(d: u64) -> u8
 }
 
 // Writes x in w digits from index at on.
-pub(crate) fn write_hex(out: &mut [u8], at: usize, w: usize, x: u64)
+fn write_hex(out: &mut [u8], at: usize, w: usize, x: u64)
     requires { ⌜ at + w ≤ length (now out) ⌝ }
     ensures { λ r. ⌜ now (out .exit) ≡ put at (hexText w x) (now (out .entry)) ⌝ }
 {
@@ -25,6 +26,16 @@ pub(crate) fn write_hex(out: &mut [u8], at: usize, w: usize, x: u64)
         out[at + j] = hex_digit(v % 16);
         v = v / 16;
     }
+}
+
+// Writes three numbers one after the other from index at on, each in its own number of digits.
+pub(crate) fn write_fields(out: &mut [u8], at: usize, a: usize, x: u64, b: usize, y: u64, c: usize, z: u64)
+    requires { ⌜ at + a + b + c ≤ length (now out) ⌝ }
+    ensures { λ r. ⌜ now (out .exit) ≡ put at (hexText a x ++ (hexText b y ++ hexText c z)) (now (out .entry)) ⌝ }
+{
+    write_hex(out, at, a, x);
+    write_hex(out, at + a, b, y);
+    write_hex(out, at + a + b, c, z);
 }
 
 // The byte is a digit.

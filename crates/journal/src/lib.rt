@@ -1,4 +1,6 @@
 // The journal of a sweep: section 4's frames, when a journal is right, and begin, work, recover and collect.
+mod header;
 mod hex;
 mod line;
+mod mask;
 mod pass;

@@ -7,7 +7,7 @@ ghost use Rattle.journal.specs.Lines.{lineText};
 ghost use Rattle.journal.specs.Pass.{lineAt};
 use crate::hex::are_digits;
 use crate::hex::hex_value;
-use crate::hex::write_hex;
+use crate::hex::write_fields;
 
 // What stands in the place of a line. It is framed if it has 32 digits and 0a; else its numbers mean nothing.
 pub struct Line {
@@ -22,9 +22,7 @@ fn write_line(tail: &mut [u8], chunk: u64, mask: u64, probes: u64)
     requires { ⌜ 33 ≤ length (now tail) ⌝ }
     ensures { λ r. ⌜ now (tail .exit) ≡ over (lineText chunk mask probes) (now (tail .entry)) ⌝ }
 {
-    write_hex(tail, 0, 8, chunk);
-    write_hex(tail, 8, 16, mask);
-    write_hex(tail, 24, 8, probes);
+    write_fields(tail, 0, 8, chunk, 16, mask, 8, probes);
     tail[32] = 10;
 }
 

@@ -7,6 +7,7 @@ ghost use lib.ListN.{length, replicate};
 ghost use Rattle.roll_sweep.specs.Sweep.{cellsIn};
 ghost use Rattle.journal.specs.Lines.{heldProbes};
 ghost use Rattle.journal.specs.Right.{wholeLines, torn, agree, possible, linesRight, right};
+ghost use Rattle.journal.specs.Calls.{kept};
 ghost use Rattle.journal.specs.Pass.{lineAt, fits, checkedOf, Tables};
 use crate::line::Line;
 use crate::line::read_line;
@@ -127,6 +128,16 @@ pub(crate) fn is_torn(used: usize) -> bool
         return true;
     }
     (used - 107) % 33 != 0
+}
+
+// What recover keeps of the used bytes of a journal that is right.
+pub(crate) fn kept_length(used: usize) -> usize
+    ensures { λ r. ⌜ r ≡ kept used ⌝ }
+{
+    if used < 107 {
+        return 0;
+    }
+    107 + 33 * whole_lines(used)
 }
 
 // Whether the used bytes are right. The tables come blank, and are filled if they are.
