@@ -1,0 +1,212 @@
+//! Solar roll, windows and the sweep journal, proved; here for Rust: slices in, `Result` out.
+//!
+//! Every answer is the proved library's own: this crate only passes slices on. A refused call leaves everything
+//! that it was lent unchanged and gives a [`Refusal`] with the number of the reason and its sentence.
+//!
+//! ```
+//! use wilfnusk::{Plan, Roll};
+//! let plan = Plan {
+//!     targets: &[1.0, 0.0, 0.0],
+//!     suns: &[0.0, 1.0, 0.0, 0.0, 0.0, 1.0],
+//!     observers: &[0.0; 6],
+//!     tolerance_deg: 10.0,
+//!     roll_deg: None,
+//!     panel_normal: [0.0, 1.0, 0.0],
+//! };
+//! let mut mask = [0; 2];
+//! plan.in_constraint_batch_at_roll(Roll::Sweep(0.0), &mut mask)?;
+//! assert_eq!(mask, [0, 1]);
+//! # Ok::<(), wilfnusk::Refusal>(())
+//! ```
+mod refusal;
+pub mod sys;
+
+pub use refusal::{Call, Refusal};
+pub use sys::Window;
+
+/// Bytes of a journal's header, and of each line after it.
+pub const HEADER_BYTES: u64 = 107;
+pub const LINE_BYTES: u64 = 33;
+/// Cells of a chunk; the last chunk may have fewer.
+pub const CHUNK_CELLS: u64 = 64;
+
+/// A plan, borrowed. Three numbers a direction or position, flat.
+#[derive(Clone, Copy, Debug)]
+pub struct Plan<'a> {
+    pub targets: &'a [f64],
+    pub suns: &'a [f64],
+    pub observers: &'a [f64],
+    pub tolerance_deg: f64,
+    /// The configured roll.
+    pub roll_deg: Option<f64>,
+    pub panel_normal: [f64; 3],
+}
+
+/// The roll at which a mask is asked for. A configured roll overrides `Sweep`, never `Fixed`.
+#[derive(Clone, Copy, Debug, PartialEq)]
+pub enum Roll {
+    Sweep(f64),
+    Fixed(f64),
+}
+
+/// The roll of one cell: `Free` where none is better than another.
+#[derive(Clone, Copy, Debug, PartialEq)]
+pub enum OptimalRoll {
+    Free,
+    At(f64),
+}
+
+/// The six columns that a listing writes, equally long.
+#[derive(Debug)]
+pub struct Columns<'a> {
+    pub first: &'a mut [u64],
+    pub last: &'a mut [u64],
+    pub first_time: &'a mut [i64],
+    pub last_time: &'a mut [i64],
+    pub severity: &'a mut [f64],
+    pub is_last: &'a mut [u8],
+}
+
+fn accepted(call: Call, answer: i64) -> Result<u64, Refusal> {
+    u64::try_from(answer).map_err(|_| Refusal::of(call, answer))
+}
+
+/// Calls a C name with the plan first.
+macro_rules! with_plan {
+    ($plan:expr, $call:ident, $name:ident, $($rest:expr),*) => {{
+        let p: &Plan = $plan;
+        let [x, y, z] = p.panel_normal;
+        // Each pointer comes from a slice with its length, and `&mut` keeps the written ones apart from the rest.
+        accepted(Call::$call, unsafe {
+            sys::$name(
+                p.targets.as_ptr(), p.targets.len(), p.suns.as_ptr(), p.suns.len(), p.observers.as_ptr(), p.observers.len(),
+                p.tolerance_deg, p.roll_deg.is_some() as u64, p.roll_deg.unwrap_or(0.0), x, y, z, $($rest),*
+            )
+        })
+    }};
+}
+
+impl Plan<'_> {
+    /// The optimal roll of each cell, of Free ones too.
+    pub fn named_values(&self, out: &mut [f64]) -> Result<(), Refusal> {
+        with_plan!(self, Masks, wilfnusk_named_values, out.as_mut_ptr(), out.len()).map(drop)
+    }
+    /// The mask at the configured roll; without one, all clear.
+    pub fn in_constraint_batch(&self, mask: &mut [u8]) -> Result<(), Refusal> {
+        with_plan!(self, Masks, wilfnusk_in_constraint_batch, mask.as_mut_ptr(), mask.len()).map(drop)
+    }
+    pub fn in_constraint_batch_at_roll(&self, roll: Roll, mask: &mut [u8]) -> Result<(), Refusal> {
+        let (fixed, degrees) = match roll {
+            Roll::Sweep(r) => (0, r),
+            Roll::Fixed(r) => (1, r),
+        };
+        with_plan!(self, Masks, wilfnusk_in_constraint_batch_at_roll, fixed, degrees, mask.as_mut_ptr(), mask.len()).map(drop)
+    }
+    /// The mask by the distance to the nearest of n even steps. At rounding it is not always the sweep's.
+    pub fn constrained_at_every_roll(&self, n: u64, mask: &mut [u8]) -> Result<(), Refusal> {
+        with_plan!(self, Masks, wilfnusk_constrained_at_every_roll, n, mask.as_mut_ptr(), mask.len()).map(drop)
+    }
+    /// One target's row: its mask and severities at the configured roll.
+    pub fn evaluate(&self, target: u64, mask: &mut [u8], severities: &mut [f64]) -> Result<(), Refusal> {
+        with_plan!(self, Row, wilfnusk_evaluate, target, mask.as_mut_ptr(), mask.len(), severities.as_mut_ptr(), severities.len()).map(drop)
+    }
+    /// Each target's mark at one time, by the distance to the nearest of n even steps.
+    pub fn field_of_regard_violated_batch(&self, time: u64, n: u64, mask: &mut [u8]) -> Result<(), Refusal> {
+        with_plan!(self, FieldOfRegard, wilfnusk_field_of_regard_violated_batch, time, n, mask.as_mut_ptr(), mask.len()).map(drop)
+    }
+    /// Each target's mark at one time, at the configured roll, else at `roll_deg`.
+    pub fn field_of_regard_violated_at_roll(&self, time: u64, roll_deg: f64, mask: &mut [u8]) -> Result<(), Refusal> {
+        with_plan!(self, FieldOfRegard, wilfnusk_field_of_regard_violated_at_roll, time, roll_deg, mask.as_mut_ptr(), mask.len()).map(drop)
+    }
+    /// Writes the header into an empty journal. The used length after it.
+    pub fn begin(&self, n: u64, journal: &mut [u8], used: u64) -> Result<u64, Refusal> {
+        with_plan!(self, Begin, wilfnusk_begin, n, journal.as_mut_ptr(), journal.len(), used)
+    }
+    /// Sweeps a chunk and appends its line. The used length after it.
+    pub fn work(&self, n: u64, chunk: u64, journal: &mut [u8], used: u64) -> Result<u64, Refusal> {
+        with_plan!(self, Work, wilfnusk_work, n, chunk, journal.as_mut_ptr(), journal.len(), used)
+    }
+    /// The used length without an incomplete header or line at the end. Shorten the file to it before the next write.
+    pub fn recover(&self, n: u64, journal: &[u8], used: u64) -> Result<u64, Refusal> {
+        with_plan!(self, Recover, wilfnusk_recover, n, journal.as_ptr(), journal.len(), used)
+    }
+    /// Writes the mask that the journal's lines hold. The sum of their probes.
+    pub fn collect(&self, n: u64, journal: &[u8], used: u64, mask: &mut [u8]) -> Result<u64, Refusal> {
+        with_plan!(self, Collect, wilfnusk_collect, n, journal.as_ptr(), journal.len(), used, mask.as_mut_ptr(), mask.len())
+    }
+}
+
+/// IEEE 754's square root, to nearest, ties to even.
+pub fn sqrt(x: f64) -> f64 {
+    unsafe { sys::wilfnusk_sqrt(x) }
+}
+/// The arctangent of (y, z) by the library's own rule; NaN unless both are finite.
+pub fn atan2(y: f64, z: f64) -> f64 {
+    unsafe { sys::wilfnusk_atan2(y, z) }
+}
+/// The shortest arc between two rolls, in degrees; NaN unless both are finite and their difference is.
+pub fn circular_diff_deg(a: f64, b: f64) -> f64 {
+    unsafe { sys::wilfnusk_circular_diff_deg(a, b) }
+}
+/// The optimal roll of one cell.
+pub fn cell(target: [f64; 3], sun: [f64; 3], observer: [f64; 3], panel_normal: [f64; 3]) -> Result<OptimalRoll, Refusal> {
+    let mut roll = 0.0;
+    let ([a, b, c], [d, e, f], [g, h, i], [x, y, z]) = (target, sun, observer, panel_normal);
+    let answer = unsafe { sys::wilfnusk_cell(a, b, c, d, e, f, g, h, i, x, y, z, &mut roll) };
+    accepted(Call::Cell, answer).map(|at| if at == 0 { OptimalRoll::Free } else { OptimalRoll::At(roll) })
+}
+
+/// Lists the maximal runs of marked samples of a row. How many there are.
+pub fn violation_windows(mask: &[u8], times: &[i64], severities: &[f64], out: Columns) -> Result<u64, Refusal> {
+    accepted(Call::Windows, unsafe {
+        sys::wilfnusk_violation_windows(
+            mask.as_ptr(), mask.len(), times.as_ptr(), times.len(), severities.as_ptr(), severities.len(),
+            out.first.as_mut_ptr(), out.first.len(), out.last.as_mut_ptr(), out.last.len(),
+            out.first_time.as_mut_ptr(), out.first_time.len(), out.last_time.as_mut_ptr(), out.last_time.len(),
+            out.severity.as_mut_ptr(), out.severity.len(), out.is_last.as_mut_ptr(), out.is_last.len(),
+        )
+    })
+}
+/// Lists the maximal runs of clear samples of a row: those of two samples or more, and one that reaches the last sample. How many there are.
+pub fn visibility_windows(mask: &[u8], times: &[i64], out: Columns) -> Result<u64, Refusal> {
+    accepted(Call::Windows, unsafe {
+        sys::wilfnusk_visibility_windows(
+            mask.as_ptr(), mask.len(), times.as_ptr(), times.len(),
+            out.first.as_mut_ptr(), out.first.len(), out.last.as_mut_ptr(), out.last.len(),
+            out.first_time.as_mut_ptr(), out.first_time.len(), out.last_time.as_mut_ptr(), out.last_time.len(),
+            out.severity.as_mut_ptr(), out.severity.len(), out.is_last.as_mut_ptr(), out.is_last.len(),
+        )
+    })
+}
+/// `violation_windows` into records.
+pub fn violation_records(mask: &[u8], times: &[i64], severities: &[f64], out: &mut [Window]) -> Result<u64, Refusal> {
+    accepted(Call::Windows, unsafe {
+        sys::wilfnusk_violation_records(
+            mask.as_ptr(), mask.len(), times.as_ptr(), times.len(), severities.as_ptr(), severities.len(), out.as_mut_ptr(), out.len(),
+        )
+    })
+}
+/// `visibility_windows` into records.
+pub fn visibility_records(mask: &[u8], times: &[i64], out: &mut [Window]) -> Result<u64, Refusal> {
+    accepted(Call::Windows, unsafe {
+        sys::wilfnusk_visibility_records(mask.as_ptr(), mask.len(), times.as_ptr(), times.len(), out.as_mut_ptr(), out.len())
+    })
+}
+/// Marks the samples whose times lie in a window. With repeated or reordered times this is not always the way back from a listing.
+pub fn expand(first_time: &[i64], last_time: &[i64], times: &[i64], mask: &mut [u8]) -> Result<(), Refusal> {
+    accepted(Call::Expand, unsafe {
+        sys::wilfnusk_expand(
+            first_time.as_ptr(), first_time.len(), last_time.as_ptr(), last_time.len(),
+            times.as_ptr(), times.len(), mask.as_mut_ptr(), mask.len(),
+        )
+    })
+    .map(drop)
+}
+/// The windows' lengths in whole seconds, each cut off toward zero, summed.
+pub fn total_violation_duration(first_time: &[i64], last_time: &[i64]) -> Result<f64, Refusal> {
+    let mut seconds = 0.0;
+    accepted(Call::Seconds, unsafe {
+        sys::wilfnusk_total_violation_duration(first_time.as_ptr(), first_time.len(), last_time.as_ptr(), last_time.len(), &mut seconds)
+    })
+    .map(|_| seconds)
+}

@@ -1,0 +1,87 @@
+//! The C names as include/wilfnusk.h documents them.
+use std::os::raw::c_double;
+
+/// A window record, as the calls for records write it.
+#[repr(C)]
+#[derive(Clone, Copy, Debug, Default, PartialEq)]
+pub struct Window {
+    /// First and last sample number.
+    pub first: u64,
+    pub last: u64,
+    /// Their times, in nanoseconds.
+    pub first_time: i64,
+    pub last_time: i64,
+    pub severity: f64,
+    /// 1 if the window ends with the final sample because the data ended, else 0.
+    pub is_last: u64,
+}
+
+/// Declares the calls with a plan: the plan's parameters, then the call's own.
+macro_rules! with_plan {
+    ($($name:ident($($p:ident: $t:ty),*);)*) => {
+        extern "C" {
+            $(pub fn $name(
+                targets: *const f64, targets_len: usize,
+                suns: *const f64, suns_len: usize,
+                observers: *const f64, observers_len: usize,
+                tolerance_deg: c_double, has_roll: u64, roll_deg: c_double,
+                panel_x: c_double, panel_y: c_double, panel_z: c_double,
+                $($p: $t),*
+            ) -> i64;)*
+        }
+    };
+}
+
+with_plan! {
+    wilfnusk_named_values(out: *mut f64, out_len: usize);
+    wilfnusk_in_constraint_batch(mask: *mut u8, mask_len: usize);
+    wilfnusk_in_constraint_batch_at_roll(fixed: u64, roll_at_deg: f64, mask: *mut u8, mask_len: usize);
+    wilfnusk_constrained_at_every_roll(n: u64, mask: *mut u8, mask_len: usize);
+    wilfnusk_evaluate(target: u64, mask: *mut u8, mask_len: usize, severities: *mut f64, severities_len: usize);
+    wilfnusk_field_of_regard_violated_batch(time: u64, n: u64, mask: *mut u8, mask_len: usize);
+    wilfnusk_field_of_regard_violated_at_roll(time: u64, roll_at_deg: f64, mask: *mut u8, mask_len: usize);
+    wilfnusk_begin(n: u64, journal: *mut u8, journal_len: usize, used: u64);
+    wilfnusk_work(n: u64, chunk: u64, journal: *mut u8, journal_len: usize, used: u64);
+    wilfnusk_recover(n: u64, journal: *const u8, journal_len: usize, used: u64);
+    wilfnusk_collect(n: u64, journal: *const u8, journal_len: usize, used: u64, mask: *mut u8, mask_len: usize);
+}
+
+extern "C" {
+    pub fn wilfnusk_sqrt(x: c_double) -> c_double;
+    pub fn wilfnusk_atan2(y: c_double, z: c_double) -> c_double;
+    pub fn wilfnusk_circular_diff_deg(a: c_double, b: c_double) -> c_double;
+    pub fn wilfnusk_cell(
+        target_x: c_double, target_y: c_double, target_z: c_double,
+        sun_x: c_double, sun_y: c_double, sun_z: c_double,
+        observer_x: c_double, observer_y: c_double, observer_z: c_double,
+        panel_x: c_double, panel_y: c_double, panel_z: c_double,
+        roll: *mut f64,
+    ) -> i64;
+    pub fn wilfnusk_violation_windows(
+        mask: *const u8, mask_len: usize, times: *const i64, times_len: usize,
+        severities: *const f64, severities_len: usize,
+        first: *mut u64, first_len: usize, last: *mut u64, last_len: usize,
+        first_time: *mut i64, first_time_len: usize, last_time: *mut i64, last_time_len: usize,
+        severity: *mut f64, severity_len: usize, is_last: *mut u8, is_last_len: usize,
+    ) -> i64;
+    pub fn wilfnusk_visibility_windows(
+        mask: *const u8, mask_len: usize, times: *const i64, times_len: usize,
+        first: *mut u64, first_len: usize, last: *mut u64, last_len: usize,
+        first_time: *mut i64, first_time_len: usize, last_time: *mut i64, last_time_len: usize,
+        severity: *mut f64, severity_len: usize, is_last: *mut u8, is_last_len: usize,
+    ) -> i64;
+    pub fn wilfnusk_expand(
+        first_time: *const i64, first_time_len: usize, last_time: *const i64, last_time_len: usize,
+        times: *const i64, times_len: usize, mask: *mut u8, mask_len: usize,
+    ) -> i64;
+    pub fn wilfnusk_total_violation_duration(
+        first_time: *const i64, first_time_len: usize, last_time: *const i64, last_time_len: usize, seconds: *mut f64,
+    ) -> i64;
+    pub fn wilfnusk_violation_records(
+        mask: *const u8, mask_len: usize, times: *const i64, times_len: usize,
+        severities: *const f64, severities_len: usize, out: *mut Window, out_len: usize,
+    ) -> i64;
+    pub fn wilfnusk_visibility_records(
+        mask: *const u8, mask_len: usize, times: *const i64, times_len: usize, out: *mut Window, out_len: usize,
+    ) -> i64;
+}

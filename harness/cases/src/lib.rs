@@ -1,0 +1,6 @@
+//! Inputs of every kind, from a seed: the same seed gives the same inputs on every machine.
+pub mod plans;
+pub mod rows;
+mod seeded;
+
+pub use seeded::Seeded;

@@ -1,0 +1,213 @@
+//! Plans: poles, zero vectors, the Sun on the boresight and close to it, the Sun at the observer, signed zeros, panels without y-z part,
+//! tolerances at exact distances, NaN and infinite tolerances and rolls.
+use crate::Seeded;
+use model::roll::{difference, optimal_roll, sun_unit};
+use model::{arithmetic::remainder, Plan};
+
+type Vector = [f64; 3];
+
+/// Whether targets have length 1 (up to rounding).
+#[derive(Clone, Copy, PartialEq, Debug)]
+pub enum Targets {
+    Unit,
+    Any,
+}
+
+fn length(v: Vector) -> f64 {
+    (v[0] * v[0] + v[1] * v[1] + v[2] * v[2]).sqrt()
+}
+
+fn signed_zero(s: &mut Seeded) -> f64 {
+    s.one_of(&[0.0, -0.0])
+}
+
+pub fn direction(s: &mut Seeded) -> Vector {
+    loop {
+        let v = [s.between(-1.0, 1.0), s.between(-1.0, 1.0), s.between(-1.0, 1.0)];
+        let n = length(v);
+        if n > 0.1 && n < 1.0 {
+            return v.map(|x| x / n);
+        }
+    }
+}
+
+/// A direction along an axis, its zeros of either sign.
+fn axis(s: &mut Seeded) -> Vector {
+    let mut v = [signed_zero(s), signed_zero(s), signed_zero(s)];
+    v[s.index(3)] = s.one_of(&[1.0, -1.0]);
+    v
+}
+
+/// v with one number changed by about `size`.
+fn close_to(s: &mut Seeded, v: Vector, size: f64) -> Vector {
+    let mut v = v;
+    v[s.index(3)] += s.between(-size, size);
+    v
+}
+
+fn clamped(v: Vector) -> Vector {
+    v.map(|x| x.clamp(-1.0, 1.0))
+}
+
+fn target(s: &mut Seeded, targets: Targets, suns: &[Vector], observers: &[Vector]) -> Vector {
+    let kinds = if targets == Targets::Unit { 12 } else { 18 };
+    let sun = match suns.len() {
+        0 => [1.0, 0.0, 0.0],
+        n => {
+            let j = s.index(n);
+            sun_unit(suns[j], observers[j])
+        }
+    };
+    match s.below(kinds) {
+        0..=5 => direction(s),
+        6 => axis(s),
+        7 => [signed_zero(s), signed_zero(s), s.one_of(&[1.0, -1.0])],
+        8 => {
+            let size = s.one_of(&[1e-13, 1e-12, 2e-12, 1e-7]);
+            let pole = [0.0, 0.0, s.one_of(&[1.0, -1.0])];
+            clamped(close_to(s, pole, size))
+        }
+        9 => clamped(sun),
+        10 => clamped(sun.map(|x| -x)),
+        11 => {
+            let size = s.one_of(&[1e-15, 1e-12, 3e-12, 2e-6]);
+            clamped(close_to(s, sun, size))
+        }
+        12 => [signed_zero(s), signed_zero(s), signed_zero(s)],
+        13 => {
+            let size = s.unit();
+            direction(s).map(|x| x * size)
+        }
+        14 => [s.between(-1.0, 1.0), s.between(-1.0, 1.0), s.between(-1.0, 1.0)],
+        15 => [1.0, 1.0, 1.0],
+        16 => direction(s).map(|x| x * 1e-13),
+        _ => [0.0, 0.0, s.one_of(&[0.5, 0.9999999999999, -0.9, 1e-200])],
+    }
+}
+
+fn position(s: &mut Seeded, distance: f64) -> Vector {
+    match s.below(8) {
+        0..=4 => direction(s).map(|x| x * distance),
+        5 => axis(s),
+        6 => axis(s).map(|x| x * distance),
+        _ => {
+            let size = s.one_of(&[1e-200, 1e-13, 1e-12, 1e50, 1e100]);
+            direction(s).map(|x| x * size)
+        }
+    }
+}
+
+/// A Sun and an observer.
+fn positions(s: &mut Seeded) -> (Vector, Vector) {
+    let observer = match s.below(4) {
+        0 => [0.0; 3],
+        1 => [signed_zero(s), signed_zero(s), signed_zero(s)],
+        _ => position(s, 7000.0),
+    };
+    let sun = match s.below(16) {
+        0 => observer,
+        1 => close_to(s, observer, 2e-12),
+        _ => position(s, 1.5e8),
+    };
+    (sun, observer)
+}
+
+fn panel(s: &mut Seeded) -> Vector {
+    match s.below(16) {
+        0..=4 => [0.0, 1.0, 0.0],
+        5..=8 => direction(s),
+        9 => axis(s),
+        10 => [s.one_of(&[1.0, -1.0]), signed_zero(s), signed_zero(s)],
+        11 => [1.0, 1e-12, signed_zero(s)],
+        12 => [0.5, 1.0000000000000002e-12, 0.0],
+        13 => direction(s).map(|x| x * 1e100),
+        14 => [0.0, 1e-170, -1e-170],
+        _ => [3.0, -4.0, 1e-3],
+    }
+}
+
+/// Rows times columns, with the settings that `rolls` gives it.
+pub fn plan(s: &mut Seeded, targets: Targets, rows: usize, times: usize) -> Plan {
+    let (suns, observers): (Vec<Vector>, Vec<Vector>) = (0..times).map(|_| positions(s)).unzip();
+    let targets: Vec<Vector> = (0..rows).map(|_| target(s, targets, &suns, &observers)).collect();
+    Plan {
+        targets: targets.concat(),
+        suns: suns.concat(),
+        observers: observers.concat(),
+        tolerance_deg: 0.0,
+        roll_deg: None,
+        panel_normal: panel(s),
+    }
+}
+
+/// The optimal roll of some cell, 0 where there is none.
+fn some_roll(s: &mut Seeded, plan: &Plan) -> f64 {
+    if plan.cells() == 0 {
+        return 0.0;
+    }
+    let (i, j) = (s.index(plan.rows()), s.index(plan.times()));
+    optimal_roll(plan.target(i), sun_unit(plan.sun(j), plan.observer(j)), plan.panel_normal)
+}
+
+/// A roll as a caller may hand it over.
+pub fn roll(s: &mut Seeded, plan: &Plan) -> f64 {
+    match s.below(16) {
+        0 => f64::NAN,
+        1 => s.one_of(&[f64::INFINITY, f64::NEG_INFINITY, f64::MAX, f64::MIN, 1e17]),
+        2 => signed_zero(s),
+        3 | 4 => some_roll(s, plan),
+        5 => some_roll(s, plan) + s.one_of(&[180.0, -180.0, 360.0, -360.0]),
+        6 => s.one_of(&[360.0, -360.0, 720.0, 1e-20, -1e-20, 5e-324]),
+        _ => s.between(-360.0, 720.0),
+    }
+}
+
+/// n of 1 to 3,600.
+pub fn samples(s: &mut Seeded) -> u64 {
+    match s.below(8) {
+        0 => 1,
+        1 => s.within(2, 9),
+        2 => s.within(10, 100),
+        3 => s.within(101, 3600),
+        _ => s.one_of(&[2, 3, 4, 7, 8, 12, 24, 36, 72, 360, 3599, 3600]),
+    }
+}
+
+fn odd_tolerance(s: &mut Seeded) -> f64 {
+    s.one_of(&[f64::NAN, f64::INFINITY, f64::NEG_INFINITY, 0.0, -0.0, 180.0, 179.99999999999997, 1e-300, -1e-300, 5e-324, f64::MAX])
+}
+
+/// Settings for a sweep of n rolls: without a configured roll mostly a tolerance below 180 / n, as a larger one marks nothing.
+pub fn for_sweep(s: &mut Seeded, plan: &mut Plan, n: u64) {
+    let half = 180.0 / n as f64;
+    plan.roll_deg = s.once_in(5).then(|| roll(s, plan));
+    if plan.roll_deg.is_some() {
+        return for_roll(s, plan);
+    }
+    plan.tolerance_deg = match s.below(16) {
+        0 => odd_tolerance(s),
+        1 => s.between(half, 200.0),
+        2 => half,
+        3 => -s.unit(),
+        // The distance of some cell to a sample, or to the nearest one: not beyond it.
+        4 => difference(s.below(n) as f64 * (360.0 / n as f64), some_roll(s, plan)),
+        5 | 6 => {
+            let phase = remainder(some_roll(s, plan), 2.0 * half);
+            phase.min(2.0 * half - phase)
+        }
+        _ => s.unit() * half,
+    };
+}
+
+/// Settings for marks at one roll: a tolerance between 0 and 180, the configured roll as it is.
+pub fn for_roll(s: &mut Seeded, plan: &mut Plan) {
+    plan.tolerance_deg = match s.below(12) {
+        0 => odd_tolerance(s),
+        1 => -s.unit(),
+        2 => {
+            let other = plan.roll_deg.unwrap_or_else(|| s.between(0.0, 360.0));
+            difference(other, some_roll(s, plan))
+        }
+        _ => s.between(0.0, 180.0),
+    };
+}

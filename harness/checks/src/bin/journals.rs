@@ -1,0 +1,322 @@
+//! Begin, work, cut, recover and collect over random lists against section 4's ledger, and over damaged journals against its bytes.
+//! `journals [FACTOR]` multiplies the number of lists.
+use cases::{plans, Seeded};
+use model::journal::{Sweep, HEADER, LINE};
+use model::ledger::{Entry, Ledger, Said};
+use model::{plan::Rolls, Answer};
+use std::process::exit;
+
+/// The four calls, on a buffer and a used length.
+trait Machine {
+    fn begin(&self, sweep: &Sweep, journal: &mut [u8], used: u64) -> Answer<u64>;
+    fn work(&self, sweep: &Sweep, chunk: u64, journal: &mut [u8], used: u64) -> Answer<u64>;
+    fn recover(&self, sweep: &Sweep, journal: &[u8], used: u64) -> Answer<u64>;
+    fn collect(&self, sweep: &Sweep, journal: &[u8], used: u64, mask: &mut [u8]) -> Answer<u64>;
+}
+
+/// The library under its C names.
+struct Library;
+
+fn lent(sweep: &Sweep) -> wilfnusk::Plan<'_> {
+    let p = &sweep.plan;
+    wilfnusk::Plan {
+        targets: &p.targets,
+        suns: &p.suns,
+        observers: &p.observers,
+        tolerance_deg: p.tolerance_deg,
+        roll_deg: p.roll_deg,
+        panel_normal: p.panel_normal,
+    }
+}
+
+impl Machine for Library {
+    fn begin(&self, sweep: &Sweep, journal: &mut [u8], used: u64) -> Answer<u64> {
+        lent(sweep).begin(sweep.n, journal, used).map_err(|r| r.number())
+    }
+    fn work(&self, sweep: &Sweep, chunk: u64, journal: &mut [u8], used: u64) -> Answer<u64> {
+        lent(sweep).work(sweep.n, chunk, journal, used).map_err(|r| r.number())
+    }
+    fn recover(&self, sweep: &Sweep, journal: &[u8], used: u64) -> Answer<u64> {
+        lent(sweep).recover(sweep.n, journal, used).map_err(|r| r.number())
+    }
+    fn collect(&self, sweep: &Sweep, journal: &[u8], used: u64, mask: &mut [u8]) -> Answer<u64> {
+        lent(sweep).collect(sweep.n, journal, used, mask).map_err(|r| r.number())
+    }
+}
+
+/// Section 4's bytes in plain Rust, so that the model itself is compared with its ledger.
+struct Bytes;
+
+impl Machine for Bytes {
+    fn begin(&self, sweep: &Sweep, journal: &mut [u8], used: u64) -> Answer<u64> {
+        let header = sweep.begin(journal.len(), used)?;
+        journal[..HEADER].copy_from_slice(header);
+        Ok(HEADER as u64)
+    }
+    fn work(&self, sweep: &Sweep, chunk: u64, journal: &mut [u8], used: u64) -> Answer<u64> {
+        let line = sweep.work(chunk, journal, used)?;
+        journal[used as usize..][..LINE].copy_from_slice(line);
+        Ok(used + LINE as u64)
+    }
+    fn recover(&self, sweep: &Sweep, journal: &[u8], used: u64) -> Answer<u64> {
+        sweep.recover(journal, used)
+    }
+    fn collect(&self, sweep: &Sweep, journal: &[u8], used: u64, mask: &mut [u8]) -> Answer<u64> {
+        let (held, sum) = sweep.collect(journal, used, mask.len())?;
+        mask[..held.len()].copy_from_slice(&held);
+        Ok(sum)
+    }
+}
+
+#[derive(Default)]
+struct Tally {
+    lists: u64,
+    entries: u64,
+    accepted: u64,
+    cuts: u64,
+    collected: u64,
+    damaged: u64,
+    differ: u64,
+}
+
+impl Tally {
+    fn same<T: PartialEq + std::fmt::Debug>(&mut self, what: &dyn Fn() -> String, ours: T, theirs: T) {
+        if ours != theirs {
+            self.differ += 1;
+            if self.differ <= 10 {
+                println!("DIFFERS {}\n  library {ours:?}\n  model   {theirs:?}", what());
+            }
+        }
+    }
+}
+
+const FILL: u8 = 0xa5;
+
+/// A chunk that exists, mostly; sometimes none, or a number that must not be cut down to one that does.
+fn chunk(s: &mut Seeded, sweep: &Sweep) -> u64 {
+    let chunks = sweep.chunks() as u64;
+    match s.below(12) {
+        0 => chunks,
+        1 => s.one_of(&[1 << 32, 1 << 40, u64::MAX, (1 << 32) + 1, 1 << 63, 16_384]),
+        _ if chunks == 0 => 0,
+        _ => s.below(chunks),
+    }
+}
+
+/// The journal's buffer for a call that may add `more` bytes to `used`: it always holds J.
+fn room(s: &mut Seeded, used: usize, more: usize) -> usize {
+    match s.below(6) {
+        0 => used + s.index(more),
+        1 => used + more,
+        _ => used + more + s.index(100),
+    }
+}
+
+/// One list of entries from an empty journal. Every entry gives the same answer and leaves the same bytes as the ledger.
+fn list(s: &mut Seeded, sweep: &Sweep, machine: &dyn Machine, t: &mut Tally) {
+    let mut ledger = Ledger::new(sweep);
+    let mut file: Vec<u8> = Vec::new();
+    let cells = sweep.mask.len();
+    let entries = s.within(1, 6 + 3 * sweep.chunks() as u64);
+    let mut history = Vec::new();
+    let unworked = s.index(sweep.chunks() + 1);
+    t.lists += 1;
+    for _ in 0..entries {
+        let entry = match s.below(16) {
+            0 => Entry::Collect { lent: s.one_of(&[cells, cells + 3, cells.saturating_sub(1), 0]) },
+            1 => Entry::Begin { lent: room(s, file.len(), HEADER) },
+            2 | 3 => Entry::Recover,
+            4..=6 if ledger.cuttable() > 0 => Entry::Cut { k: s.index(ledger.cuttable() + 1) },
+            _ if file.is_empty() => Entry::Begin { lent: room(s, 0, HEADER) },
+            7 | 8 => Entry::Work { chunk: chunk(s, sweep), lent: room(s, file.len(), LINE) },
+            // Lists that come to an end: the next chunk, from one that differs by list.
+            _ => {
+                let lines = file.len().saturating_sub(HEADER) / LINE;
+                match sweep.chunks() {
+                    0 => Entry::Collect { lent: cells },
+                    n if lines >= n => Entry::Collect { lent: cells },
+                    n => Entry::Work { chunk: ((lines + unworked) % n) as u64, lent: file.len() + 100 },
+                }
+            }
+        };
+        history.push(entry);
+        t.entries += 1;
+        let used = file.len() as u64;
+        let cuttable = ledger.cuttable();
+        let said = ledger.enter(entry);
+        let mut buffer = file.clone();
+        let mut mask = vec![FILL; if let Entry::Collect { lent } = entry { lent } else { 0 }];
+        let answer = match entry {
+            Entry::Begin { lent } => {
+                buffer.resize(lent.max(file.len()), FILL);
+                machine.begin(sweep, &mut buffer, used)
+            }
+            Entry::Work { chunk, lent } => {
+                buffer.resize(lent, FILL);
+                machine.work(sweep, chunk, &mut buffer, used)
+            }
+            Entry::Cut { k } => {
+                t.cuts += 1;
+                Ok(used - (cuttable - k) as u64)
+            }
+            Entry::Recover => machine.recover(sweep, &buffer, used),
+            Entry::Collect { .. } => machine.collect(sweep, &buffer, used, &mut mask),
+        };
+        let shown = || format!("{:?} n {} after {history:?}", sweep.plan, sweep.n);
+        t.same(&shown, answer.map(|_| ()), said.as_ref().map(|_| ()).map_err(|&e| e));
+        if answer.is_ok() {
+            t.accepted += 1;
+        }
+        let used = match (&said, answer) {
+            (Ok(Said::Collected(expected, sum)), Ok(answer)) => {
+                t.collected += 1;
+                t.same(&shown, answer, *sum);
+                t.same(&shown, &mask[..cells], expected);
+                t.same(&shown, mask[cells..].iter().all(|&b| b == FILL), true);
+                used
+            }
+            (Ok(Said::Done), Ok(after)) => after,
+            _ => {
+                t.same(&shown, mask.iter().all(|&b| b == FILL), true);
+                used
+            }
+        };
+        // What the call did not add stands: the bytes before, and beyond the new used length.
+        let kept = (used as usize).min(file.len());
+        t.same(&shown, &buffer[..kept], &file[..kept]);
+        t.same(&shown, buffer[(used as usize).max(file.len())..].iter().all(|&b| b == FILL), true);
+        buffer.truncate(used as usize);
+        file = buffer;
+        t.same(&shown, &file, &ledger.journal());
+        if t.differ > 0 {
+            return;
+        }
+    }
+}
+
+/// A journal as a disk may give it back: some lines, then bytes changed, lost, doubled, or of another plan.
+fn damaged(s: &mut Seeded, sweep: &Sweep, other: &Sweep) -> Vec<u8> {
+    let mut j = sweep.header.clone();
+    for _ in 0..s.index(2 * sweep.chunks() + 2) {
+        let own = if s.once_in(12) { other } else { sweep };
+        if own.chunks() > 0 {
+            let c = s.index(own.chunks());
+            if s.once_in(3) || j[HEADER..].chunks(LINE).all(|l| l[..8] != own.lines[c][..8]) {
+                j.extend(&own.lines[c]);
+            }
+        }
+    }
+    for _ in 0..s.one_of(&[0, 0, 1, 1, 2, 5]) {
+        let at = s.index(j.len());
+        match s.below(10) {
+            0 => j[at] = s.bits() as u8,
+            1 => j[at] = s.one_of(b"0123456789abcdefABF\n g"),
+            2 => drop(j.remove(at)),
+            3 => j.insert(at, b'0'),
+            4 => j.truncate(at),
+            5 if j.len() > HEADER => j.truncate(HEADER + (j.len() - HEADER) / LINE * LINE),
+            _ if j.len() > HEADER + LINE => {
+                // A digit of a line's chunk, mask or probes.
+                let line = s.index((j.len() - HEADER) / LINE);
+                let digit = s.one_of(&[6, 7, 8, 15, 20, 23, 24, 28, 29, 30, 31]);
+                j[HEADER + LINE * line + digit] = s.one_of(b"0123456789abcdef");
+            }
+            _ => {}
+        }
+        if j.is_empty() {
+            break;
+        }
+    }
+    j
+}
+
+/// The four calls on bytes that nobody vouches for.
+fn on_damage(s: &mut Seeded, sweep: &Sweep, other: &Sweep, machine: &dyn Machine, t: &mut Tally) {
+    let j = damaged(s, sweep, other);
+    t.damaged += 1;
+    let mut buffer = j.clone();
+    let more = s.one_of(&[0, 32, 33, 107, 200]);
+    buffer.resize(j.len() + more, FILL);
+    let used = if s.once_in(20) { s.one_of(&[buffer.len() as u64 + 1, u64::MAX, 1 << 32, 0]) } else { j.len() as u64 };
+    let c = chunk(s, sweep);
+    let shown = || format!("{:?} n {} chunk {c} used {used} of {:?}", sweep.plan, sweep.n, String::from_utf8_lossy(&buffer));
+    let mask_room = sweep.mask.len() + s.one_of(&[0, 1, 5]);
+    let mut ours = (buffer.clone(), buffer.clone(), vec![FILL; mask_room]);
+    let mut theirs = ours.clone();
+    let answers = |m: &dyn Machine, b: &mut (Vec<u8>, Vec<u8>, Vec<u8>)| {
+        [
+            m.recover(sweep, &buffer, used),
+            m.collect(sweep, &buffer, used, &mut b.2),
+            m.begin(sweep, &mut b.0, used),
+            m.work(sweep, c, &mut b.1, used),
+        ]
+    };
+    let (a, b) = (answers(machine, &mut ours), answers(&Bytes, &mut theirs));
+    t.same(&shown, a, b);
+    t.same(&shown, &ours, &theirs);
+}
+
+/// Plans of few cells, chunks that are not full, no cells at all, and one of many chunks.
+fn sweeps(s: &mut Seeded) -> Vec<Sweep> {
+    let sizes = [(0, 0), (0, 3), (2, 0), (1, 1), (1, 2), (7, 9), (8, 8), (5, 13), (3, 43), (10, 20), (1, 640), (31, 33)];
+    let one = |s: &mut Seeded, k: usize| {
+        let (rows, times) = sizes[k % sizes.len()];
+        let targets = if s.once_in(4) { plans::Targets::Any } else { plans::Targets::Unit };
+        let mut plan = plans::plan(s, targets, rows, times);
+        let n = s.one_of(&[1, 1, 2, 3, 5, 8, 12]);
+        plans::for_sweep(s, &mut plan, n);
+        assert_eq!(plan.refusal(Rolls::Sampled(n), false), Ok(()));
+        Sweep::new(plan, n)
+    };
+    (0..sizes.len() * 30).map(|k| one(s, k)).collect()
+}
+
+/// Document 01's example: both lines of its journal.
+fn example(machine: &dyn Machine, t: &mut Tally) {
+    let plan = model::Plan {
+        targets: vec![1.0, 0.0, 0.0],
+        suns: vec![0.0, 1.0, 0.0, 0.0, 0.0, 1.0],
+        observers: vec![0.0; 6],
+        tolerance_deg: 10.0,
+        roll_deg: None,
+        panel_normal: [0.0, 1.0, 0.0],
+    };
+    let sweep = Sweep::new(plan, 1);
+    let mut journal = vec![FILL; HEADER + LINE];
+    let used = machine.begin(&sweep, &mut journal, 0).unwrap_or(0);
+    let used = machine.work(&sweep, 0, &mut journal, used).unwrap_or(0);
+    let zeros = "0".repeat(16);
+    let expected = format!(
+        "0000000100000002000000014024000000000000{}{zeros}{zeros}3ff0000000000000{zeros}\n00000000000000000000000200000002\n",
+        "00"
+    );
+    let what = || "document 01's example".to_string();
+    t.same(&what, used, expected.len() as u64);
+    t.same(&what, String::from_utf8_lossy(&journal).into_owned(), expected);
+}
+
+fn main() {
+    let arguments: Vec<String> = std::env::args().skip(1).collect();
+    let own = arguments.iter().any(|a| a == "model");
+    let factor: u64 = arguments.iter().find_map(|a| a.parse().ok()).unwrap_or(1);
+    let machine: &dyn Machine = if own { &Bytes } else { &Library };
+    let mut s = Seeded::new(4);
+    let sweeps = sweeps(&mut s);
+    let mut t = Tally::default();
+    example(machine, &mut t);
+    for k in 0..120_000 * factor {
+        let sweep = &sweeps[s.index(sweeps.len())];
+        list(&mut s, sweep, machine, &mut t);
+        if k % 2 == 0 {
+            let other = &sweeps[s.index(sweeps.len())];
+            on_damage(&mut s, sweep, other, machine, &mut t);
+        }
+    }
+    println!(
+        "journals: {} lists of {} entries ({} accepted, {} cuts, {} collected) against the ledger, {} damaged journals: {} differ",
+        t.lists, t.entries, t.accepted, t.cuts, t.collected, t.damaged, t.differ
+    );
+    if t.differ > 0 || t.lists < 100_000 {
+        exit(1);
+    }
+}

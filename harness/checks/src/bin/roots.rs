@@ -1,0 +1,152 @@
+//! The root against the machine's own, the arctangent against section 1's rule in plain Rust, and the root's time.
+//! `roots [FACTOR]` multiplies the number of inputs.
+use cases::Seeded;
+use model::arithmetic::{arctangent, bits};
+use std::{hint::black_box, process::exit, time::Instant};
+
+struct Tally {
+    compared: u64,
+    differ: u64,
+}
+
+impl Tally {
+    fn root(&mut self, x: f64) {
+        self.compared += 1;
+        let (ours, machine) = (wilfnusk::sqrt(x), x.sqrt());
+        if bits(ours) != bits(machine) {
+            self.say(format!("root of {:016x}: {:016x}, the machine's {:016x}", x.to_bits(), bits(ours), bits(machine)));
+        }
+    }
+    /// The root of x and of its two neighbours.
+    fn around(&mut self, x: f64) {
+        for step in [-1, 0, 1] {
+            self.root(f64::from_bits(x.to_bits().wrapping_add_signed(step)));
+        }
+    }
+    fn angle(&mut self, y: f64, z: f64) {
+        self.compared += 1;
+        let (ours, rule) = (wilfnusk::atan2(y, z), arctangent(y, z));
+        if bits(ours) != bits(rule) {
+            self.say(format!(
+                "arctangent of {:016x} {:016x}: {:016x}, by the rule {:016x}",
+                y.to_bits(),
+                z.to_bits(),
+                bits(ours),
+                bits(rule)
+            ));
+        }
+    }
+    fn say(&mut self, text: String) {
+        self.differ += 1;
+        if self.differ <= 10 {
+            println!("DIFFERS {text}");
+        }
+    }
+}
+
+const SPECIAL: [u64; 22] = [
+    0,
+    1,
+    2,
+    3,
+    0x000f_ffff_ffff_ffff,
+    0x0010_0000_0000_0000,
+    0x0010_0000_0000_0001,
+    0x3fef_ffff_ffff_ffff,
+    0x3ff0_0000_0000_0000,
+    0x3ff0_0000_0000_0001,
+    0x4000_0000_0000_0000,
+    0x4010_0000_0000_0000,
+    0x7fef_ffff_ffff_ffff,
+    0x7ff0_0000_0000_0000,
+    0x7ff0_0000_0000_0001,
+    0x7ff8_0000_0000_0000,
+    0x7fff_ffff_ffff_ffff,
+    0x4009_21fb_5444_2d18,
+    0x3d71_9799_812d_ea11,
+    0x54b2_49ad_2594_c37d,
+    0x3cb0_0000_0000_0000,
+    0x4340_0000_0000_0000,
+];
+
+fn special(s: &mut Seeded) -> f64 {
+    f64::from_bits(s.one_of(&SPECIAL) | s.below(2) << 63)
+}
+
+fn roots(s: &mut Seeded, factor: u64) -> Tally {
+    let mut t = Tally { compared: 0, differ: 0 };
+    for b in SPECIAL {
+        t.root(f64::from_bits(b));
+        t.root(f64::from_bits(b | 1 << 63));
+    }
+    assert_eq!(wilfnusk::sqrt(2.0).to_bits(), 0x3ff6_a09e_667f_3bcd);
+    for _ in 0..2_000_000 * factor {
+        t.root(f64::from_bits(s.bits()));
+    }
+    for _ in 0..1000 * factor {
+        for exponent in 0..2047u64 {
+            t.root(f64::from_bits(exponent << 52 | s.bits() >> 12));
+        }
+    }
+    for _ in 0..2_000_000 * factor {
+        let width = s.within(1, 52);
+        t.root(f64::from_bits(s.bits() >> (64 - width)));
+    }
+    for _ in 0..700_000 * factor {
+        // An exact square; one at the edge of rounding; one halfway between two roots; each scaled by a power of four.
+        let even = 2.0f64.powi(2 * (s.below(500) as i32 - 250));
+        let root = s.below(1 << 26) as f64 + 1.0;
+        t.around(root * root * even);
+        let root = f64::from_bits(0x3ff0_0000_0000_0000 | s.bits() >> 12);
+        t.around(root * root * even);
+        let half = (s.bits() >> 11 | 1 << 53) as u128 * 2 + 1;
+        t.around((half * half) as f64 * even);
+    }
+    t
+}
+
+fn angles(s: &mut Seeded, factor: u64) -> Tally {
+    let mut t = Tally { compared: 0, differ: 0 };
+    for y in SPECIAL {
+        for z in SPECIAL {
+            for signs in 0..4u64 {
+                t.angle(f64::from_bits(y | signs << 63), f64::from_bits(z | signs >> 1 << 63));
+            }
+        }
+    }
+    for _ in 0..500_000 * factor {
+        t.angle(f64::from_bits(s.bits()), f64::from_bits(s.bits()));
+        let (y, z) = (s.between(-1.0, 1.0), s.between(-1.0, 1.0));
+        t.angle(y, z);
+        t.angle(special(s), z);
+        let near = f64::from_bits(y.to_bits().wrapping_add(s.below(5)).wrapping_sub(2));
+        t.angle(y, near);
+    }
+    t
+}
+
+/// Nanoseconds a call, the best of five runs.
+fn time(xs: &[f64], f: impl Fn(f64) -> f64) -> f64 {
+    let run = || {
+        let start = Instant::now();
+        for &x in xs {
+            black_box(f(black_box(x)));
+        }
+        start.elapsed().as_secs_f64() / xs.len() as f64 * 1e9
+    };
+    (0..5).map(|_| run()).fold(f64::MAX, f64::min)
+}
+
+fn main() {
+    let factor = std::env::args().nth(1).map_or(1, |a| a.parse().expect("a whole number"));
+    let mut s = Seeded::new(1);
+    let (r, a) = (roots(&mut s, factor), angles(&mut s, factor));
+    println!("roots: {} inputs, {} differ from the machine's", r.compared, r.differ);
+    println!("arctangents: {} pairs, {} differ from the rule", a.compared, a.differ);
+    let positive: Vec<f64> = (0..1 << 20).map(|_| f64::from_bits(s.below(0x7ff0_0000_0000_0000))).collect();
+    let (ours, machine) = (time(&positive, wilfnusk::sqrt), time(&positive, f64::sqrt));
+    println!("root: {ours:.1} ns, the machine's {machine:.1} ns, ratio {:.1} (random positive doubles)", ours / machine);
+    if r.differ + a.differ > 0 || r.compared < 10_000_000 {
+        exit(1);
+    }
+}

@@ -1,0 +1,22 @@
+//! Document 01 in plain Rust: a second implementation, written from its text for comparing, not for speed.
+//!
+//! A refusal is its number; `Answer` is what a call says.
+pub mod arithmetic;
+pub mod journal;
+pub mod ledger;
+pub mod plan;
+pub mod roll;
+pub mod windows;
+
+pub use plan::Plan;
+pub use roll::{Optimal, Roll};
+
+pub type Answer<A> = Result<A, u8>;
+
+/// The number of the first condition that holds.
+pub fn first(conditions: &[(bool, u8)]) -> Answer<()> {
+    match conditions.iter().find(|(holds, _)| *holds) {
+        Some((_, number)) => Err(*number),
+        None => Ok(()),
+    }
+}
