@@ -4,9 +4,9 @@ use std::{env, path::PathBuf, process::exit};
 
 fn main() {
     println!("cargo:rerun-if-env-changed=WILFNUSK_LIB_DIR");
-    let dir = env::var("WILFNUSK_LIB_DIR").map(PathBuf::from).unwrap_or_else(|_| {
-        PathBuf::from(env::var("CARGO_MANIFEST_DIR").unwrap()).join("../../target/staticlib")
-    });
+    let dir = env::var("WILFNUSK_LIB_DIR")
+        .map(PathBuf::from)
+        .unwrap_or_else(|_| PathBuf::from(env::var("CARGO_MANIFEST_DIR").unwrap()).join("../../target/staticlib"));
     let archive = dir.join("libwilfnusk.a");
     if !archive.exists() {
         eprintln!("{} is not there: run `rt staticlib wilfnusk` in the repository, or set WILFNUSK_LIB_DIR", archive.display());

@@ -160,10 +160,24 @@ pub fn cell(target: [f64; 3], sun: [f64; 3], observer: [f64; 3], panel_normal: [
 pub fn violation_windows(mask: &[u8], times: &[i64], severities: &[f64], out: Columns) -> Result<u64, Refusal> {
     accepted(Call::Windows, unsafe {
         sys::wilfnusk_violation_windows(
-            mask.as_ptr(), mask.len(), times.as_ptr(), times.len(), severities.as_ptr(), severities.len(),
-            out.first.as_mut_ptr(), out.first.len(), out.last.as_mut_ptr(), out.last.len(),
-            out.first_time.as_mut_ptr(), out.first_time.len(), out.last_time.as_mut_ptr(), out.last_time.len(),
-            out.severity.as_mut_ptr(), out.severity.len(), out.is_last.as_mut_ptr(), out.is_last.len(),
+            mask.as_ptr(),
+            mask.len(),
+            times.as_ptr(),
+            times.len(),
+            severities.as_ptr(),
+            severities.len(),
+            out.first.as_mut_ptr(),
+            out.first.len(),
+            out.last.as_mut_ptr(),
+            out.last.len(),
+            out.first_time.as_mut_ptr(),
+            out.first_time.len(),
+            out.last_time.as_mut_ptr(),
+            out.last_time.len(),
+            out.severity.as_mut_ptr(),
+            out.severity.len(),
+            out.is_last.as_mut_ptr(),
+            out.is_last.len(),
         )
     })
 }
@@ -171,10 +185,22 @@ pub fn violation_windows(mask: &[u8], times: &[i64], severities: &[f64], out: Co
 pub fn visibility_windows(mask: &[u8], times: &[i64], out: Columns) -> Result<u64, Refusal> {
     accepted(Call::Windows, unsafe {
         sys::wilfnusk_visibility_windows(
-            mask.as_ptr(), mask.len(), times.as_ptr(), times.len(),
-            out.first.as_mut_ptr(), out.first.len(), out.last.as_mut_ptr(), out.last.len(),
-            out.first_time.as_mut_ptr(), out.first_time.len(), out.last_time.as_mut_ptr(), out.last_time.len(),
-            out.severity.as_mut_ptr(), out.severity.len(), out.is_last.as_mut_ptr(), out.is_last.len(),
+            mask.as_ptr(),
+            mask.len(),
+            times.as_ptr(),
+            times.len(),
+            out.first.as_mut_ptr(),
+            out.first.len(),
+            out.last.as_mut_ptr(),
+            out.last.len(),
+            out.first_time.as_mut_ptr(),
+            out.first_time.len(),
+            out.last_time.as_mut_ptr(),
+            out.last_time.len(),
+            out.severity.as_mut_ptr(),
+            out.severity.len(),
+            out.is_last.as_mut_ptr(),
+            out.is_last.len(),
         )
     })
 }
@@ -182,7 +208,14 @@ pub fn visibility_windows(mask: &[u8], times: &[i64], out: Columns) -> Result<u6
 pub fn violation_records(mask: &[u8], times: &[i64], severities: &[f64], out: &mut [Window]) -> Result<u64, Refusal> {
     accepted(Call::Windows, unsafe {
         sys::wilfnusk_violation_records(
-            mask.as_ptr(), mask.len(), times.as_ptr(), times.len(), severities.as_ptr(), severities.len(), out.as_mut_ptr(), out.len(),
+            mask.as_ptr(),
+            mask.len(),
+            times.as_ptr(),
+            times.len(),
+            severities.as_ptr(),
+            severities.len(),
+            out.as_mut_ptr(),
+            out.len(),
         )
     })
 }
@@ -196,8 +229,14 @@ pub fn visibility_records(mask: &[u8], times: &[i64], out: &mut [Window]) -> Res
 pub fn expand(first_time: &[i64], last_time: &[i64], times: &[i64], mask: &mut [u8]) -> Result<(), Refusal> {
     accepted(Call::Expand, unsafe {
         sys::wilfnusk_expand(
-            first_time.as_ptr(), first_time.len(), last_time.as_ptr(), last_time.len(),
-            times.as_ptr(), times.len(), mask.as_mut_ptr(), mask.len(),
+            first_time.as_ptr(),
+            first_time.len(),
+            last_time.as_ptr(),
+            last_time.len(),
+            times.as_ptr(),
+            times.len(),
+            mask.as_mut_ptr(),
+            mask.len(),
         )
     })
     .map(drop)

@@ -1,0 +1,89 @@
+//! The calls as one trait, so that the library and the plain model can be asked the same: `Library` calls the C names, `Model` is
+//! document 01 in plain Rust.
+mod library;
+
+pub use library::{lent, Library};
+
+use model::journal::Sweep;
+use model::windows::Window;
+use model::{Answer, Optimal, Plan, Roll};
+
+/// What `lent` lengths mean: the room of each output.
+pub trait Calls {
+    fn difference(&self, a: f64, b: f64) -> f64;
+    fn cell(&self, target: [f64; 3], sun: [f64; 3], observer: [f64; 3], panel: [f64; 3]) -> Answer<Optimal>;
+    fn named_values(&self, plan: &Plan, lent: usize) -> Answer<Vec<f64>>;
+    fn in_constraint_batch(&self, plan: &Plan, lent: usize) -> Answer<Vec<u8>>;
+    fn in_constraint_batch_at_roll(&self, plan: &Plan, roll: Roll, lent: usize) -> Answer<Vec<u8>>;
+    fn constrained_at_every_roll(&self, plan: &Plan, n: u64, lent: usize) -> Answer<Vec<u8>>;
+    fn evaluate(&self, plan: &Plan, target: u64, masks: usize, severities: usize) -> Answer<(Vec<u8>, Vec<f64>)>;
+    fn field_of_regard_violated_batch(&self, plan: &Plan, time: u64, n: u64, lent: usize) -> Answer<Vec<u8>>;
+    fn field_of_regard_violated_at_roll(&self, plan: &Plan, time: u64, roll: f64, lent: usize) -> Answer<Vec<u8>>;
+    /// Begin, work on the chunks in this order, and collect: the journal, the mask and the sum of probes.
+    fn swept(&self, plan: &Plan, n: u64, order: &[u64]) -> Answer<(Vec<u8>, Vec<u8>, u64)>;
+    fn violation_windows(&self, mask: &[u8], times: &[i64], severities: &[f64], columns: [usize; 6]) -> Answer<Vec<Window>>;
+    fn visibility_windows(&self, mask: &[u8], times: &[i64], columns: [usize; 6]) -> Answer<Vec<Window>>;
+    fn violation_records(&self, mask: &[u8], times: &[i64], severities: &[f64], lent: usize) -> Answer<Vec<Window>>;
+    fn visibility_records(&self, mask: &[u8], times: &[i64], lent: usize) -> Answer<Vec<Window>>;
+    fn expand(&self, first: &[i64], last: &[i64], times: &[i64], lent: usize) -> Answer<Vec<u8>>;
+    fn seconds(&self, first: &[i64], last: &[i64]) -> Answer<f64>;
+}
+
+pub struct Model;
+
+impl Calls for Model {
+    fn difference(&self, a: f64, b: f64) -> f64 {
+        model::roll::difference(a, b)
+    }
+    fn cell(&self, target: [f64; 3], sun: [f64; 3], observer: [f64; 3], panel: [f64; 3]) -> Answer<Optimal> {
+        model::roll::cell(target, sun, observer, panel)
+    }
+    fn named_values(&self, plan: &Plan, lent: usize) -> Answer<Vec<f64>> {
+        plan.named_values(lent)
+    }
+    fn in_constraint_batch(&self, plan: &Plan, lent: usize) -> Answer<Vec<u8>> {
+        plan.in_constraint_batch(lent)
+    }
+    fn in_constraint_batch_at_roll(&self, plan: &Plan, roll: Roll, lent: usize) -> Answer<Vec<u8>> {
+        plan.in_constraint_batch_at_roll(roll, lent)
+    }
+    fn constrained_at_every_roll(&self, plan: &Plan, n: u64, lent: usize) -> Answer<Vec<u8>> {
+        plan.constrained_at_every_roll(n, lent)
+    }
+    fn evaluate(&self, plan: &Plan, target: u64, masks: usize, severities: usize) -> Answer<(Vec<u8>, Vec<f64>)> {
+        plan.evaluate(target, masks, severities)
+    }
+    fn field_of_regard_violated_batch(&self, plan: &Plan, time: u64, n: u64, lent: usize) -> Answer<Vec<u8>> {
+        plan.field_of_regard_violated_batch(time, n, lent)
+    }
+    fn field_of_regard_violated_at_roll(&self, plan: &Plan, time: u64, roll: f64, lent: usize) -> Answer<Vec<u8>> {
+        plan.field_of_regard_violated_at_roll(time, roll, lent)
+    }
+    fn swept(&self, plan: &Plan, n: u64, order: &[u64]) -> Answer<(Vec<u8>, Vec<u8>, u64)> {
+        let sweep = Sweep::new(plan.clone(), n);
+        let mut journal = sweep.header.clone();
+        for &c in order {
+            journal.extend(&sweep.lines[c as usize]);
+        }
+        let (mask, sum) = sweep.collect(&journal, journal.len() as u64, plan.cells())?;
+        Ok((journal, mask, sum))
+    }
+    fn violation_windows(&self, mask: &[u8], times: &[i64], severities: &[f64], columns: [usize; 6]) -> Answer<Vec<Window>> {
+        model::windows::violation_windows(mask, times, severities, columns)
+    }
+    fn visibility_windows(&self, mask: &[u8], times: &[i64], columns: [usize; 6]) -> Answer<Vec<Window>> {
+        model::windows::visibility_windows(mask, times, columns)
+    }
+    fn violation_records(&self, mask: &[u8], times: &[i64], severities: &[f64], lent: usize) -> Answer<Vec<Window>> {
+        model::windows::violation_windows(mask, times, severities, [lent; 6])
+    }
+    fn visibility_records(&self, mask: &[u8], times: &[i64], lent: usize) -> Answer<Vec<Window>> {
+        model::windows::visibility_windows(mask, times, [lent; 6])
+    }
+    fn expand(&self, first: &[i64], last: &[i64], times: &[i64], lent: usize) -> Answer<Vec<u8>> {
+        model::windows::expand(first, last, times, lent)
+    }
+    fn seconds(&self, first: &[i64], last: &[i64]) -> Answer<f64> {
+        model::windows::seconds(first, last)
+    }
+}

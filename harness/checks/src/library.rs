@@ -1,0 +1,173 @@
+//! The library's calls. Every output is lent full of a pattern, and what a call should leave alone must still hold it afterwards:
+//! all of it where the call refuses, else the places beyond the answer.
+use crate::Calls;
+use model::windows::Window;
+use model::{Answer, Optimal, Plan, Roll};
+use wilfnusk::{Columns, OptimalRoll, Refusal};
+
+pub struct Library;
+
+const BYTE: u8 = 0xa5;
+const FLOAT: f64 = -77.125;
+const NUMBER: u64 = 0xdead_beef_0bad_cafe;
+const TIME: i64 = -0x1234_5678_9abc;
+const RECORD: wilfnusk::Window =
+    wilfnusk::Window { first: NUMBER, last: NUMBER, first_time: TIME, last_time: TIME, severity: FLOAT, is_last: NUMBER };
+
+/// The plan, borrowed as the wrapper takes it.
+pub fn lent(p: &Plan) -> wilfnusk::Plan<'_> {
+    wilfnusk::Plan {
+        targets: &p.targets,
+        suns: &p.suns,
+        observers: &p.observers,
+        tolerance_deg: p.tolerance_deg,
+        roll_deg: p.roll_deg,
+        panel_normal: p.panel_normal,
+    }
+}
+
+/// Lends a list of `lent` patterns, and gives its first `written` places if the call is accepted.
+fn output<T: Copy + PartialEq>(
+    lent: usize,
+    pattern: T,
+    written: usize,
+    call: impl FnOnce(&mut [T]) -> Result<(), Refusal>,
+) -> Answer<Vec<T>> {
+    let mut out = vec![pattern; lent];
+    let answer = call(&mut out);
+    let touched = if answer.is_ok() { written.min(lent) } else { 0 };
+    assert!(out[touched..].iter().all(|x| *x == pattern), "{answer:?}, and a place that is not its to write has changed");
+    out.truncate(touched);
+    answer.map(|()| out).map_err(|r| r.number())
+}
+
+/// Lends six columns, and gives the windows that the call says it wrote.
+fn columns(lent: [usize; 6], call: impl FnOnce(Columns) -> Result<u64, Refusal>) -> Answer<Vec<Window>> {
+    let (mut first, mut last) = (vec![NUMBER; lent[0]], vec![NUMBER; lent[1]]);
+    let (mut first_time, mut last_time) = (vec![TIME; lent[2]], vec![TIME; lent[3]]);
+    let (mut severity, mut is_last) = (vec![FLOAT; lent[4]], vec![BYTE; lent[5]]);
+    let answer = call(Columns {
+        first: &mut first,
+        last: &mut last,
+        first_time: &mut first_time,
+        last_time: &mut last_time,
+        severity: &mut severity,
+        is_last: &mut is_last,
+    });
+    let n = answer.as_ref().map_or(0, |&n| n as usize);
+    let beyond = first[n..].iter().all(|&x| x == NUMBER)
+        && last[n..].iter().all(|&x| x == NUMBER)
+        && first_time[n..].iter().all(|&x| x == TIME)
+        && last_time[n..].iter().all(|&x| x == TIME)
+        && severity[n..].iter().all(|&x| x == FLOAT)
+        && is_last[n..].iter().all(|&x| x == BYTE);
+    assert!(beyond, "{answer:?}, and a place that is not its to write has changed");
+    let window = |k: usize| Window {
+        first: first[k] as usize,
+        last: last[k] as usize,
+        first_time: first_time[k],
+        last_time: last_time[k],
+        severity: severity[k],
+        is_last: flag(is_last[k] as u64),
+    };
+    answer.map(|n| (0..n as usize).map(window).collect()).map_err(|r| r.number())
+}
+
+fn records(lent: usize, call: impl FnOnce(&mut [wilfnusk::Window]) -> Result<u64, Refusal>) -> Answer<Vec<Window>> {
+    let mut out = vec![RECORD; lent];
+    let answer = call(&mut out);
+    let n = answer.as_ref().map_or(0, |&n| n as usize);
+    assert!(out[n..].iter().all(|w| *w == RECORD), "{answer:?}, and a place that is not its to write has changed");
+    let window = |w: &wilfnusk::Window| Window {
+        first: w.first as usize,
+        last: w.last as usize,
+        first_time: w.first_time,
+        last_time: w.last_time,
+        severity: w.severity,
+        is_last: flag(w.is_last),
+    };
+    answer.map(|n| out[..n as usize].iter().map(window).collect()).map_err(|r| r.number())
+}
+
+fn flag(x: u64) -> bool {
+    assert!(x <= 1, "a flag of {x}");
+    x == 1
+}
+
+impl Calls for Library {
+    fn difference(&self, a: f64, b: f64) -> f64 {
+        wilfnusk::circular_diff_deg(a, b)
+    }
+    fn cell(&self, target: [f64; 3], sun: [f64; 3], observer: [f64; 3], panel: [f64; 3]) -> Answer<Optimal> {
+        match wilfnusk::cell(target, sun, observer, panel) {
+            Ok(OptimalRoll::Free) => Ok(Optimal::Free),
+            Ok(OptimalRoll::At(roll)) => Ok(Optimal::At(roll)),
+            Err(refusal) => Err(refusal.number()),
+        }
+    }
+    fn named_values(&self, plan: &Plan, room: usize) -> Answer<Vec<f64>> {
+        output(room, FLOAT, plan.cells(), |out| lent(plan).named_values(out))
+    }
+    fn in_constraint_batch(&self, plan: &Plan, room: usize) -> Answer<Vec<u8>> {
+        output(room, BYTE, plan.cells(), |mask| lent(plan).in_constraint_batch(mask))
+    }
+    fn in_constraint_batch_at_roll(&self, plan: &Plan, roll: Roll, room: usize) -> Answer<Vec<u8>> {
+        let roll = match roll {
+            Roll::Sweep(r) => wilfnusk::Roll::Sweep(r),
+            Roll::Fixed(r) => wilfnusk::Roll::Fixed(r),
+        };
+        output(room, BYTE, plan.cells(), |mask| lent(plan).in_constraint_batch_at_roll(roll, mask))
+    }
+    fn constrained_at_every_roll(&self, plan: &Plan, n: u64, room: usize) -> Answer<Vec<u8>> {
+        output(room, BYTE, plan.cells(), |mask| lent(plan).constrained_at_every_roll(n, mask))
+    }
+    fn evaluate(&self, plan: &Plan, target: u64, masks: usize, severities: usize) -> Answer<(Vec<u8>, Vec<f64>)> {
+        let mut mask = Ok(Vec::new());
+        let severity = output(severities, FLOAT, plan.times(), |severity| {
+            let mut refusal = Ok(());
+            mask = output(masks, BYTE, plan.times(), |mask| {
+                refusal = lent(plan).evaluate(target, mask, severity);
+                refusal
+            });
+            refusal
+        });
+        Ok((mask?, severity?))
+    }
+    fn field_of_regard_violated_batch(&self, plan: &Plan, time: u64, n: u64, room: usize) -> Answer<Vec<u8>> {
+        output(room, BYTE, plan.rows(), |mask| lent(plan).field_of_regard_violated_batch(time, n, mask))
+    }
+    fn field_of_regard_violated_at_roll(&self, plan: &Plan, time: u64, roll: f64, room: usize) -> Answer<Vec<u8>> {
+        output(room, BYTE, plan.rows(), |mask| lent(plan).field_of_regard_violated_at_roll(time, roll, mask))
+    }
+    fn swept(&self, plan: &Plan, n: u64, order: &[u64]) -> Answer<(Vec<u8>, Vec<u8>, u64)> {
+        let number = |r: Refusal| r.number();
+        let p = lent(plan);
+        let mut journal = vec![BYTE; (wilfnusk::HEADER_BYTES + order.len() as u64 * wilfnusk::LINE_BYTES) as usize];
+        let mut used = p.begin(n, &mut journal, 0).map_err(number)?;
+        for &chunk in order {
+            used = p.work(n, chunk, &mut journal, used).map_err(number)?;
+        }
+        let mut sum = 0;
+        let mask = output(plan.cells(), BYTE, plan.cells(), |mask| p.collect(n, &journal, used, mask).map(|s| sum = s))?;
+        journal.truncate(used as usize);
+        Ok((journal, mask, sum))
+    }
+    fn violation_windows(&self, mask: &[u8], times: &[i64], severities: &[f64], room: [usize; 6]) -> Answer<Vec<Window>> {
+        columns(room, |out| wilfnusk::violation_windows(mask, times, severities, out))
+    }
+    fn visibility_windows(&self, mask: &[u8], times: &[i64], room: [usize; 6]) -> Answer<Vec<Window>> {
+        columns(room, |out| wilfnusk::visibility_windows(mask, times, out))
+    }
+    fn violation_records(&self, mask: &[u8], times: &[i64], severities: &[f64], room: usize) -> Answer<Vec<Window>> {
+        records(room, |out| wilfnusk::violation_records(mask, times, severities, out))
+    }
+    fn visibility_records(&self, mask: &[u8], times: &[i64], room: usize) -> Answer<Vec<Window>> {
+        records(room, |out| wilfnusk::visibility_records(mask, times, out))
+    }
+    fn expand(&self, first: &[i64], last: &[i64], times: &[i64], room: usize) -> Answer<Vec<u8>> {
+        output(room, BYTE, times.len(), |mask| wilfnusk::expand(first, last, times, mask))
+    }
+    fn seconds(&self, first: &[i64], last: &[i64]) -> Answer<f64> {
+        wilfnusk::total_violation_duration(first, last).map_err(|r| r.number())
+    }
+}

@@ -1,0 +1,28 @@
+//! Same inputs to the library and to the customer's Rust, every result compared.
+//!
+//! `compare [model] [FACTOR]`: FACTOR times as many inputs; `model` compares the plain model in the library's place.
+mod findings;
+mod plans;
+mod rows;
+mod tally;
+
+use checks::{Calls, Library, Model};
+use std::{process::exit, time::Instant};
+use tally::Tally;
+
+fn main() {
+    let arguments: Vec<String> = std::env::args().skip(1).collect();
+    let calls: &dyn Calls = if arguments.iter().any(|a| a == "model") { &Model } else { &Library };
+    let factor: u64 = arguments.iter().find_map(|a| a.parse().ok()).unwrap_or(1);
+    let mut tally = Tally::default();
+    let start = Instant::now();
+    findings::run(calls, &mut tally);
+    plans::run(calls, &mut tally, factor);
+    let plans = start.elapsed();
+    rows::run(calls, &mut tally, factor);
+    let good = tally.report();
+    println!("{:.1} s for plans, {:.1} s for rows", plans.as_secs_f64(), (start.elapsed() - plans).as_secs_f64());
+    if !good {
+        exit(1);
+    }
+}

@@ -1,0 +1,158 @@
+//! Random plans: rolls, masks of every call, rows, and the sweep through its journal.
+use crate::tally::Tally;
+use cases::plans::{for_roll, for_sweep, plan, roll, samples, Targets};
+use cases::{rows, Seeded};
+use checks::Calls;
+use model::journal::{HEADER, LINE};
+use model::{Optimal, Plan, Roll};
+use oracle::Oracle;
+
+pub fn run(calls: &dyn Calls, t: &mut Tally, factor: u64) {
+    let mut s = Seeded::new(2);
+    differences(calls, t, &mut s, 300_000 * factor);
+    // Plans beyond the Rust's own chunks of 65,536 cells, then many small ones.
+    t.uncounted = true;
+    one(calls, t, &mut s, (301, 401), 3, Targets::Unit);
+    one(calls, t, &mut s, (65_536, 2), 1, Targets::Unit);
+    if factor > 1 {
+        one(calls, t, &mut s, (1024, 1024), 8, Targets::Unit);
+        one(calls, t, &mut s, (16, 65_536), 2, Targets::Any);
+    }
+    t.uncounted = false;
+    while t.cells < 2_200_000 * factor {
+        let n = samples(&mut s);
+        let most = (100_000 / n).clamp(20, 3000);
+        let rows = s.within(1, 40.min(most)) as usize;
+        let times = s.within(1, most / rows as u64 + 1) as usize;
+        let targets = if s.once_in(3) { Targets::Any } else { Targets::Unit };
+        one(calls, t, &mut s, (rows, times), n, targets);
+    }
+}
+
+fn differences(calls: &dyn Calls, t: &mut Tally, s: &mut Seeded, count: u64) {
+    let none = Plan::default();
+    for _ in 0..count {
+        let (a, b) = if s.once_in(4) { (f64::from_bits(s.bits()), f64::from_bits(s.bits())) } else { (roll(s, &none), roll(s, &none)) };
+        t.same("difference", Ok(calls.difference(a, b)), oracle::circular_diff_deg(a, b), &|| format!("{a:e} {b:e}"));
+    }
+}
+
+/// One geometry: first with settings for sweeps of n rolls, then with settings for marks at one roll.
+fn one(calls: &dyn Calls, t: &mut Tally, s: &mut Seeded, (rows, times): (usize, usize), n: u64, targets: Targets) {
+    let mut p = plan(s, targets, rows, times);
+    let instants = rows::times(s, times);
+    let cells = p.cells();
+    let room = cells + s.index(3);
+    t.cells += cells as u64;
+
+    for_sweep(s, &mut p, n);
+    t.plans += 1;
+    t.telling += (p.roll_deg.is_some() || p.tolerance_deg < 180.0 / n as f64) as u64;
+    let o = Oracle::new(&p, &instants);
+    let shown = || format!("n {n} {p:?}");
+    rolls(calls, t, &p, &o, room);
+    sweep(calls, t, s, &p, &o, n);
+    t.mask("every roll", calls.constrained_at_every_roll(&p, n, room), o.constrained_at_every_roll(n), &shown);
+    let j = s.index(times);
+    let ours = calls.field_of_regard_violated_batch(&p, j as u64, n, rows);
+    t.mask("field of regard", ours, o.field_of_regard_violated_batch(j, n), &|| format!("time {j} {}", shown()));
+    if s.once_in(8) {
+        t.same("every roll of none", calls.constrained_at_every_roll(&p, 0, room), o.constrained_at_every_roll(0), &shown);
+        let ours = calls.field_of_regard_violated_batch(&p, j as u64, 0, rows);
+        t.same("field of regard of no rolls", ours, o.field_of_regard_violated_batch(j, 0), &shown);
+    }
+
+    p.roll_deg = if s.once_in(4) { None } else { Some(roll(s, &p)) };
+    for_roll(s, &mut p);
+    let o = Oracle::new(&p, &instants);
+    let asked = roll(s, &p);
+    let shown = || format!("roll {asked:e} {p:?}");
+    for (kind, roll) in [("at a sweep's roll", Roll::Sweep(asked)), ("at a fixed roll", Roll::Fixed(asked))] {
+        t.mask(kind, calls.in_constraint_batch_at_roll(&p, roll, room), o.in_constraint_batch_at_roll(roll), &shown);
+    }
+    let ours = calls.field_of_regard_violated_at_roll(&p, j as u64, asked, rows);
+    t.mask("field of regard at a roll", ours, o.field_of_regard_violated_at_roll(j, asked), &|| format!("time {j} {}", shown()));
+    let ours = calls.in_constraint_batch(&p, room);
+    if p.roll_deg.is_some() {
+        t.mask("batch", ours, o.in_constraint_batch(), &shown);
+    } else {
+        t.same("batch without a roll", ours, o.in_constraint_batch(), &shown);
+    }
+    for i in 0..rows.min(4) {
+        row(calls, t, &p, &o, s.index(rows), &instants, i);
+    }
+}
+
+/// Free, and every roll to the bit.
+fn rolls(calls: &dyn Calls, t: &mut Tally, p: &Plan, o: &Oracle, room: usize) {
+    let (named, not_free) = (o.named_values(), o.not_free());
+    let shown = || format!("{p:?}");
+    if p.cells() < 4000 {
+        let times = p.times();
+        for c in 0..p.cells() {
+            let (i, j) = (c / times, c % times);
+            let cell = calls.cell(p.target(i), p.sun(j), p.observer(j), p.panel_normal).map(|optimal| match optimal {
+                Optimal::Free => (0, 0),
+                Optimal::At(roll) => (1, model::arithmetic::bits(roll) as i64),
+            });
+            let theirs = if not_free[c] == 1 { (1, model::arithmetic::bits(named[c]) as i64) } else { (0, 0) };
+            t.same("cell", cell, theirs, &|| format!("target {i} time {j} {p:?}"));
+        }
+    }
+    t.same("named values", calls.named_values(p, room), named, &shown);
+}
+
+/// The chunks in a random order; the mask, each line's probes, and their sum.
+fn sweep(calls: &dyn Calls, t: &mut Tally, s: &mut Seeded, p: &Plan, o: &Oracle, n: u64) {
+    let mut order: Vec<u64> = (0..p.cells().div_ceil(64) as u64).collect();
+    for k in (1..order.len()).rev() {
+        order.swap(k, s.index(k + 1));
+    }
+    let (mask, tried) = o.sweep(n);
+    let shown = || format!("n {n} order {order:?} {p:?}");
+    match calls.swept(p, n, &order) {
+        Ok((journal, ours, sum)) => {
+            t.mask("sweep", Ok(ours), mask, &shown);
+            t.same("probes", Ok(sum), tried.iter().sum(), &shown);
+            let probes = |line: &[u8]| u64::from_str_radix(std::str::from_utf8(&line[24..32]).unwrap(), 16).unwrap();
+            let ours: Vec<u64> = journal[HEADER..].chunks(LINE).map(probes).collect();
+            let of_chunk = |&c: &u64| tried[64 * c as usize..].iter().take(64).sum();
+            t.same("probes of chunks", Ok(ours), order.iter().map(of_chunk).collect(), &shown);
+        }
+        Err(number) => {
+            t.mask("sweep", Err(number), mask, &shown);
+        }
+    }
+}
+
+/// A row of `evaluate`, and the windows of it.
+fn row(calls: &dyn Calls, t: &mut Tally, p: &Plan, o: &Oracle, i: usize, instants: &[i64], at: usize) {
+    let times = p.times();
+    if times > 3000 && at > 0 {
+        return;
+    }
+    let shown = || format!("target {i} {p:?}");
+    let (mask, severities) = o.row(i);
+    let (ours_mask, ours_severities) = match calls.evaluate(p, i as u64, times, times) {
+        Ok((m, v)) => (Ok(m), Ok(v)),
+        Err(number) => (Err(number), Err(number)),
+    };
+    let (m, v) = (ours_mask.clone(), ours_severities.clone());
+    if p.roll_deg.is_some() {
+        t.mask("row", ours_mask, mask, &shown);
+    } else {
+        t.same("row without a roll", ours_mask, mask, &shown);
+    }
+    t.same("severities", ours_severities, severities, &shown);
+    if let (Ok(m), Ok(v)) = (m, v) {
+        // An infinite severity is refused by the listing.
+        if v.iter().all(|x| x.is_finite()) {
+            let places = times.div_ceil(2);
+            let list = calls.violation_windows(&m, instants, &v, [places; 6]);
+            let whole: Vec<(i64, i64)> = o.row_windows(i).iter().map(|w| (w.0, w.1)).collect();
+            let highest: Vec<f64> = o.row_windows(i).iter().map(|w| w.2).collect();
+            t.same("windows of a row", list.clone().map(|l| l.iter().map(|w| (w.first_time, w.last_time)).collect()), whole, &shown);
+            t.same("severities of windows", list.map(|l| l.iter().map(|w| w.severity).collect()), highest, &shown);
+        }
+    }
+}

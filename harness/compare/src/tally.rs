@@ -1,0 +1,125 @@
+//! What was compared, how much of it was marked, and what differed.
+use model::arithmetic::bits;
+use model::windows::Window;
+use model::Answer;
+use std::collections::BTreeMap;
+use std::fmt::Debug;
+
+#[derive(Default)]
+struct Kind {
+    answers: u64,
+    marked: u64,
+    clear: u64,
+    differ: u64,
+}
+
+#[derive(Default)]
+pub struct Tally {
+    kinds: BTreeMap<&'static str, Kind>,
+    pub cells: u64,
+    pub masks: u64,
+    pub plans: u64,
+    /// Plans whose tolerance is below 180 / n or that have a configured roll.
+    pub telling: u64,
+    /// Marks are not counted: one large plan would outweigh all others.
+    pub uncounted: bool,
+}
+
+/// A float stands for its bits, every NaN for one.
+pub trait Shape {
+    type Bits: PartialEq + Debug;
+    fn shape(&self) -> Self::Bits;
+}
+impl Shape for f64 {
+    type Bits = u64;
+    fn shape(&self) -> u64 {
+        bits(*self)
+    }
+}
+impl Shape for u8 {
+    type Bits = u8;
+    fn shape(&self) -> u8 {
+        *self
+    }
+}
+impl Shape for u64 {
+    type Bits = u64;
+    fn shape(&self) -> u64 {
+        *self
+    }
+}
+impl Shape for (i64, i64) {
+    type Bits = (i64, i64);
+    fn shape(&self) -> (i64, i64) {
+        *self
+    }
+}
+impl Shape for Window {
+    type Bits = (usize, usize, i64, i64, u64, bool);
+    fn shape(&self) -> Self::Bits {
+        (self.first, self.last, self.first_time, self.last_time, bits(self.severity), self.is_last)
+    }
+}
+impl<T: Shape> Shape for Vec<T> {
+    type Bits = Vec<T::Bits>;
+    fn shape(&self) -> Self::Bits {
+        self.iter().map(T::shape).collect()
+    }
+}
+
+impl Tally {
+    /// The library's answer, which must be accepted, and the Rust's.
+    pub fn same<T: Shape>(&mut self, kind: &'static str, ours: Answer<T>, theirs: T, input: &dyn Fn() -> String) -> bool {
+        let k = self.kinds.entry(kind).or_default();
+        k.answers += 1;
+        let (ours, theirs) = (ours.map(|x| x.shape()), Ok(theirs.shape()));
+        if ours == theirs {
+            return true;
+        }
+        k.differ += 1;
+        if k.differ <= 3 {
+            println!("DIFFERS {kind}: {}\n  ours {ours:x?}\n  Rust {theirs:x?}", input());
+        }
+        false
+    }
+    /// The same of a mask, whose marks are counted.
+    pub fn mask(&mut self, kind: &'static str, ours: Answer<Vec<u8>>, theirs: Vec<u8>, input: &dyn Fn() -> String) -> bool {
+        if !self.uncounted {
+            let marked = theirs.iter().filter(|&&b| b == 1).count() as u64;
+            let k = self.kinds.entry(kind).or_default();
+            k.marked += marked;
+            k.clear += theirs.len() as u64 - marked;
+        }
+        self.same(kind, ours, theirs, input)
+    }
+    /// Prints the counts; false where something differs or too little was tried.
+    pub fn report(&self) -> bool {
+        let mut good = true;
+        let mut fail = |text: String| {
+            println!("FAILED {text}");
+            good = false;
+        };
+        println!("{:<38} {:>10} {:>11} {:>11} {:>8}", "", "answers", "marked", "clear", "differ");
+        for (name, k) in &self.kinds {
+            println!("{name:<38} {:>10} {:>11} {:>11} {:>8}", k.answers, k.marked, k.clear, k.differ);
+            if k.differ > 0 {
+                fail(format!("{name}: {} of {} differ", k.differ, k.answers));
+            }
+            let all = k.marked + k.clear;
+            if all > 0 && k.marked.min(k.clear) < all / 4 {
+                fail(format!("{name}: fewer than a quarter of the cells are {}", if k.marked < k.clear { "marked" } else { "clear" }));
+            }
+        }
+        println!(
+            "{} cells of {} plans ({} with a tolerance below 180 / n or a configured roll), {} masks of rows",
+            self.cells, self.plans, self.telling, self.masks
+        );
+        if self.cells < 2_000_000 || self.masks < 1_000_000 {
+            fail("fewer than 2,000,000 cells or 1,000,000 masks".to_string());
+        }
+        if self.telling < self.plans / 2 {
+            fail("fewer than half of the plans have a tolerance below 180 / n or a configured roll".to_string());
+        }
+        good
+    }
+}

@@ -1,0 +1,245 @@
+//! The customer's Rust behind plain functions: a plan or a row in, its answers out.
+#![allow(dead_code, unreachable_code, unused_variables, unused_macros, unused_imports, clippy::all)]
+pub mod patch;
+include!(concat!(env!("OUT_DIR"), "/modules.rs"));
+
+use chrono::{DateTime, Utc};
+pub use constraints::core::EvaluationRoll;
+use constraints::core::*;
+use constraints::roll_sweep::{self, PreparedRollEvaluator};
+pub use constraints::solar_roll::circular_diff_deg;
+use constraints::solar_roll::SolarRollConfig;
+use ephemeris::ephemeris_common::{EphemerisBase, EphemerisData};
+use model::windows::Window;
+use model::Plan;
+use ndarray::Array2;
+use pyo3::prelude::*;
+use std::cell::RefCell;
+use std::rc::Rc;
+
+struct Ephemeris(EphemerisData);
+
+impl EphemerisBase for Ephemeris {
+    fn data(&self) -> &EphemerisData {
+        &self.0
+    }
+    fn data_mut(&mut self) -> &mut EphemerisData {
+        &mut self.0
+    }
+    fn get_itrs_data(&self) -> Option<&Array2<f64>> {
+        None
+    }
+    fn get_itrs_skycoord_ref(&self) -> Option<&Py<PyAny>> {
+        None
+    }
+    fn set_itrs_skycoord_cache(&self, s: Py<PyAny>) -> Result<(), Py<PyAny>> {
+        Err(s)
+    }
+    fn radec_to_altaz(&self, _: f64, _: f64, _: Option<&[usize]>) -> PyResult<Array2<f64>> {
+        unimplemented!()
+    }
+}
+
+fn instant(ns: i64) -> DateTime<Utc> {
+    DateTime::from_timestamp_nanos(ns)
+}
+fn instants(times: &[i64]) -> Vec<DateTime<Utc>> {
+    times.iter().map(|&t| instant(t)).collect()
+}
+fn nanoseconds(t: &DateTime<Utc>) -> i64 {
+    t.timestamp_nanos_opt().unwrap()
+}
+fn array(numbers: &[f64]) -> Array2<f64> {
+    Array2::from_shape_vec((numbers.len() / 3, 3), numbers.to_vec()).unwrap()
+}
+fn bytes<'a>(marks: impl IntoIterator<Item = &'a bool>) -> Vec<u8> {
+    marks.into_iter().map(|&b| b as u8).collect()
+}
+
+/// A plan as the original holds it.
+pub struct Oracle {
+    ephemeris: Ephemeris,
+    evaluator: Box<dyn ConstraintEvaluator>,
+    config: SolarRollConfig,
+    vectors: Vec<[f64; 3]>,
+    ras: Vec<f64>,
+    decs: Vec<f64>,
+    times: usize,
+}
+
+impl Oracle {
+    pub fn new(plan: &Plan, times: &[i64]) -> Oracle {
+        assert_eq!(times.len(), plan.times());
+        let mut data = EphemerisData::new();
+        data.times = Some(instants(times));
+        data.sun_gcrs = Some(array(&plan.suns));
+        data.gcrs = Some(array(&plan.observers));
+        let config = SolarRollConfig { tolerance_deg: plan.tolerance_deg, roll_deg: plan.roll_deg, panel_normal: plan.panel_normal };
+        Oracle {
+            ephemeris: Ephemeris(data),
+            evaluator: config.to_evaluator(),
+            config,
+            vectors: (0..plan.rows()).map(|i| plan.target(i)).collect(),
+            ras: (0..plan.rows()).map(|i| i as f64).collect(),
+            decs: vec![0.0; plan.rows()],
+            times: times.len(),
+        }
+    }
+    fn targets(&self) -> Array2<f64> {
+        array(&self.vectors.concat())
+    }
+    pub fn named_values(&self) -> Vec<f64> {
+        patch::lend(&self.vectors);
+        let mut named = self.evaluator.compute_named_values(&self.ephemeris, &self.ras, &self.decs, None).unwrap();
+        named.remove("solar_optimal_roll_deg").unwrap().iter().copied().collect()
+    }
+    /// 1 where a cell is not Free: a tolerance below 0 violates every such cell.
+    pub fn not_free(&self) -> Vec<u8> {
+        patch::lend(&self.vectors);
+        let e = SolarRollConfig { tolerance_deg: -1.0, roll_deg: None, ..self.config.clone() }.to_evaluator();
+        bytes(&e.in_constraint_batch_at_roll(&self.ephemeris, &self.ras, &self.decs, None, EvaluationRoll::Fixed(0.0)).unwrap())
+    }
+    pub fn in_constraint_batch(&self) -> Vec<u8> {
+        patch::lend(&self.vectors);
+        bytes(&self.evaluator.in_constraint_batch(&self.ephemeris, &self.ras, &self.decs, None).unwrap())
+    }
+    pub fn in_constraint_batch_at_roll(&self, roll: model::Roll) -> Vec<u8> {
+        patch::lend(&self.vectors);
+        let roll = match roll {
+            model::Roll::Sweep(r) => EvaluationRoll::Sweep(r),
+            model::Roll::Fixed(r) => EvaluationRoll::Fixed(r),
+        };
+        bytes(&self.evaluator.in_constraint_batch_at_roll(&self.ephemeris, &self.ras, &self.decs, None, roll).unwrap())
+    }
+    pub fn constrained_at_every_roll(&self, n: u64) -> Vec<u8> {
+        patch::lend(&self.vectors);
+        let mask = self.evaluator.in_constraint_batch_constrained_at_every_roll(&self.ephemeris, &self.ras, &self.decs, None, n as usize);
+        bytes(&mask.unwrap())
+    }
+    pub fn field_of_regard_violated_batch(&self, time: usize, n: u64) -> Vec<u8> {
+        patch::lend_in_order(&self.vectors);
+        bytes(&self.evaluator.field_of_regard_violated_batch(&self.ephemeris, &self.targets(), time, n as usize).unwrap())
+    }
+    pub fn field_of_regard_violated_at_roll(&self, time: usize, roll: f64) -> Vec<u8> {
+        patch::lend_in_order(&self.vectors);
+        bytes(&self.evaluator.field_of_regard_violated_at_roll(&self.ephemeris, &self.targets(), time, roll).unwrap())
+    }
+    /// The mask of `sweep_chunks` from a mask all true, and how often each cell is tried: counted around the prepared evaluator.
+    pub fn sweep(&self, n: u64) -> (Vec<u8>, Vec<u64>) {
+        patch::lend(&self.vectors);
+        let times = self.times;
+        let mut mask = Array2::from_elem((self.vectors.len(), times), true);
+        let tried = Rc::new(RefCell::new(vec![0; mask.len()]));
+        let prepare = |cells: &[roll_sweep::RollCell]| {
+            let inner = roll_sweep::prepare(&*self.evaluator, &self.ephemeris, &self.ras, &self.decs, None, cells)?;
+            let tried = tried.clone();
+            Ok(PreparedRollEvaluator::new(move |cells, roll| {
+                let mut tried = tried.borrow_mut();
+                for &(i, j) in cells {
+                    tried[i * times + j] += 1;
+                }
+                inner.evaluate(cells, roll)
+            }))
+        };
+        roll_sweep::sweep_chunks(&mut mask, true, n as usize, prepare).unwrap();
+        let tried = tried.take();
+        (bytes(&mask), tried)
+    }
+    /// Mask and severities of `evaluate`: one sample at a time, as its result gives severities by window only.
+    pub fn row(&self, target: usize) -> (Vec<u8>, Vec<f64>) {
+        patch::lend(&self.vectors);
+        let sample = |j: usize| {
+            let result = self.evaluator.evaluate(&self.ephemeris, target as f64, 0.0, Some(&[j])).unwrap();
+            result.violations.first().map_or((0, 0.0), |v| (1, v.max_severity))
+        };
+        (0..self.times).map(sample).unzip()
+    }
+    /// The windows of `evaluate` over the whole row: first and last time, severity.
+    pub fn row_windows(&self, target: usize) -> Vec<(i64, i64, f64)> {
+        patch::lend(&self.vectors);
+        let result = self.evaluator.evaluate(&self.ephemeris, target as f64, 0.0, None).unwrap();
+        let window = |v: &ConstraintViolation| (nanoseconds(&v.start_time_internal), nanoseconds(&v.end_time_internal), v.max_severity);
+        result.violations.iter().map(window).collect()
+    }
+}
+
+fn tracked(mask: &[u8], severities: &[f64], times: &[i64]) -> Vec<ConstraintViolation> {
+    track_violations(
+        &instants(times),
+        |i| (mask[i] != 0, severities[i]),
+        |_, at_end| if at_end { "at the end".to_string() } else { String::new() },
+    )
+}
+
+/// `track_violations`: once with the times, and once with sample numbers in their place.
+pub fn violation_windows(mask: &[u8], severities: &[f64], times: &[i64]) -> Vec<Window> {
+    let numbers: Vec<i64> = (0..times.len() as i64).collect();
+    let (list, numbered) = (tracked(mask, severities, times), tracked(mask, severities, &numbers));
+    assert_eq!(list.len(), numbered.len());
+    let window = |(v, w): (&ConstraintViolation, &ConstraintViolation)| Window {
+        first: nanoseconds(&w.start_time_internal) as usize,
+        last: nanoseconds(&w.end_time_internal) as usize,
+        first_time: nanoseconds(&v.start_time_internal),
+        last_time: nanoseconds(&v.end_time_internal),
+        severity: v.max_severity,
+        is_last: v.description == "at the end",
+    };
+    list.iter().zip(&numbered).map(window).collect()
+}
+
+fn result(first: &[i64], last: &[i64], times: &[i64]) -> ConstraintResult {
+    let violation = |(&a, &b): (&i64, &i64)| ConstraintViolation {
+        start_time_internal: instant(a),
+        end_time_internal: instant(b),
+        max_severity: 0.0,
+        description: String::new(),
+    };
+    ConstraintResult::new(first.iter().zip(last).map(violation).collect(), first.is_empty(), String::new(), instants(times))
+}
+
+pub fn expand(first: &[i64], last: &[i64], times: &[i64]) -> Vec<u8> {
+    bytes(result(first, last, times)._get_constraint_vec())
+}
+
+pub fn seconds(first: &[i64], last: &[i64]) -> f64 {
+    result(first, last, &[]).total_violation_duration().unwrap()
+}
+
+/// The instant in a Python object: kept whole by the patch, or read back from year to microsecond.
+fn read_back(p: &Py<PyAny>) -> i64 {
+    match p.obj() {
+        pyo3::Obj::Nanos(n) => *n,
+        _ => nanoseconds(&utils::time_utils::python_datetime_to_utc(p.bind(Python::shim())).unwrap()),
+    }
+}
+
+fn ends(list: Vec<VisibilityWindow>) -> Vec<(i64, i64)> {
+    list.iter().map(|v| (read_back(&v.start_time), read_back(&v.end_time))).collect()
+}
+
+/// `ConstraintResult`'s visibility getter.
+pub fn visibility_of_result(first: &[i64], last: &[i64], times: &[i64]) -> Vec<(i64, i64)> {
+    ends(result(first, last, times).visibility(Python::shim()).unwrap())
+}
+
+fn moving(mask: &[u8], times: &[i64]) -> Vec<(i64, i64)> {
+    let marks = mask.iter().map(|&b| b != 0).collect();
+    let result = MovingBodyResult::new(vec![], true, String::new(), instants(times), vec![], vec![], marks);
+    ends(result.visibility(Python::shim()).unwrap())
+}
+
+/// `MovingBodyResult`'s visibility getter: once with the times, and once with sample numbers, in microseconds, in their place.
+pub fn visibility_windows(mask: &[u8], times: &[i64]) -> Vec<Window> {
+    let numbers: Vec<i64> = (0..times.len() as i64).map(|k| k * 1000).collect();
+    let (list, numbered) = (moving(mask, times), moving(mask, &numbers));
+    assert_eq!(list.len(), numbered.len());
+    let window = |(&(first_time, last_time), (a, b)): (&(i64, i64), (i64, i64))| Window {
+        first: (a / 1000) as usize,
+        last: (b / 1000) as usize,
+        first_time,
+        last_time,
+        severity: 0.0,
+        is_last: (b / 1000) as usize + 1 == mask.len(),
+    };
+    list.iter().zip(numbered).map(window).collect()
+}
