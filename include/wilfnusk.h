@@ -1,0 +1,244 @@
+/*
+ * wilfnusk.h: solar roll, windows and the sweep journal.
+ *
+ * Which targets a satellite may look at, at which times, and how far it may roll before its solar panel turns from the Sun; a roll sweep
+ * that can be cut off at any byte of its journal and taken up again; and the windows that follow from it.
+ *
+ * Link libwilfnusk.a (`rt staticlib wilfnusk` writes it to target/staticlib/). It needs nothing else: no C library, no allocation, no
+ * global state, no input or output. Any number of threads may call it at the same time.
+ *
+ *
+ * ANSWERS
+ *
+ * The three functions on doubles return a double. Every other call returns an int64_t: 0 or more if it was accepted, else minus the number
+ * of the reason. A refused call changes nothing that it was lent. Reasons are tried in the order in which a call lists them, and the first
+ * that holds is the answer:
+ *
+ *    -1  Lists do not fit together. With a plan: targets, suns or observers not a multiple of 3 long, suns and observers of different
+ *        lengths, or a used length beyond its buffer. With windows: lists that belong together have different lengths.
+ *    -2  Too large. With a plan: more than 65,536 targets or times, or more than 1,048,576 cells. With windows: more than 65,536 samples
+ *        or windows.
+ *    -3  n, the number of rolls, is outside 1 to 3,600. (wilfnusk_constrained_at_every_roll and wilfnusk_field_of_regard_violated_batch
+ *        take 0 as well.)
+ *    -4  A number of suns or observers is not finite, or beyond 1e100 in size.
+ *    -5  A number of targets is not within -1 to 1.
+ *    -6  A number of the panel normal is not finite, or beyond 1e100 in size.
+ *    -7  An output has too few places. Always the last reason tried.
+ *    -8  A time is beyond 4,000,000,000,000,000,000 nanoseconds either way.
+ *    -9  No such target, time or chunk.
+ *   -10  The chunk already has a line in the journal.
+ *   -11  The journal is not right: see JOURNAL.
+ *   -12  The journal's header is incomplete, or bytes follow its last whole line: call wilfnusk_recover.
+ *   -13  The journal is not empty.
+ *   -14  A mask byte is neither 0 nor 1, or a severity is NaN, infinite or has its sign bit set.
+ *   -15  A chunk lacks its line.
+ *
+ * Numbers of 64 bits are looked at whole: a chunk of 2^40 or an n of 2^32 is refused, not cut down.
+ *
+ *
+ * LISTS
+ *
+ * A list is a pointer and then its length in elements (not bytes). A pointer is never NULL, not even with length 0: pass the address of
+ * any object of the type, aligned for it. What a call writes (parameters without const) must not overlap anything else that it is lent.
+ * Of an output, the places beyond the answer stay as they were.
+ *
+ *
+ * PLAN
+ *
+ * Calls about a plan begin with the same parameters, in the same order:
+ *
+ *    targets        directions, three numbers each: unit vectors, in the frame of the positions
+ *    suns           the Sun's position at each time, three numbers each
+ *    observers      the satellite's position at each time, three numbers each, in the unit of suns
+ *    tolerance_deg  how far, in degrees, a roll may be from the optimal one; any double. NaN: no cell is violated. Below 0: every cell
+ *                   that is not Free is violated, at a finite roll
+ *    has_roll       0: no configured roll, and roll_deg is ignored. Anything else: roll_deg is the configured roll
+ *    roll_deg       in degrees; any double. NaN violates nothing
+ *    panel_x, panel_y, panel_z   the panel's normal in the body's frame, x along the boresight. Need not have length 1. The usual: 0, 1, 0
+ *
+ * A cell is a target i and a time j; its number is i * times + j. A mask has one byte a cell, in this order: 1 marked (violated), 0 clear.
+ * A cell is Free if no roll is better than another: the Sun is on the boresight, or the panel's normal has no part across it.
+ */
+#ifndef WILFNUSK_H
+#define WILFNUSK_H
+
+#include <stddef.h>
+#include <stdint.h>
+
+#ifdef __cplusplus
+extern "C" {
+#endif
+
+#define WILFNUSK_PLAN                                                                                                                      \
+    const double *targets, size_t targets_len, const double *suns, size_t suns_len, const double *observers, size_t observers_len,         \
+        double tolerance_deg, uint64_t has_roll, double roll_deg, double panel_x, double panel_y, double panel_z
+
+
+/* ---- Arithmetic. No double is refused. ------------------------------------------------------------------------------------------- */
+
+/* The square root of IEEE 754: the nearest double, ties to even. -0 gives -0; a number below 0 or a NaN gives NaN. */
+double wilfnusk_sqrt(double x);
+
+/* The angle of the point (z, y) in radians, from -pi to pi, y upward, as atan2(y, z) of the C library but by a rule of its own, the same
+ * on every machine. NaN unless both are finite. */
+double wilfnusk_atan2(double y, double z);
+
+/* The shortest arc between two rolls, in degrees: from 0 to 180. NaN unless both, and a - b, are finite. */
+double wilfnusk_circular_diff_deg(double a, double b);
+
+
+/* ---- Rolls ----------------------------------------------------------------------------------------------------------------------- */
+
+/* The optimal roll of one cell, in degrees. 0: the cell is Free, and *roll is not written. 1: *roll is the optimal roll.
+ * Refuses: -4, -5, -6. */
+int64_t wilfnusk_cell(double target_x, double target_y, double target_z, double sun_x, double sun_y, double sun_z, double observer_x,
+                      double observer_y, double observer_z, double panel_x, double panel_y, double panel_z, double *roll);
+
+/* Writes the optimal roll of each cell, in degrees, Free cells too. Answers 0. tolerance_deg and roll_deg do not matter.
+ * Refuses: -1, -2, -4, -5, -6; -7 if out_len is below the number of cells. */
+int64_t wilfnusk_named_values(WILFNUSK_PLAN, double *out, size_t out_len);
+
+
+/* ---- Masks ----------------------------------------------------------------------------------------------------------------------- */
+
+/* A cell that is not Free is violated at a roll if its optimal roll is further from it than the tolerance. A distance that meets the
+ * tolerance exactly is not violated. */
+
+/* Marks the cells that are violated at the configured roll; without one, none. Answers 0.
+ * Refuses: -1, -2, -4, -5, -6; -7 if mask_len is below the number of cells. */
+int64_t wilfnusk_in_constraint_batch(WILFNUSK_PLAN, uint8_t *mask, size_t mask_len);
+
+/* Marks the cells that are violated at the roll roll_at_deg. fixed 0: a configured roll stands in its place. fixed not 0: it does not.
+ * Answers 0. Refuses: -1, -2, -4, -5, -6; -7 if mask_len is below the number of cells. */
+int64_t wilfnusk_in_constraint_batch_at_roll(WILFNUSK_PLAN, uint64_t fixed, double roll_at_deg, uint8_t *mask, size_t mask_len);
+
+/* Marks the cells whose optimal roll is further than the tolerance from the nearest multiple of 360 / n; n = 0 marks none. With a
+ * configured roll, whatever n is, the cells that are violated at it. Answers 0. Where rounding decides, this is not always the mask of
+ * the journal's sweep, which tries each roll.
+ * Refuses: -1, -2, -3 if n is over 3,600, -4, -5, -6; -7 if mask_len is below the number of cells. */
+int64_t wilfnusk_constrained_at_every_roll(WILFNUSK_PLAN, uint64_t n, uint8_t *mask, size_t mask_len);
+
+/* One target's row at the configured roll: its mask, and for each marked time by how many degrees the distance is beyond the tolerance
+ * (for a clear one 0). Without a configured roll all zeros. Answers 0.
+ * Refuses: -1, -2, -4, -5, -6; -9 if target is not below the number of targets; -7 if mask_len or severities_len is below the number of
+ * times. */
+int64_t wilfnusk_evaluate(WILFNUSK_PLAN, uint64_t target, uint8_t *mask, size_t mask_len, double *severities, size_t severities_len);
+
+/* Field of regard: one byte a target, at one time. The first marks as wilfnusk_constrained_at_every_roll does; the second those that are
+ * violated at the configured roll, or without one at roll_at_deg. Both answer 0.
+ * Refuse: -1, -2, -3 if n is over 3,600 (the first), -4, -5, -6; -9 if time is not below the number of times; -7 if mask_len is below the
+ * number of targets. */
+int64_t wilfnusk_field_of_regard_violated_batch(WILFNUSK_PLAN, uint64_t time, uint64_t n, uint8_t *mask, size_t mask_len);
+int64_t wilfnusk_field_of_regard_violated_at_roll(WILFNUSK_PLAN, uint64_t time, double roll_at_deg, uint8_t *mask, size_t mask_len);
+
+
+/* ---- Journal --------------------------------------------------------------------------------------------------------------------- */
+
+/*
+ * JOURNAL
+ *
+ * A sweep tries for each cell the n rolls k * (360 / n), from k = 0 up, until one does not violate it (a configured roll stands in each of
+ * their places). It marks the cell if all n violate it. Cells are swept in chunks of 64, the last perhaps fewer: chunk c holds the cells
+ * 64c to 64c + 63. Each chunk, once swept, is one line of the journal, in any order; so a sweep can be split over machines and
+ * taken up where it broke off.
+ *
+ * The journal is text in lowercase hexadecimal. First the header, 106 digits and a newline:
+ *
+ *    digits   8  number of targets
+ *             8  number of times
+ *             8  n
+ *            16  the bits of tolerance_deg (every NaN as 7ff8000000000000)
+ *             2  01 with a configured roll, else 00
+ *            16  the bits of the configured roll, else zeros
+ *      3 *   16  the bits of panel_x, panel_y, panel_z
+ *
+ * then lines of 32 digits and a newline:
+ *
+ *    digits   8  chunk
+ *            16  mask: bit k is cell 64c + k; bits past the last cell are 0
+ *             8  how many rolls were tried, summed over the chunk's cells
+ *
+ * That is 107 bytes and 33 bytes a line. targets, suns and observers are not in it: lend the same plan to every call.
+ *
+ * A journal is right if its header is this plan's (if it is shorter than 107 bytes: if it begins that header), and each whole line has 32
+ * digits and a newline, a chunk that exists, no chunk of another line, no bits past the last cell, and a count of tried rolls from
+ * (clear + n * marked) to n * cells of its chunk.
+ *
+ * These calls take a buffer and how many of its bytes are used. begin and work write only the bytes that they add, from the used length
+ * on; write the same bytes to the file. After a failure of power read the file, call recover, and shorten the file to the answer before
+ * anything is written.
+ */
+
+/* Writes the header into an empty journal. Answers the used length after it, 107.
+ * Refuses: -1, -2, -3, -4, -5, -6; -13 if used is not 0; -7 if journal_len is below 107. */
+int64_t wilfnusk_begin(WILFNUSK_PLAN, uint64_t n, uint8_t *journal, size_t journal_len, uint64_t used);
+
+/* Sweeps a chunk and appends its line. Answers the used length after it: used + 33.
+ * Refuses: -1, -2, -3, -4, -5, -6; -9 if there is no such chunk; -11; -12; -10; -7 if journal_len is below used + 33. */
+int64_t wilfnusk_work(WILFNUSK_PLAN, uint64_t n, uint64_t chunk, uint8_t *journal, size_t journal_len, uint64_t used);
+
+/* Answers the used length without an incomplete header or line at the end: 0 if the header is incomplete, else the header and the whole
+ * lines. Writes nothing. Refuses: -1, -2, -3, -4, -5, -6; -11. */
+int64_t wilfnusk_recover(WILFNUSK_PLAN, uint64_t n, const uint8_t *journal, size_t journal_len, uint64_t used);
+
+/* Writes the mask that the journal's lines hold. Answers how many rolls were tried, summed over all cells.
+ * Refuses: -1, -2, -3, -4, -5, -6; -11; -12; -15; -7 if mask_len is below the number of cells. */
+int64_t wilfnusk_collect(WILFNUSK_PLAN, uint64_t n, const uint8_t *journal, size_t journal_len, uint64_t used, uint8_t *mask,
+                         size_t mask_len);
+
+
+/* ---- Windows --------------------------------------------------------------------------------------------------------------------- */
+
+/* A window is a run of samples of one row: a part of a mask, one target's cells, with the samples' times in nanoseconds. A window's flag
+ * is 1 if it ends with the final sample, where the data ended; else 0. */
+typedef struct wilfnusk_window {
+    uint64_t first;      /* sample numbers, from 0 */
+    uint64_t last;
+    int64_t first_time;  /* the times of these samples */
+    int64_t last_time;
+    double severity;
+    uint64_t is_last;    /* the flag */
+} wilfnusk_window;
+
+/* Lists the longest runs of marked samples, in order. A window's severity is the largest of its samples'. A row of s samples has at most
+ * (s + 1) / 2 of them. Answers their number.
+ * Refuses: -1 if mask, times and severities, or the six columns, are not equally long; -2; -8; -14; -7 if there are more windows than
+ * places. */
+int64_t wilfnusk_violation_windows(const uint8_t *mask, size_t mask_len, const int64_t *times, size_t times_len,
+                                   const double *severities, size_t severities_len, uint64_t *first, size_t first_len, uint64_t *last,
+                                   size_t last_len, int64_t *first_time, size_t first_time_len, int64_t *last_time,
+                                   size_t last_time_len, double *severity, size_t severity_len, uint8_t *is_last, size_t is_last_len);
+
+/* Lists the longest runs of clear samples, in order: those of two samples or more, and one of any length that reaches the last sample.
+ * Severities are 0. Answers their number.
+ * Refuses: -1 if mask and times, or the six columns, are not equally long; -2; -8; -14; -7 if there are more windows than places. */
+int64_t wilfnusk_visibility_windows(const uint8_t *mask, size_t mask_len, const int64_t *times, size_t times_len, uint64_t *first,
+                                    size_t first_len, uint64_t *last, size_t last_len, int64_t *first_time, size_t first_time_len,
+                                    int64_t *last_time, size_t last_time_len, double *severity, size_t severity_len, uint8_t *is_last,
+                                    size_t is_last_len);
+
+/* The same two lists as records. They refuse the same. */
+int64_t wilfnusk_violation_records(const uint8_t *mask, size_t mask_len, const int64_t *times, size_t times_len,
+                                   const double *severities, size_t severities_len, wilfnusk_window *out, size_t out_len);
+int64_t wilfnusk_visibility_records(const uint8_t *mask, size_t mask_len, const int64_t *times, size_t times_len, wilfnusk_window *out,
+                                    size_t out_len);
+
+/* Marks the samples whose times lie in a window, ends included. Answers 0. For windows from wilfnusk_violation_windows and strictly
+ * increasing times this gives the mask back. If times never fall, windows that ended before a sample are passed for good; if they do
+ * fall, each sample looks at the windows from the first up to one that starts later. For windows that are out of order, or overlap, this
+ * can leave a sample clear that lies in one.
+ * Refuses: -1 if first_time and last_time are not equally long; -2 if there are more than 65,536 windows or times; -8; -7 if mask_len is
+ * below the number of times. */
+int64_t wilfnusk_expand(const int64_t *first_time, size_t first_time_len, const int64_t *last_time, size_t last_time_len,
+                        const int64_t *times, size_t times_len, uint8_t *mask, size_t mask_len);
+
+/* Writes the sum of the windows' lengths in seconds, each cut to whole seconds toward zero. Answers 0.
+ * Refuses: -1 if first_time and last_time are not equally long; -2 if there are more than 65,536 windows; -8. */
+int64_t wilfnusk_total_violation_duration(const int64_t *first_time, size_t first_time_len, const int64_t *last_time,
+                                          size_t last_time_len, double *seconds);
+
+#ifdef __cplusplus
+}
+#endif
+
+#endif
