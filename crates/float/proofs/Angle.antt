@@ -9,7 +9,7 @@ use lib.IntN.{ℤ, pos}
 use lib.Dec.{ltb, eqb, lit<, lit≤}
 use lib.Ieee.{Float, nan, inf, fin, binary64, up, down, round, sub, mul, div, neg, lt, eq, ofBits, ofInt}
 use Rattle.float.specs.Arithmetic.{zero·0, one, two, eight, halfTurn, PI, signBitOf, absOf, finite, toDegrees}
-use Rattle.float.specs.Arctangent.{coefficient, halved, series, firstOctant, ratioAngle, quadrantAngle, arctangent}
+use Rattle.float.specs.Arctangent.{coefficient, halved, series, octantAngle, ratioAngle, quadrantAngle, arctangent}
 use Rattle.float.proofs.Bounds.{Within, within-add, within-mul, within-quotient, within-neg, within-sub, weaken, Size, Least, loose, size-of, div-sign, size-mul, size-add, size-div, size-one, least-round, least-add, root-keeps}
 
 -- ---- the steps of the arctangent
@@ -50,9 +50,9 @@ eight-within : Within 3 eight
 unfolding ofBits
 eight-within = record { s = false; m = 1; e = pos 3; is = refl; size-le = lit≤ tt }
 
-pub within-first-octant : (t : Float) → Size 0 t → Within 11 (firstOctant t)
-unfolding firstOctant
-within-first-octant t z =
+pub within-octant : (t : Float) → Size 0 t → Within 11 (octantAngle t)
+unfolding octantAngle
+within-octant t z =
     let q = size-halved _ (size-halved _ (size-halved t z)) in
     within-mul 3 8 (lit< tt) eight-within (within-mul 0 8 (lit< tt) (loose 0 q) (within-series _ (loose 0 (size-mul 0 0 (lit< tt) q q)) 8 (lit≤ tt)))
 
@@ -87,15 +87,21 @@ within-ratio m n e d h = go (eqb (n * up d * 1) (0 * down d)) refl
         let l : m * up e * down d ≤ 2 ^ 0 * (n * up d * down e) = omega arith in
         size-of 0 (div-sign m n e d p) (within-quotient false false m n e d 0 (lit< tt) p l)
 
-    go : (b : Bool) → eqb (n * up d * 1) (0 * down d) ≡ b → Within 11 (cond (b && true) zero·0 (firstOctant (div binary64 (fin false m e) (fin false n d))))
+    go : (b : Bool) → eqb (n * up d * 1) (0 * down d) ≡ b → Within 11 (cond (b && true) zero·0 (octantAngle (div binary64 (fin false m e) (fin false n d))))
     go true z = zero-within 11
-    go false z = within-first-octant _ (q z)
+    go false z = within-octant _ (q z)
 
 within-quadrant : (m n : ℕ) (e d : ℤ) → Within 12 (quadrantAngle (fin false m e) (fin false n d))
 unfolding quadrantAngle lt
 within-quadrant m n e d = go (ltb (n * up d * down e) (m * up e * down d)) refl
   where
-    go : (b : Bool) → ltb (n * up d * down e) (m * up e * down d) ≡ b → Within 12 (cond b (sub binary64 (div binary64 PI two) (ratioAngle (fin false n d) (fin false m e))) (ratioAngle (fin false m e) (fin false n d)))
+    a : Float
+    a = fin false m e
+
+    b : Float
+    b = fin false n d
+
+    go : (x : Bool) → ltb (n * up d * down e) (m * up e * down d) ≡ x → Within 12 (cond x (sub binary64 (div binary64 PI two) (ratioAngle (cond x b a) (cond x a b))) (ratioAngle (cond x b a) (cond x a b)))
     go true z = within-sub 11 (lit< tt) (weaken 1 11 (lit≤ tt) half-PI-within) (within-ratio n m d e (le-of-lt (ltb-true _ _ z)))
     go false z = weaken 11 12 (lit≤ tt) (within-ratio m n e d (ltb-false _ _ z))
 

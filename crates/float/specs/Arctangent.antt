@@ -1,4 +1,4 @@
--- Section 1's arctangent of (y, z). Definitions only.
+-- Section 1's arctangent of (y, z). Definitions only. Assumes nothing.
 use mathlib.Core.Bool.{Bool, true, false, cond, _&&_}
 use Prim.Native.Nat.{ℕ, zero, suc, _+_, _-_, _*_, _%_}
 use lib.Dec.{eqb}
@@ -7,32 +7,34 @@ use lib.Ieee.{Float, nan, binary64, add, sub, mul, div, neg, lt, eq, ofInt}
 use Rattle.float.specs.Root.{sqrtOf}
 use Rattle.float.specs.Arithmetic.{zero·0, one, two, eight, PI, signBitOf, absOf, finite}
 
+-- q / (1 + root(1 + q·q)): one of the three rounds
+unfoldable pub halved : Float → Float
+halved q = div binary64 q (add binary64 one (sqrtOf (add binary64 one (mul binary64 q q))))
+
 -- c(k) = 1 / (2k + 1), negated for odd k
 unfoldable pub coefficient : ℕ → Float
 coefficient k = let c = div binary64 one (ofInt binary64 (pos (2 * k + 1))) in cond (eqb (k % 2) 1) (neg c) c
-
--- q / (1 + root(1 + q·q)): the tangent of half the angle
-unfoldable pub halved : Float → Float
-halved q = div binary64 q (add binary64 one (sqrtOf (add binary64 one (mul binary64 q q))))
 
 -- p after j rounds: it starts as c(8), and for k from 7 down becomes c(k) + s·p
 unfoldable pub series : Float → ℕ → Float
 series s zero = coefficient 8
 series s (suc j) = add binary64 (coefficient (7 - j)) (mul binary64 s (series s j))
 
--- the angle whose tangent is t, 0 to 1: 8·(q·p), where q is t after three halvings and s = q·q
-unfoldable pub firstOctant : Float → Float
-firstOctant t = let q = halved (halved (halved t)) in mul binary64 eight (mul binary64 q (series (mul binary64 q q) 8))
+-- r = 8·(q·p), where q is t after three rounds, s = q·q and p the series' last
+unfoldable pub octantAngle : Float → Float
+octantAngle t = let q = halved (halved (halved t)) in mul binary64 eight (mul binary64 q (series (mul binary64 q q) 8))
 
--- of m and M, the smaller and the larger: 0 where M = 0
+-- r of m, the smaller, and M, the larger: 0 where M = 0
 unfoldable pub ratioAngle : Float → Float → Float
-ratioAngle m l = cond (eq l zero·0) zero·0 (firstOctant (div binary64 m l))
+ratioAngle m M = cond (eq M zero·0) zero·0 (octantAngle (div binary64 m M))
 
--- the angle of (a, b), neither negative: measured from the nearer axis
+-- r of a and b, taken of the smaller and the larger; where a > b it becomes P/2 - r
 unfoldable pub quadrantAngle : Float → Float → Float
-quadrantAngle a b = cond (lt b a) (sub binary64 (div binary64 PI two) (ratioAngle b a)) (ratioAngle a b)
+quadrantAngle a b =
+    let r = ratioAngle (cond (lt b a) b a) (cond (lt b a) a b) in
+    cond (lt b a) (sub binary64 (div binary64 PI two) r) r
 
--- of (y, z): in the half plane that z's sign bit picks, then negated by y's; NaN unless both are finite
+-- of (y, z): r of their sizes; where z has its sign bit set, P - r; where y has, -r. NaN unless both are finite.
 unfoldable pub arctangent : Float → Float → Float
 arctangent y z =
     let r = quadrantAngle (absOf y) (absOf z) in

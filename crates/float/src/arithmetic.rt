@@ -18,7 +18,10 @@ pub fn is_sign_negative(x: f64) -> bool
 pub fn abs(x: f64) -> f64
     ensures { λ r. ⌜ r ≡ absOf x ⌝ }
 {
-    if is_sign_negative(x) { -x } else { x }
+    if x != x {
+        return x;
+    }
+    f64::from_bits(f64::to_bits(x) % 0x8000_0000_0000_0000)
 }
 
 // Whether x is neither an infinity nor a NaN.

@@ -134,27 +134,23 @@ fn sqrt_by_steps(x: f64) -> f64
     }
 }
 
-// The root of the normal pattern b's number, as 53 digits: right but for one operand in about 2,500. Nothing more is promised of it.
-fn guess(b: u64) -> u64
+// About the root of the normal pattern b's number times a power of four, from 1 to 2: its nearest f64 but for one operand in about 2,500.
+// Nothing is promised of it: `sqrt` checks it.
+fn guess(b: u64) -> f64
     requires { ⌜ b < 2047 * 2 ^ 52 ⌝ }
-    ensures { λ r. ⌜ (2 ^ 52 ≤ r) × (r < 2 ^ 53) ⌝ }
 {
     // The number times a power of four, from 1 to 4.
     let n = (b + 0x10_0000_0000_0000) % 0x20_0000_0000_0000 + 0x3ff0_0000_0000_0000;
     let f = f64::from_bits(n);
-    // 1 / root(f): half the exponent, negated, and two steps of Newton's, to 4e-7. The constants spread the error to both sides.
+    // 1 / root(f) to 4e-7: half the exponent, negated, and two steps of Newton's, with constants that spread the error to both sides.
     let y0 = f64::from_bits(0x5fe5_8b37_0000_0000 - n / 2);
     let y1 = y0 * (1.58114 - 0.584783 * f * y0 * y0);
     let y = y1 * (1.5000004 - 0.5 * f * y1 * y1);
-    // The root to 26 digits, whose square is exact, and what is left of f divided by twice the root.
+    // The root to 26 digits, so that its square is exact; then what that leaves of f, divided by twice the root.
     let s = (f * y + 201326592.0) - 201326592.0;
     let t = s * s;
     let h = 0.5 * y;
-    let g = s + (f - t) * h * (1.5 - (f + t) * (h * h));
-    if g != g {
-        return 0x10_0000_0000_0000;
-    }
-    0x10_0000_0000_0000 + f64::to_bits(g) % 0x10_0000_0000_0000
+    s + (f - t) * h * (1.5 - (f + t) * (h * h))
 }
 
 // Whether q is what steps 2 and 3 make of m: m * 2^52 lies above the square of q - 1/2 and below that of q + 1/2.
@@ -188,10 +184,13 @@ pub fn sqrt(x: f64) -> f64
         let field = b >> 52;
         if 0 < field {
             if field < 2047 {
-                let q = guess(b);
-                let s = scale(b);
-                if is_rounded_root(s.significand, q) {
-                    return packed(q, s.half - 26);
+                let g = guess(b);
+                if g == g {
+                    let q = 0x10_0000_0000_0000 + f64::to_bits(g) % 0x10_0000_0000_0000;
+                    let s = scale(b);
+                    if is_rounded_root(s.significand, q) {
+                        return packed(q, s.half - 26);
+                    }
                 }
             }
         }

@@ -1,4 +1,9 @@
-use Rattle.float.specs.Arctangent.{quadrantAngle}
+-- `float::arctangent::quadrant_angle` meets its contract. Assumes nothing.
+use mathlib.Core.Path.{_≡_, refl, sym, ap, _∙_}
+use mathlib.Core.Bool.{cond}
+use mathlib.Core.Logic.{⊎-elim}
+use lib.Ieee.{lt}
+use Rattle.float.specs.Arctangent.{ratioAngle, quadrantAngle}
 use borrow.Author.Needs.{needs}
 use Rattle.float.proofs.arctangent.quadrant_angle.Statement.{statement}
 use Rattle.float.proofs.arctangent.quadrant_angle.Tie as tie
@@ -6,24 +11,26 @@ use Rattle.float.proofs.arctangent.quadrant_angle.Reads as reads
 use Rattle.float.proofs.arctangent.quadrant_angle.Lts as lts
 use Rattle.float.proofs.arctangent.ratio_angle.Reads as ratio-angle-reads
 
--- src/lib.rt:104:20
+-- the smaller and the larger
+smaller : (c : tie.Joined1) → c .if1 .m ≡ cond (lt (c .before .args .b) (c .before .args .a)) (c .before .args .b) (c .before .args .a)
+smaller c = ⊎-elim (λ w. simp (w .0 .taken, w .1)) (λ w. simp (w .0 .left, w .1)) (c .if1 .came)
+
+larger : (c : tie.Joined1) → c .if1 .l ≡ cond (lt (c .before .args .b) (c .before .args .a)) (c .before .args .a) (c .before .args .b)
+larger c = ⊎-elim (λ w. simp (w .0 .taken, w .2)) (λ w. simp (w .0 .left, w .2)) (c .if1 .came)
+
+-- src/arctangent.rt:56:9
 ratio-angle-requires : tie.Need-ratio-angle-requires
 ratio-angle-requires c κs = search needs
 
--- src/lib.rt:106:9
-ratio-angle-requires-2 : tie.Need-ratio-angle-requires-2
-ratio-angle-requires-2 c κs = search needs
-
--- src/lib.rt:100:1
+-- src/arctangent.rt:47:1
 returns : tie.Need-returns
 unfolding quadrantAngle
-returns c = simp (c .before .if1 .taken, c .ratio-angle .ensures)
+returns c = simp (c .before .ratio-angle .ensures, smaller (c .before .before), larger (c .before .before), c .if2 .taken)
 
--- src/lib.rt:100:1
+-- src/arctangent.rt:47:1
 returns-2 : tie.Need-returns-2
 unfolding quadrantAngle
-returns-2 c = simp (c .before .if1 .left, c .ratio-angle2 .ensures)
+returns-2 c = simp (c .before .ratio-angle .ensures, smaller (c .before .before), larger (c .before .before), c .if2 .left)
 
 pub quadrant-angle-spec : {M : Type 1} → statement M
-quadrant-angle-spec =
-    tie.close (tie.spec ratio-angle-requires ratio-angle-requires-2 returns returns-2)
+quadrant-angle-spec = tie.close (tie.spec ratio-angle-requires returns returns-2)

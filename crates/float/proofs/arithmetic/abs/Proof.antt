@@ -1,23 +1,32 @@
-use Rattle.float.proofs.Sign.{abs-negative, abs-positive}
-use mathlib.Core.Path.{sym, _∙_}
-use borrow.Author.Needs.{needs}
+-- `float::arithmetic::abs` meets its contract. Assumes nothing.
+use mathlib.Core.Path.{sym, subst}
+use lib.Dec.{T}
+use lib.Ieee.{binary64, fits}
+use Rattle.float.proofs.Sign.{no-nan, abs-nan, abs-of-bits, abs-pattern}
 use Rattle.float.proofs.arithmetic.abs.Statement.{statement}
 use Rattle.float.proofs.arithmetic.abs.Tie as tie
 use Rattle.float.proofs.arithmetic.abs.Reads as reads
 use Rattle.float.proofs.arithmetic.abs.Lts as lts
-use Rattle.float.proofs.arithmetic.is_sign_negative.Reads as is-sign-negative-reads
 
--- src/lib.rt:30:8
-is-sign-negative-requires : tie.Need-is-sign-negative-requires
-is-sign-negative-requires c κs = search needs
+-- what owning an f64 tells
+held : (c : tie.Start) → T (fits binary64 (c .args .x))
+held c = subst T (sym (c .good .0 .1)) tt
 
--- src/lib.rt:27:1
+-- src/arithmetic.rt:22:9
 returns : tie.Need-returns
-returns c = abs-negative _ (sym (c .before .is-sign-negative .ensures) ∙ c .if1 .taken)
+returns c = abs-nan (c .before .args .x) (c .if1 .taken)
 
--- src/lib.rt:27:1
+-- src/arithmetic.rt:24:20
+float-to-bits-result : tie.Need-float-to-bits-result
+float-to-bits-result c = no-nan (c .before .args .x) (c .if1 .left)
+
+-- src/arithmetic.rt:24:5
+float-from-bits-result : tie.Need-float-from-bits-result
+float-from-bits-result c = abs-pattern (c .before .args .x) (held (c .before)) (no-nan (c .before .args .x) (c .if1 .left))
+
+-- src/arithmetic.rt:18:1
 returns-2 : tie.Need-returns-2
-returns-2 c = abs-positive _ (sym (c .before .is-sign-negative .ensures) ∙ c .if1 .left)
+returns-2 c = abs-of-bits (c .before .args .x) (held (c .before)) (no-nan (c .before .args .x) (c .if1 .left))
 
 pub abs-spec : {M : Type 1} → statement M
-abs-spec = tie.close (tie.spec is-sign-negative-requires returns returns-2)
+abs-spec = tie.close (tie.spec returns float-to-bits-result float-from-bits-result returns-2)

@@ -8,6 +8,7 @@ use lib.Ieee.{binary64, toBits, units}
 use Rattle.float.specs.Root.{magnitude}
 use Rattle.float.specs.declared.root.Scaled.{Scaled}
 use Rattle.float.proofs.Scaling.{Scales, scaled-facts}
+use Rattle.float.proofs.Patterns.{same-not-nan}
 use Rattle.float.proofs.Steps.{normal-left, above-nan, root-of-scaled}
 use borrow.Author.Needs.{needs}
 use Rattle.float.proofs.root.sqrt.Statement.{statement}
@@ -21,55 +22,63 @@ use Rattle.float.proofs.root.scale.Reads as scale-reads
 use Rattle.float.proofs.root.sqrt_by_steps.Reads as sqrt-by-steps-reads
 
 -- what `scale` gives
-scaled-at : (c : tie.After-scale) → Scales (magnitude (toBits binary64 (c .before .before .before .before .before .args .x)) * 2 ^ 1074) (c .scale .result) × (511 ≤ c .scale .result .half) × (c .scale .result .half < 1560)
+scaled-at : (c : tie.After-scale) → Scales (magnitude (toBits binary64 (c .before .before .before .before .before .before .args .x)) * 2 ^ 1074) (c .scale .result) × (511 ≤ c .scale .result .half) × (c .scale .result .half < 1560)
 scaled-at c =
-    let b = toBits binary64 (c .before .before .before .before .before .args .x) in
+    let b = toBits binary64 (c .before .before .before .before .before .before .args .x) in
     subst (λ (s : Scaled). Scales (magnitude b * 2 ^ 1074) s × (511 ≤ s .half) × (s .half < 1560)) (sym (c .scale .ensures)) (scaled-facts b (omega arith) (omega arith))
 
--- src/root.rt:187:17
+-- src/root.rt:183:17
 float-to-bits-b : tie.Need-float-to-bits-b
 float-to-bits-b c = above-nan (c .before .args .x) (c .if1 .taken)
 
--- src/root.rt:191:21
+-- src/root.rt:187:21
 guess-requires : tie.Need-guess-requires
 guess-requires c κs = search needs
 
--- src/root.rt:192:21
+-- src/root.rt:189:51
+float-to-bits-q : tie.Need-float-to-bits-q
+float-to-bits-q c = same-not-nan (c .before .guess .result) (c .if4 .taken)
+
+-- src/root.rt:189:29
+add-q : tie.Need-add-q
+add-q c = search needs
+
+-- src/root.rt:190:25
 scale-requires : tie.Need-scale-requires
 scale-requires c κs = search needs
 
--- src/root.rt:193:20
+-- src/root.rt:191:24
 is-rounded-root-requires : tie.Need-is-rounded-root-requires
-is-rounded-root-requires c κs = (scaled-at c .0 .2, c .before .guess .ensures .0, c .before .guess .ensures .1)
+is-rounded-root-requires c κs = (scaled-at c .0 .2, omega arith, omega arith)
 
--- src/root.rt:194:38
+-- src/root.rt:192:42
 sub-packed : tie.Need-sub-packed
 sub-packed c = let f = scaled-at (c .before .before .before) .1 in omega arith
 
--- src/root.rt:194:21
+-- src/root.rt:192:25
 packed-requires : tie.Need-packed-requires
 packed-requires c κs =
     let f = scaled-at (c .before .before .before) .2 in
-    let g = c .before .before .before .before .guess .ensures in
     let k : c .before .before .before .scale .result .half - 26 < 2000 = omega arith in
-    (g .0, omega arith, k)
+    (omega arith, omega arith, k)
 
--- src/root.rt:194:21
+-- src/root.rt:192:25
 returns : tie.Need-returns
 returns c =
     let r = c .before .before .before in
     let s = r .before in
-    let x = s .before .before .before .before .before .args .x in
+    let start = s .before .before .before .before .before in
+    let x = start .before .args .x in
     let f = scaled-at s in
     c .packed .ensures
-    ∙ ap (λ (q : ℕ). units binary64 false q (s .scale .result .half - 26)) (sym (r .is-rounded-root .ensures (c .before .before .if4 .taken)))
-    ∙ root-of-scaled x (s .scale .result) (normal-left x (s .before .before .before .before .if1 .taken) (omega arith)) (subst T (sym (s .before .before .before .before .before .good .0 .1)) tt) (f .0) (omega arith)
+    ∙ ap (λ (q : ℕ). units binary64 false q (s .scale .result .half - 26)) (sym (r .is-rounded-root .ensures (c .before .before .if5 .taken)))
+    ∙ root-of-scaled x (s .scale .result) (normal-left x (start .if1 .taken) (omega arith)) (subst T (sym (start .before .good .0 .1)) tt) (f .0) (omega arith)
 
--- src/root.rt:199:5
+-- src/root.rt:198:5
 sqrt-by-steps-requires : tie.Need-sqrt-by-steps-requires
 sqrt-by-steps-requires c κs = search needs
 
--- src/root.rt:183:1
+-- src/root.rt:179:1
 returns-2 : tie.Need-returns-2
 returns-2 c = search needs
 
@@ -79,6 +88,8 @@ sqrt-spec =
     (tie.spec
     float-to-bits-b
     guess-requires
+    float-to-bits-q
+    add-q
     scale-requires
     is-rounded-root-requires
     sub-packed

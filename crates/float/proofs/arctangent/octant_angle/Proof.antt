@@ -1,9 +1,9 @@
-use Rattle.float.specs.Arctangent.{firstOctant}
+use Rattle.float.specs.Arctangent.{octantAngle}
 use borrow.Author.Needs.{needs}
-use Rattle.float.proofs.arctangent.first_octant.Statement.{statement}
-use Rattle.float.proofs.arctangent.first_octant.Tie as tie
-use Rattle.float.proofs.arctangent.first_octant.Reads as reads
-use Rattle.float.proofs.arctangent.first_octant.Lts as lts
+use Rattle.float.proofs.arctangent.octant_angle.Statement.{statement}
+use Rattle.float.proofs.arctangent.octant_angle.Tie as tie
+use Rattle.float.proofs.arctangent.octant_angle.Reads as reads
+use Rattle.float.proofs.arctangent.octant_angle.Lts as lts
 use Rattle.float.proofs.arctangent.halved.Reads as halved-reads
 use Rattle.float.proofs.arctangent.series.Reads as series-reads
 
@@ -25,10 +25,10 @@ series-requires c κs = search needs
 
 -- src/lib.rt:81:1
 returns : tie.Need-returns
-unfolding firstOctant
+unfolding octantAngle
 returns c = cc
 
-pub first-octant-spec : {M : Type 1} → statement M
-first-octant-spec =
+pub octant-angle-spec : {M : Type 1} → statement M
+octant-angle-spec =
     tie.close
     (tie.spec halved-requires halved-requires-2 halved-requires-3 series-requires returns)
