@@ -47,14 +47,14 @@ sum-scale f false false A B c C = like f A B c C false
 sum-scale f true false A B c C = unlike-sum f true false A B c C
 sum-scale f false true A B c C = unlike-sum f false true A B c C
 
--- ---- the sum of two floats that are whole numbers
-add-values : (f : Format) (x y : Float) (s t : Bool) (A B : ℕ) → HasValue x s A 1 → HasValue y t B 1 → add f x y ≡ sum f s A t B 1
+-- ---- the sum of two floats that are whole numbers, of size A and B
+pub add-whole : (f : Format) (x y : Float) (s t : Bool) (A B : ℕ) → HasValue x s A 1 → HasValue y t B 1 → add f x y ≡ sum f s A t B 1
 unfolding add
-add-values f nan y s t A B p q = absurd p
-add-values f (inf u) y s t A B p q = absurd p
-add-values f (fin u m e) nan s t A B p q = absurd q
-add-values f (fin u m e) (inf v) s t A B p q = absurd q
-add-values f (fin u m e) (fin v n d) s t A B p q =
+add-whole f nan y s t A B p q = absurd p
+add-whole f (inf u) y s t A B p q = absurd p
+add-whole f (fin u m e) nan s t A B p q = absurd q
+add-whole f (fin u m e) (inf v) s t A B p q = absurd q
+add-whole f (fin u m e) (fin v n d) s t A B p q =
     let c = down e * down d in
     let pa : m * up e * down d ≡ A * c = ap (λ (z : ℕ). z * down d) (sym (mul-one (m * up e)) ∙ p .1) ∙ mul-assoc A (down e) (down d) in
     let pb : n * up d * down e ≡ B * c = ap (λ (z : ℕ). z * down e) (sym (mul-one (n * up d)) ∙ q .1) ∙ mul-assoc B (down d) (down e) ∙ ap (λ (z : ℕ). B * z) (mul-comm (down d) (down e)) in
@@ -64,7 +64,8 @@ add-values f (fin u m e) (fin v n d) s t A B p q =
     ∙ ap (λ (z : Bool). sum f s (A * c) z (B * c) c) (q .0)
     ∙ sum-scale f s t A B c (mul-pos (down-pos e) (down-pos d))
 
-abbrev minus : ℤ → Bool
+-- whether a whole number is negative
+abbrev pub minus : ℤ → Bool
 minus (pos n) = false
 minus (negsuc n) = true
 
@@ -87,7 +88,8 @@ of-sum f (pos a) (negsuc b) = of-sub f a b (ltb a (suc b)) refl
 of-sum f (negsuc a) (pos b) = of-sub' f a b (ltb (suc a) b) (ltb b (suc a)) refl refl
 of-sum f (negsuc a) (negsuc b) = let h : suc a + suc b ≡ suc (suc (a + b)) = omega arith in ap (λ (n : ℕ). round f true n 1) h
 
-of-int : (f : Format) (a : ℤ) → natAbs a ≤ 2 ^ prec f → HasValue (ofInt f a) (minus a) (natAbs a) 1
+-- the float of a whole number up to 2 ^ 53 in size is that number
+pub of-int : (f : Format) (a : ℤ) → natAbs a ≤ 2 ^ prec f → HasValue (ofInt f a) (minus a) (natAbs a) 1
 unfolding ofInt
 of-int f (pos n) h = round-whole f false n h
 of-int f (negsuc n) h = round-whole f true (suc n) h
@@ -95,7 +97,7 @@ of-int f (negsuc n) h = round-whole f true (suc n) h
 -- the float of a plus the float of b is the float of a + b
 pub exact-sum : (a b : ℤ) → natAbs a ≤ 2 ^ 53 → natAbs b ≤ 2 ^ 53 → add binary64 (ofInt binary64 a) (ofInt binary64 b) ≡ ofInt binary64 (a +ℤ b)
 exact-sum a b h k =
-    add-values binary64 (ofInt binary64 a) (ofInt binary64 b) (minus a) (minus b) (natAbs a) (natAbs b) (of-int binary64 a h) (of-int binary64 b k) ∙ of-sum binary64 a b
+    add-whole binary64 (ofInt binary64 a) (ofInt binary64 b) (minus a) (minus b) (natAbs a) (natAbs b) (of-int binary64 a h) (of-int binary64 b k) ∙ of-sum binary64 a b
 
 -- ---- sizes
 sub-size : (a b : ℕ) (x : Bool) → ltb a b ≡ x → natAbs (cond x (negsuc (b - suc a)) (pos (a - b))) ≤ a + b

@@ -61,12 +61,6 @@ normal-left (fin false zero d) e h = absurd (omega (arith, ltb-true (0 * down d)
 normal-left (fin true (suc m) d) e h = absurd (true≢false (sym e))
 normal-left (fin false (suc m) d) e h = refl
 
-pub above-nan : (x : Float) → lt zero·0 x ≡ true → T (not (isNan x))
-unfolding lt ofBits isNan
-above-nan nan e = absurd (true≢false (sym e))
-above-nan (inf s) e = tt
-above-nan (fin s m d) e = tt
-
 -- the scaled significand of such a number, rounded
 pub root-of-scaled : (x : Float) (s : Scaled) → operandOf x ≡ Positive → T (fits binary64 x) → Scales (magnitude (toBits binary64 x) * 2 ^ 1074) s → 26 ≤ s .half
     → units binary64 false (roundedRoot (s .significand)) (s .half - 26) ≡ sqrtOf x

@@ -1,11 +1,12 @@
 use Rattle.float.specs.Arithmetic.{PI, signBitOf}
-use mathlib.Core.Bool.{cond, _&&_, Bool, true, false}
+use mathlib.Core.Bool.{cond}
 use lib.Ieee.{ofBits, div, binary64, sub}
 use mathlib.Core.Logic.{⊎-elim}
 use borrow.Author.Tests.{not-true, not-false}
 use lib.Ieee.{ofBits, div}
 use Rattle.float.specs.Arctangent.{arctangent}
-use mathlib.Core.Path.{_≡_, refl, sym, _∙_}
+use mathlib.Core.Path.{_≡_, sym, _∙_}
+use Rattle.float.proofs.Sign.{and-false}
 use borrow.Author.Needs.{needs}
 use Rattle.float.proofs.arctangent.atan2.Statement.{statement}
 use Rattle.float.proofs.arctangent.atan2.Tie as tie
@@ -15,10 +16,6 @@ use Rattle.float.proofs.arithmetic.abs.Reads as abs-reads
 use Rattle.float.proofs.arithmetic.is_finite.Reads as is-finite-reads
 use Rattle.float.proofs.arctangent.quadrant_angle.Reads as quadrant-angle-reads
 use Rattle.float.proofs.arithmetic.is_sign_negative.Reads as is-sign-negative-reads
-
-and-false : (b : Bool) → (b && false) ≡ false
-and-false true = refl
-and-false false = refl
 
 -- the angle in the half plane that z's sign bit picks
 half : (c : tie.Joined3) → c .if3 .r ≡ cond (signBitOf (c .before .before .before .before .before .before .before .before .before .args .z)) (sub binary64 PI (c .before .before .quadrant-angle .result)) (c .before .before .quadrant-angle .result)

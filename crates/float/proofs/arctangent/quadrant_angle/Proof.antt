@@ -1,9 +1,9 @@
 -- `float::arctangent::quadrant_angle` meets its contract. Assumes nothing.
-use mathlib.Core.Path.{_≡_, refl, sym, ap, _∙_}
+use mathlib.Core.Path.{_≡_}
 use mathlib.Core.Bool.{cond}
 use mathlib.Core.Logic.{⊎-elim}
 use lib.Ieee.{lt}
-use Rattle.float.specs.Arctangent.{ratioAngle, quadrantAngle}
+use Rattle.float.specs.Arctangent.{quadrantAngle}
 use borrow.Author.Needs.{needs}
 use Rattle.float.proofs.arctangent.quadrant_angle.Statement.{statement}
 use Rattle.float.proofs.arctangent.quadrant_angle.Tie as tie

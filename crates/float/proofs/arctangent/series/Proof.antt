@@ -1,6 +1,6 @@
 -- `float::arctangent::series` meets its contract: each literal is 1 / (2k + 1) rounded, negated for odd k. Assumes nothing.
-use mathlib.Core.Path.{_≡_, refl}
-use lib.Ieee.{binary64, ofBits, neg, div, round, ofInt}
+use mathlib.Core.Path.{refl}
+use lib.Ieee.{ofBits, neg, div, round, ofInt}
 use Rattle.float.specs.Arctangent.{coefficient, series}
 use Rattle.float.proofs.arctangent.series.Statement.{statement}
 use Rattle.float.proofs.arctangent.series.Tie as tie

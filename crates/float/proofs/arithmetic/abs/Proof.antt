@@ -2,7 +2,7 @@
 use mathlib.Core.Path.{sym, subst}
 use lib.Dec.{T}
 use lib.Ieee.{binary64, fits}
-use Rattle.float.proofs.Sign.{no-nan, abs-nan, abs-of-bits, abs-pattern}
+use Rattle.float.proofs.Sign.{not-nan, abs-nan, abs-of-bits, abs-pattern}
 use Rattle.float.proofs.arithmetic.abs.Statement.{statement}
 use Rattle.float.proofs.arithmetic.abs.Tie as tie
 use Rattle.float.proofs.arithmetic.abs.Reads as reads
@@ -18,15 +18,15 @@ returns c = abs-nan (c .before .args .x) (c .if1 .taken)
 
 -- src/arithmetic.rt:24:20
 float-to-bits-result : tie.Need-float-to-bits-result
-float-to-bits-result c = no-nan (c .before .args .x) (c .if1 .left)
+float-to-bits-result c = not-nan (c .before .args .x) (c .if1 .left)
 
 -- src/arithmetic.rt:24:5
 float-from-bits-result : tie.Need-float-from-bits-result
-float-from-bits-result c = abs-pattern (c .before .args .x) (held (c .before)) (no-nan (c .before .args .x) (c .if1 .left))
+float-from-bits-result c = abs-pattern (c .before .args .x) (held (c .before)) (not-nan (c .before .args .x) (c .if1 .left))
 
 -- src/arithmetic.rt:18:1
 returns-2 : tie.Need-returns-2
-returns-2 c = abs-of-bits (c .before .args .x) (held (c .before)) (no-nan (c .before .args .x) (c .if1 .left))
+returns-2 c = abs-of-bits (c .before .args .x) (held (c .before)) (not-nan (c .before .args .x) (c .if1 .left))
 
 pub abs-spec : {M : Type 1} → statement M
 abs-spec = tie.close (tie.spec returns float-to-bits-result float-from-bits-result returns-2)

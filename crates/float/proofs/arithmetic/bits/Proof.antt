@@ -1,5 +1,6 @@
 -- `float::bits` meets its contract. Assumes nothing.
-use Rattle.float.proofs.Patterns.{nan-bits, not-nan}
+use Rattle.float.proofs.Patterns.{nan-bits}
+use Rattle.float.proofs.Sign.{not-nan}
 use borrow.Author.Needs.{needs}
 use Rattle.float.proofs.arithmetic.bits.Statement.{statement}
 use Rattle.float.proofs.arithmetic.bits.Tie as tie

@@ -8,8 +8,8 @@ use lib.Ieee.{binary64, toBits, units}
 use Rattle.float.specs.Root.{magnitude}
 use Rattle.float.specs.declared.root.Scaled.{Scaled}
 use Rattle.float.proofs.Scaling.{Scales, scaled-facts}
-use Rattle.float.proofs.Patterns.{same-not-nan}
-use Rattle.float.proofs.Steps.{normal-left, above-nan, root-of-scaled}
+use Rattle.float.proofs.Sign.{same-not-nan, above-not-nan}
+use Rattle.float.proofs.Steps.{normal-left, root-of-scaled}
 use borrow.Author.Needs.{needs}
 use Rattle.float.proofs.root.sqrt.Statement.{statement}
 use Rattle.float.proofs.root.sqrt.Tie as tie
@@ -29,7 +29,7 @@ scaled-at c =
 
 -- src/root.rt:183:17
 float-to-bits-b : tie.Need-float-to-bits-b
-float-to-bits-b c = above-nan (c .before .args .x) (c .if1 .taken)
+float-to-bits-b c = above-not-nan (c .before .args .x) (c .if1 .taken)
 
 -- src/root.rt:187:21
 guess-requires : tie.Need-guess-requires
