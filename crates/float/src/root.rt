@@ -106,18 +106,19 @@ fn packed(q: u64, k: u64) -> f64
     f64::from_bits(k * 0x10_0000_0000_0000 + q)
 }
 
-// Step 3: the root is half of what step 2 found, or more than that where it is not exact. To nearest, ties to even.
+// Step 3: to nearest, ties to even. The root is half of what step 2 found, or more than that where it is not exact.
 fn rounded(root: u64, exact: bool, k: u64) -> f64
     requires { ⌜ (2 ^ 53 ≤ root) × (root < 2 ^ 54) × (k < 2000) ⌝ }
     ensures { λ r. ⌜ r ≡ units binary64 false (nearest (root / 2) (halfway (root % 2) exact)) k ⌝ }
 {
     let q = root / 2;
-    let half = root % 2;
-    if exact {
-        packed(q + half * (q % 2), k)
-    } else {
-        packed(q + half, k)
+    if root % 2 == 0 {
+        return packed(q, k);
     }
+    if exact {
+        return packed(q + q % 2, k);
+    }
+    packed(q + 1, k)
 }
 
 // The square root, by the three steps.

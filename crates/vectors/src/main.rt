@@ -14,7 +14,11 @@ const LINE: usize = 51;
 fn digit(c: u8) -> u64
     ensures { λ r. ⌜ r < 16 ⌝ }
 {
-    if c < b'a' { c as u64 % 16 } else { (c as u64 + 9) % 16 }
+    if c < b'a' {
+        c as u64 % 16
+    } else {
+        (c as u64 + 9) % 16
+    }
 }
 
 // The word of 16 digits at an index.

@@ -3,9 +3,6 @@ use Prim.Native.Nat.{_≤_, _-_}
 use borrow.Author.Needs.{needs}
 use Rattle.vectors.proofs.word.Statement.{statement}
 use Rattle.vectors.proofs.word.Tie as tie
-use Rattle.vectors.proofs.word.Reads as reads
-use Rattle.vectors.proofs.word.Lts as lts
-use Rattle.vectors.proofs.digit.Reads as digit-reads
 
 abbrev Inv-loop : tie.InvT-loop
 Inv-loop text at value₀ i₀ value i = i ≤ 16
@@ -13,35 +10,27 @@ Inv-loop text at value₀ i₀ value i = i ≤ 16
 abbrev μ-loop : tie.MeasureT-loop
 μ-loop text at value₀ i₀ value i = 16 - i
 
--- src/main.rt:26:5
 loop-holds : tie.Need-loop-holds Inv-loop μ-loop
 loop-holds c = search needs
 
--- src/main.rt:27:22
 add-c : tie.Need-add-c Inv-loop μ-loop
 add-c c = search needs
 
--- src/main.rt:27:17
 shared-slice-read-c : tie.Need-shared-slice-read-c Inv-loop μ-loop
 shared-slice-read-c c = search needs
 
--- src/main.rt:28:32
 digit-requires : tie.Need-digit-requires Inv-loop μ-loop
 digit-requires c κs = search needs
 
--- src/main.rt:29:9
 add-i : tie.Need-add-i Inv-loop μ-loop
 add-i c = search needs
 
--- src/main.rt:26:5
 loop-less : tie.Need-loop-less Inv-loop μ-loop
 loop-less c = search needs
 
--- src/main.rt:26:5
 loop-again : tie.Need-loop-again Inv-loop μ-loop
 loop-again c = search needs
 
--- src/main.rt:21:1
 returns : tie.Need-returns Inv-loop μ-loop
 returns c = search needs
 

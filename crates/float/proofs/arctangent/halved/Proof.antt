@@ -1,16 +1,12 @@
+-- `float::arctangent::halved` meets its contract. Assumes nothing.
 use Rattle.float.specs.Arctangent.{halved}
 use borrow.Author.Needs.{needs}
 use Rattle.float.proofs.arctangent.halved.Statement.{statement}
 use Rattle.float.proofs.arctangent.halved.Tie as tie
-use Rattle.float.proofs.arctangent.halved.Reads as reads
-use Rattle.float.proofs.arctangent.halved.Lts as lts
-use Rattle.float.proofs.root.sqrt.Reads as sqrt-reads
 
--- src/lib.rt:65:16
 sqrt-requires : tie.Need-sqrt-requires
 sqrt-requires c κs = search needs
 
--- src/lib.rt:62:1
 returns : tie.Need-returns
 unfolding halved
 returns c = simp (c .sqrt .ensures)

@@ -7,9 +7,6 @@ use Rattle.float.specs.Arctangent.{quadrantAngle}
 use borrow.Author.Needs.{needs}
 use Rattle.float.proofs.arctangent.quadrant_angle.Statement.{statement}
 use Rattle.float.proofs.arctangent.quadrant_angle.Tie as tie
-use Rattle.float.proofs.arctangent.quadrant_angle.Reads as reads
-use Rattle.float.proofs.arctangent.quadrant_angle.Lts as lts
-use Rattle.float.proofs.arctangent.ratio_angle.Reads as ratio-angle-reads
 
 -- the smaller and the larger
 smaller : (c : tie.Joined1) → c .if1 .m ≡ cond (lt (c .before .args .b) (c .before .args .a)) (c .before .args .b) (c .before .args .a)
@@ -18,16 +15,13 @@ smaller c = ⊎-elim (λ w. simp (w .0 .taken, w .1)) (λ w. simp (w .0 .left, w
 larger : (c : tie.Joined1) → c .if1 .l ≡ cond (lt (c .before .args .b) (c .before .args .a)) (c .before .args .a) (c .before .args .b)
 larger c = ⊎-elim (λ w. simp (w .0 .taken, w .2)) (λ w. simp (w .0 .left, w .2)) (c .if1 .came)
 
--- src/arctangent.rt:56:9
 ratio-angle-requires : tie.Need-ratio-angle-requires
 ratio-angle-requires c κs = search needs
 
--- src/arctangent.rt:47:1
 returns : tie.Need-returns
 unfolding quadrantAngle
 returns c = simp (c .before .ratio-angle .ensures, smaller (c .before .before), larger (c .before .before), c .if2 .taken)
 
--- src/arctangent.rt:47:1
 returns-2 : tie.Need-returns-2
 unfolding quadrantAngle
 returns-2 c = simp (c .before .ratio-angle .ensures, smaller (c .before .before), larger (c .before .before), c .if2 .left)

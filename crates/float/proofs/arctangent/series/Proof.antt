@@ -4,10 +4,7 @@ use lib.Ieee.{ofBits, neg, div, round, ofInt}
 use Rattle.float.specs.Arctangent.{coefficient, series}
 use Rattle.float.proofs.arctangent.series.Statement.{statement}
 use Rattle.float.proofs.arctangent.series.Tie as tie
-use Rattle.float.proofs.arctangent.series.Reads as reads
-use Rattle.float.proofs.arctangent.series.Lts as lts
 
--- src/arctangent.rt:18:1
 returns : tie.Need-returns
 unfolding series coefficient ofBits neg div round ofInt
 returns c = refl

@@ -5,26 +5,20 @@ use lib.Ieee.{binary64, fits}
 use Rattle.float.proofs.Sign.{not-nan, abs-nan, abs-of-bits, abs-pattern}
 use Rattle.float.proofs.arithmetic.abs.Statement.{statement}
 use Rattle.float.proofs.arithmetic.abs.Tie as tie
-use Rattle.float.proofs.arithmetic.abs.Reads as reads
-use Rattle.float.proofs.arithmetic.abs.Lts as lts
 
 -- what owning an f64 tells
 held : (c : tie.Start) → T (fits binary64 (c .args .x))
 held c = subst T (sym (c .good .0 .1)) tt
 
--- src/arithmetic.rt:22:9
 returns : tie.Need-returns
 returns c = abs-nan (c .before .args .x) (c .if1 .taken)
 
--- src/arithmetic.rt:24:20
 float-to-bits-result : tie.Need-float-to-bits-result
 float-to-bits-result c = not-nan (c .before .args .x) (c .if1 .left)
 
--- src/arithmetic.rt:24:5
 float-from-bits-result : tie.Need-float-from-bits-result
 float-from-bits-result c = abs-pattern (c .before .args .x) (held (c .before)) (not-nan (c .before .args .x) (c .if1 .left))
 
--- src/arithmetic.rt:18:1
 returns-2 : tie.Need-returns-2
 returns-2 c = abs-of-bits (c .before .args .x) (held (c .before)) (not-nan (c .before .args .x) (c .if1 .left))
 

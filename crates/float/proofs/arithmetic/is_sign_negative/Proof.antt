@@ -1,20 +1,16 @@
+-- `float::arithmetic::is_sign_negative` meets its contract. Assumes nothing.
 use lib.Dec.{T}
 use Rattle.float.proofs.Sign.{not-nan, nan-sign, sign-of-bits}
 use mathlib.Core.Path.{sym, subst}
 use Rattle.float.proofs.arithmetic.is_sign_negative.Statement.{statement}
 use Rattle.float.proofs.arithmetic.is_sign_negative.Tie as tie
-use Rattle.float.proofs.arithmetic.is_sign_negative.Reads as reads
-use Rattle.float.proofs.arithmetic.is_sign_negative.Lts as lts
 
--- src/lib.rt:22:9
 returns : tie.Need-returns
 returns c = nan-sign (c .before .args .x) (c .if1 .taken)
 
--- src/lib.rt:24:30
 float-to-bits-result : tie.Need-float-to-bits-result
 float-to-bits-result c = not-nan (c .before .args .x) (c .if1 .left)
 
--- src/lib.rt:18:1
 returns-2 : tie.Need-returns-2
 returns-2 c = sign-of-bits (c .before .args .x) (subst T (sym (c .before .good .0 .1)) tt) (not-nan (c .before .args .x) (c .if1 .left))
 

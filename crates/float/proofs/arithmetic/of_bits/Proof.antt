@@ -1,21 +1,16 @@
--- `float::of_bits` meets its contract. Assumes nothing.
+-- `float::arithmetic::of_bits` meets its contract. Assumes nothing.
 use mathlib.Core.Path.{_∙_}
 use Rattle.float.proofs.Patterns.{zero-by-zero, high-pattern, other-pattern}
 use borrow.Author.Needs.{needs}
 use Rattle.float.proofs.arithmetic.of_bits.Statement.{statement}
 use Rattle.float.proofs.arithmetic.of_bits.Tie as tie
-use Rattle.float.proofs.arithmetic.of_bits.Reads as reads
-use Rattle.float.proofs.arithmetic.of_bits.Lts as lts
 
--- src/lib.rt:223:9
 returns : tie.Need-returns
 returns c = zero-by-zero ∙ high-pattern (c .before .args .b) (c .if1 .taken)
 
--- src/lib.rt:225:5
 float-from-bits-result : tie.Need-float-from-bits-result
 float-from-bits-result c = other-pattern (c .before .args .b) (c .if1 .left)
 
--- src/lib.rt:219:1
 returns-2 : tie.Need-returns-2
 returns-2 c = search needs
 

@@ -1,22 +1,17 @@
+-- `float::arithmetic::rem_euclid_turn` meets its contract. Assumes nothing.
 use lib.Ieee.{ofBits}
 use Rattle.float.specs.Arithmetic.{remEuclid, absOf}
 use borrow.Author.Needs.{needs}
 use Rattle.float.proofs.arithmetic.rem_euclid_turn.Statement.{statement}
 use Rattle.float.proofs.arithmetic.rem_euclid_turn.Tie as tie
-use Rattle.float.proofs.arithmetic.rem_euclid_turn.Reads as reads
-use Rattle.float.proofs.arithmetic.rem_euclid_turn.Lts as lts
-use Rattle.float.proofs.arithmetic.rem_turn.Reads as rem-turn-reads
 
--- src/lib.rt:59:9
 rem-turn-requires : tie.Need-rem-turn-requires
 rem-turn-requires c κs = search needs
 
--- src/lib.rt:56:1
 returns : tie.Need-returns
 unfolding remEuclid absOf ofBits
 returns c = rw (← c .before .rem-turn .ensures, c .if1 .taken)
 
--- src/lib.rt:56:1
 returns-2 : tie.Need-returns-2
 unfolding remEuclid absOf ofBits
 returns-2 c = rw (← c .before .rem-turn .ensures, c .if1 .left)

@@ -1,23 +1,19 @@
+-- `float::arithmetic::rem_turn` meets its contract. Assumes nothing.
 use mathlib.Core.Path.{refl, sym, subst}
 use lib.Dec.{T}
 use lib.Ieee.{ofBits, neg}
 use Rattle.float.proofs.Remainder.{rem-turn-small, rem-turn-once}
 use Rattle.float.proofs.arithmetic.rem_turn.Statement.{statement}
 use Rattle.float.proofs.arithmetic.rem_turn.Tie as tie
-use Rattle.float.proofs.arithmetic.rem_turn.Reads as reads
-use Rattle.float.proofs.arithmetic.rem_turn.Lts as lts
 
--- src/lib.rt:46:13
 returns : tie.Need-returns
 unfolding ofBits neg
 returns c = sym (rem-turn-small (c .before .before .args .x) (subst T (sym (c .before .before .good .0 .1)) tt) (c .before .if1 .taken) (c .if2 .taken))
 
--- src/lib.rt:49:13
 returns-2 : tie.Need-returns-2
 unfolding ofBits neg
 returns-2 c = sym (rem-turn-once (c .before .before .before .args .x) (c .before .before .if1 .taken) (c .before .if2 .left) (c .if3 .taken))
 
--- src/lib.rt:41:1
 returns-3 : tie.Need-returns-3
 unfolding ofBits
 returns-3 c = refl

@@ -1,11 +1,9 @@
+-- `float::arithmetic::to_degrees` meets its contract. Assumes nothing.
 use Rattle.float.specs.Arithmetic.{toDegrees}
 use mathlib.Core.Path.{refl}
 use Rattle.float.proofs.arithmetic.to_degrees.Statement.{statement}
 use Rattle.float.proofs.arithmetic.to_degrees.Tie as tie
-use Rattle.float.proofs.arithmetic.to_degrees.Reads as reads
-use Rattle.float.proofs.arithmetic.to_degrees.Lts as lts
 
--- src/lib.rt:46:1
 returns : tie.Need-returns
 unfolding toDegrees
 returns c = refl

@@ -1,4 +1,4 @@
--- `float::floor_root` meets its contract. After i turns `root` is the floor of the root of the first 2 * i bits of m * 2 ^ 54, which has 108, `rest` is what its
+-- `float::root::floor_root` meets its contract. After i turns `root` is the floor of the root of the first 2 * i bits of m * 2 ^ 54, which has 108, `rest` is what its
 -- square leaves of them, and `bits` has the next 64. Assumes nothing.
 use mathlib.Core.Path.{_≡_, refl, sym, ap, _∙_, subst, subst₂}
 use mathlib.Core.Logic.{⊎-elim}
@@ -13,8 +13,6 @@ use Rattle.float.specs.Root.{isqrt}
 use Rattle.float.proofs.Isqrt.{sq-suc, isqrt-is}
 use Rattle.float.proofs.root.floor_root.Statement.{statement}
 use Rattle.float.proofs.root.floor_root.Tie as tie
-use Rattle.float.proofs.root.floor_root.Reads as reads
-use Rattle.float.proofs.root.floor_root.Lts as lts
 
 -- of the first 2 * i bits of m * 2 ^ 54
 abbrev Digits : ℕ → ℕ → ℕ → ℕ → ℕ → Type 0

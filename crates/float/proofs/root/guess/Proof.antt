@@ -4,30 +4,22 @@ use Rattle.float.proofs.Patterns.{low-pattern}
 use borrow.Author.Needs.{needs}
 use Rattle.float.proofs.root.guess.Statement.{statement}
 use Rattle.float.proofs.root.guess.Tie as tie
-use Rattle.float.proofs.root.guess.Reads as reads
-use Rattle.float.proofs.root.guess.Lts as lts
 
--- src/root.rt:143:14
 add-n : tie.Need-add-n
 add-n c = search needs
 
--- src/root.rt:143:13
 add-n-2 : tie.Need-add-n-2
 add-n-2 c = search needs
 
--- src/root.rt:144:13
 float-from-bits-f : tie.Need-float-from-bits-f
 float-from-bits-f c = low-pattern _ (omega arith)
 
--- src/root.rt:146:29
 sub-y0 : tie.Need-sub-y0
 sub-y0 c = search needs
 
--- src/root.rt:146:14
 float-from-bits-y0 : tie.Need-float-from-bits-y0
 float-from-bits-y0 c = low-pattern _ (omega arith)
 
--- src/root.rt:139:1
 returns : tie.Need-returns
 returns c = search needs
 

@@ -8,9 +8,6 @@ use Rattle.float.proofs.Guessed.{small, guessed}
 use borrow.Author.Needs.{needs}
 use Rattle.float.proofs.root.is_rounded_root.Statement.{statement}
 use Rattle.float.proofs.root.is_rounded_root.Tie as tie
-use Rattle.float.proofs.root.is_rounded_root.Reads as reads
-use Rattle.float.proofs.root.is_rounded_root.Lts as lts
-use Rattle.std.proofs.num.wrapping_sub_u64.Reads as wrapping-sub-u64-reads
 
 -- the products of d's digits
 digits : (q : ℕ) → q < 2 ^ 53 → (let a = (q - 1) / 2 ^ 26 in let c = (q - 1) % 2 ^ 26 in (a * a ≤ 2 ^ 54) × (a * c ≤ 2 ^ 53) × (c * c ≤ 2 ^ 52))
@@ -19,55 +16,42 @@ digits q h =
     let c = (q - 1) % 2 ^ 26 in
     (small a a (2 ^ 27) (2 ^ 27) (omega arith) (omega arith), small a c (2 ^ 27) (2 ^ 26) (omega arith) (omega arith), small c c (2 ^ 26) (2 ^ 26) (omega arith) (omega arith))
 
--- src/root.rt:166:13
 sub-d : tie.Need-sub-d
 sub-d c = search needs
 
--- src/root.rt:169:36
 mul-wrapping-sub-u64 : tie.Need-mul-wrapping-sub-u64
 mul-wrapping-sub-u64 c = let p = digits (c .args .q) (c .pre .2) in omega arith
 
--- src/root.rt:169:9
 wrapping-sub-u64-requires : tie.Need-wrapping-sub-u64-requires
 wrapping-sub-u64-requires c κs = search needs
 
--- src/root.rt:171:37
 mul-wrapping-sub-u64-2 : tie.Need-mul-wrapping-sub-u64-2
 mul-wrapping-sub-u64-2 c = search needs
 
--- src/root.rt:171:56
 mul-wrapping-sub-u64-3 : tie.Need-mul-wrapping-sub-u64-3
 mul-wrapping-sub-u64-3 c = let p = digits (c .before .before .args .q) (c .before .before .pre .2) in omega arith
 
--- src/root.rt:171:56
 mul-wrapping-sub-u64-4 : tie.Need-mul-wrapping-sub-u64-4
 mul-wrapping-sub-u64-4 c = let p = digits (c .before .before .args .q) (c .before .before .pre .2) in omega arith
 
--- src/root.rt:171:13
 wrapping-sub-u64-requires-2 : tie.Need-wrapping-sub-u64-requires-2
 wrapping-sub-u64-requires-2 c κs = search needs
 
--- src/root.rt:173:41
 mul-wrapping-sub-u64-5 : tie.Need-mul-wrapping-sub-u64-5
 mul-wrapping-sub-u64-5 c = search needs
 
--- src/root.rt:173:60
 mul-wrapping-sub-u64-6 : tie.Need-mul-wrapping-sub-u64-6
 mul-wrapping-sub-u64-6 c = let p = digits (c .before .before .before .before .args .q) (c .before .before .before .before .pre .2) in omega arith
 
--- src/root.rt:173:17
 wrapping-sub-u64-requires-3 : tie.Need-wrapping-sub-u64-requires-3
 wrapping-sub-u64-requires-3 c κs = search needs
 
--- src/root.rt:175:32
 mul-result : tie.Need-mul-result
 mul-result c = search needs
 
--- src/root.rt:175:32
 add-result : tie.Need-add-result
 add-result c = search needs
 
--- src/root.rt:175:17
 returns : tie.Need-returns
 returns c e =
     let f = c .before in
@@ -82,15 +66,12 @@ returns c e =
     (omega (arith, f .wrapping-sub-u643 .ensures))
     (c .if3 .taken) t
 
--- src/root.rt:162:1
 returns-2 : tie.Need-returns-2
 returns-2 c e = absurd (true≢false (sym e))
 
--- src/root.rt:162:1
 returns-3 : tie.Need-returns-3
 returns-3 c e = absurd (true≢false (sym e))
 
--- src/root.rt:162:1
 returns-4 : tie.Need-returns-4
 returns-4 c e = absurd (true≢false (sym e))
 

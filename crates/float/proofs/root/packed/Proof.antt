@@ -1,24 +1,18 @@
--- `float::packed` meets its contract. Assumes nothing.
+-- `float::root::packed` meets its contract. Assumes nothing.
 use borrow.Author.Needs.{needs}
 use Rattle.float.proofs.Patterns.{packed-is, packed-no-nan}
 use Rattle.float.proofs.root.packed.Statement.{statement}
 use Rattle.float.proofs.root.packed.Tie as tie
-use Rattle.float.proofs.root.packed.Reads as reads
-use Rattle.float.proofs.root.packed.Lts as lts
 
--- src/lib.rt:109:20
 mul-result : tie.Need-mul-result
 mul-result c = search needs
 
--- src/lib.rt:109:20
 add-result : tie.Need-add-result
 add-result c = search needs
 
--- src/lib.rt:109:5
 float-from-bits-result : tie.Need-float-from-bits-result
 float-from-bits-result c = packed-no-nan (c .args .q) (c .args .k) (c .pre .0) (c .pre .1) (c .pre .2)
 
--- src/lib.rt:105:1
 returns : tie.Need-returns
 returns c = packed-is (c .args .q) (c .args .k) (c .pre .0) (c .pre .1) (c .pre .2)
 

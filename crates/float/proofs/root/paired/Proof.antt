@@ -1,4 +1,4 @@
--- `float::paired` meets its contract. Assumes nothing.
+-- `float::root::paired` meets its contract. Assumes nothing.
 use mathlib.Core.Path.{_≡_, refl}
 use Prim.Native.Nat.{_*_, _%_, _^_}
 use native.Mathlib.Omega.{arith}
@@ -6,14 +6,10 @@ use Rattle.float.proofs.Scaling.{pair, scaled-path}
 use borrow.Author.Needs.{needs}
 use Rattle.float.proofs.root.paired.Statement.{statement}
 use Rattle.float.proofs.root.paired.Tie as tie
-use Rattle.float.proofs.root.paired.Reads as reads
-use Rattle.float.proofs.root.paired.Lts as lts
 
--- src/lib.rt:52:22
 shl-t4 : tie.Need-shl-t4
 shl-t4 c = search needs
 
--- src/lib.rt:47:1
 returns : tie.Need-returns
 returns c =
     let f = pair (c .args .m) (c .args .e) (c .pre .0) (c .pre .1) in

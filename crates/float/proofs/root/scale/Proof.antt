@@ -1,4 +1,4 @@
--- `float::scale` meets its contract. Assumes nothing.
+-- `float::root::scale` meets its contract. Assumes nothing.
 use mathlib.Core.Path.{_≡_, _∙_}
 use Prim.Native.Nat.{ℕ, _+_, _-_, _*_, _/_, _%_, _^_, _<_}
 use native.Mathlib.Omega.{arith}
@@ -9,56 +9,44 @@ use Rattle.float.proofs.Scaling.{pair-is}
 use borrow.Author.Needs.{needs}
 use Rattle.float.proofs.root.scale.Statement.{statement}
 use Rattle.float.proofs.root.scale.Tie as tie
-use Rattle.float.proofs.root.scale.Reads as reads
-use Rattle.float.proofs.root.scale.Lts as lts
-use Rattle.float.proofs.root.paired.Reads as paired-reads
 
 low : (b : ℕ) → b / 2 ^ 52 ≡ 0 → b < 2 ^ 52
 low b h = omega arith
 
--- src/lib.rt:71:17
 cast-z : tie.Need-cast-z
 cast-z c =
     let f = subnormal (c .before .args .b) (c .before .pre .0) (low (c .before .args .b) (c .if1 .taken)) in
     omega arith
 
--- src/lib.rt:71:17
 sub-z : tie.Need-sub-z
 sub-z c =
     let f = subnormal (c .before .args .b) (c .before .pre .0) (low (c .before .args .b) (c .if1 .taken)) in
     omega arith
 
--- src/lib.rt:72:16
 shl-paired : tie.Need-shl-paired
 shl-paired c =
     let f = subnormal (c .before .args .b) (c .before .pre .0) (low (c .before .args .b) (c .if1 .taken)) in
     omega arith
 
--- src/lib.rt:72:24
 sub-paired : tie.Need-sub-paired
 sub-paired c =
     let f = subnormal (c .before .args .b) (c .before .pre .0) (low (c .before .args .b) (c .if1 .taken)) in
     omega arith
 
--- src/lib.rt:72:9
 paired-requires : tie.Need-paired-requires
 paired-requires c κs =
     let f = subnormal (c .before .args .b) (c .before .pre .0) (low (c .before .args .b) (c .if1 .taken)) in
     (omega arith, omega arith)
 
--- src/lib.rt:74:16
 add-paired : tie.Need-add-paired
 add-paired c = search needs
 
--- src/lib.rt:74:63
 add-paired-2 : tie.Need-add-paired-2
 add-paired-2 c = search needs
 
--- src/lib.rt:74:9
 paired-requires-2 : tie.Need-paired-requires-2
 paired-requires-2 c κs = search needs
 
--- src/lib.rt:65:1
 returns : tie.Need-returns
 returns c =
     let f = subnormal (c .before .before .args .b) (c .before .before .pre .0) (low (c .before .before .args .b) (c .before .if1 .taken)) in
@@ -67,7 +55,6 @@ returns c =
     let m = (b * 2 ^ z) % 2 ^ 64 in
     c .paired .ensures ∙ pair-is (magnitude b * 2 ^ 1074) m (1074 - z) (omega arith) (omega arith) (subnormal-magnitude b z m (c .before .if1 .taken) (omega arith) (omega arith))
 
--- src/lib.rt:65:1
 returns-2 : tie.Need-returns-2
 returns-2 c =
     let b = c .before .before .args .b in

@@ -1,4 +1,4 @@
--- `float::special` meets its contract. Assumes nothing.
+-- `float::root::special` meets its contract. Assumes nothing.
 use mathlib.Core.Path.{_≡_, refl, sym, _∙_, subst, subst₂}
 use mathlib.Core.Bool.{Bool, true, false, _||_, Bool·beq, true≢false}
 use Prim.Native.Nat.{ℕ, zero, suc, _+_, _*_, _<_}
@@ -13,8 +13,6 @@ use Rattle.float.specs.Root.{operandOf}
 use Rattle.float.specs.declared.root.Operand.the-variants.{Answer, Positive}
 use Rattle.float.proofs.root.special.Statement.{statement}
 use Rattle.float.proofs.root.special.Tie as tie
-use Rattle.float.proofs.root.special.Reads as reads
-use Rattle.float.proofs.root.special.Lts as lts
 
 holds : {b : Bool} → b ≡ true → T b
 holds e = subst T (sym e) tt
@@ -75,28 +73,22 @@ positive-left (fin true (suc m) d) p q r t =
     absurd (true≢false (sym (lt-ltb 0 (suc m * up d * 1 + 0 * 1 * down d) (omega arith)) ∙ r))
 positive-left (fin false (suc m) d) p q r t = refl
 
--- src/lib.rt:32:9
 returns : tie.Need-returns
 returns c = nan-answer (c .before .args .x) (c .if1 .taken)
 
--- src/lib.rt:35:9
 returns-2 : tie.Need-returns-2
 returns-2 c = zero-answer (c .before .before .args .x) (c .if2 .taken)
 
--- src/lib.rt:38:9
 returns-3 : tie.Need-returns-3
 returns-3 c = negative-answer (c .before .before .before .args .x) (c .if3 .taken)
 
--- src/lib.rt:40:13
 float-from-bits-if4 : tie.Need-float-from-bits-if4
 unfolding nanBits
 float-from-bits-if4 c = tt
 
--- src/lib.rt:41:9
 returns-4 : tie.Need-returns-4
 returns-4 c = infinity-answer (c .before .before .before .before .args .x) (c .if4 .taken)
 
--- src/lib.rt:28:1
 returns-5 : tie.Need-returns-5
 returns-5 c = positive-left (c .before .before .before .before .args .x) (c .before .before .before .if1 .left) (c .before .before .if2 .left) (c .before .if3 .left) (c .if4 .left)
 

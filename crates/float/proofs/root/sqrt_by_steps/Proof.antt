@@ -13,12 +13,6 @@ use Rattle.float.proofs.Rooted.{two-bounds}
 use borrow.Author.Needs.{needs}
 use Rattle.float.proofs.root.sqrt_by_steps.Statement.{statement}
 use Rattle.float.proofs.root.sqrt_by_steps.Tie as tie
-use Rattle.float.proofs.root.sqrt_by_steps.Reads as reads
-use Rattle.float.proofs.root.sqrt_by_steps.Lts as lts
-use Rattle.float.proofs.root.floor_root.Reads as floor-root-reads
-use Rattle.float.proofs.root.rounded.Reads as rounded-reads
-use Rattle.float.proofs.root.scale.Reads as scale-reads
-use Rattle.float.proofs.root.special.Reads as special-reads
 
 -- what owning an `f64` tells: the format holds it
 held : (c : tie.Start) → T (fits binary64 (c .args .x))
@@ -34,37 +28,29 @@ scaled-at c =
     let l = left-over x (left-at (c .before)) (held (c .before .before .before .before)) in
     subst (λ (s : Scaled). Scales (magnitude (toBits binary64 x) * 2 ^ 1074) s × (511 ≤ s .half) × (s .half < 1560)) (sym (c .scale .ensures)) (scaled-facts (toBits binary64 x) (l .1) (l .2))
 
--- src/lib.rt:138:11
 special-requires : tie.Need-special-requires
 special-requires c κs = search needs
 
--- src/lib.rt:139:25
 enum-known-r : tie.Need-enum-known-r
 enum-known-r c = search needs
 
--- src/lib.rt:141:27
 enum-told : tie.Need-enum-told
 enum-told c = search needs
 
--- src/lib.rt:141:27
 float-to-bits-scale : tie.Need-float-to-bits-scale
 float-to-bits-scale c = left-over (c .before .before .before .args .x) (left-at c) (held (c .before .before .before)) .0
 
--- src/lib.rt:141:17
 scale-requires : tie.Need-scale-requires
 scale-requires c κs =
     let l = left-over (c .before .before .before .args .x) (left-at c) (held (c .before .before .before)) in
     (l .1, l .2)
 
--- src/lib.rt:142:17
 floor-root-requires : tie.Need-floor-root-requires
 floor-root-requires c κs = scaled-at c .0 .2
 
--- src/lib.rt:143:38
 sub-rounded : tie.Need-sub-rounded
 sub-rounded c = let f = scaled-at (c .before .before) .1 in omega arith
 
--- src/lib.rt:143:13
 rounded-requires : tie.Need-rounded-requires
 rounded-requires c κs =
     let e = c .before .floor-root .ensures .0 in
@@ -72,11 +58,9 @@ rounded-requires c κs =
     let b = two-bounds (c .before .before .scale .result .significand * 2 ^ 54) 53 (omega arith) (omega arith) in
     (omega arith, omega arith, omega arith)
 
--- src/lib.rt:135:1
 returns : tie.Need-returns
 returns c = answered (c .before .before .before .before .args .x) (c .before .r .given .0 .0) (sym (c .before .r .given .1) ∙ c .before .before .before .special .ensures)
 
--- src/lib.rt:135:1
 returns-2 : tie.Need-returns-2
 returns-2 c =
     let a = c .before .before .before .before in
