@@ -1,9 +1,11 @@
--- Section 1's arithmetic on f64, over the library's account of IEEE 754. Definitions only.
+-- Section 1's arithmetic on f64, but for the root and the arctangent: constants, the sign bit and the size, the remainder and degrees. Over the toolchain's
+-- account of IEEE 754, `lib.Ieee`, which also has the operators, and `toBits` and `ofBits`: the bit pattern of a number, 7ff8000000000000 for every NaN,
+-- and the number of a bit pattern. Definitions only. Assumes nothing.
 use mathlib.Core.Bool.{Bool, true, false, cond}
-use Prim.Native.Nat.{ℕ}
-use lib.Ieee.{Float, nan, inf, fin, binary64, add, mul, div, rem, neg, lt, ofBits}
+use lib.Ieee.{Float, nan, inf, fin, binary64, add, mul, div, rem, lt, ofBits}
 
--- constants, by their bit patterns
+-- ---- constants, by their bit patterns
+
 abbrev pub zero·0 : Float
 zero·0 = ofBits binary64 0x0000_0000_0000_0000
 
@@ -31,23 +33,29 @@ fullTurn = ofBits binary64 0x4076_8000_0000_0000
 abbrev pub PI : Float
 PI = ofBits binary64 0x4009_21fb_5444_2d18
 
--- the sign bit; a NaN's is not read
+-- ---- the sign bit and the size
+
+-- whether the sign bit is set; a NaN's is not read
 unfoldable pub signBitOf : Float → Bool
 signBitOf nan = false
 signBitOf (inf s) = s
 signBitOf (fin s m e) = s
 
+-- |x|: the sign bit cleared
 unfoldable pub absOf : Float → Float
 absOf nan = nan
 absOf (inf s) = inf false
 absOf (fin s m e) = fin false m e
 
+-- neither an infinity nor a NaN
 unfoldable pub finite : Float → Bool
 finite nan = false
 finite (inf s) = false
 finite (fin s m e) = true
 
--- Rust's rem_euclid: r = a % b, and r + |b| where r < 0
+-- ---- section 1's Remainder and Degrees
+
+-- r = a % b; if r < 0, r + |b|
 unfoldable pub remEuclid : Float → Float → Float
 remEuclid a b = let r = rem binary64 a b in cond (lt r zero·0) (add binary64 r (absOf b)) r
 

@@ -1,4 +1,5 @@
--- IEEE 754-2019's squareRoot on binary64, to nearest, ties to even, as a value of `lib.Ieee`. Definitions only. Assumes nothing.
+-- Section 1's Root: IEEE 754-2019's squareRoot on binary64, to nearest, ties to even, subnormals included, over the toolchain's account of IEEE 754, `lib.Ieee`.
+-- `sqrtOf` is the definition; what the three steps of the text make follows it. What nearest means is in Nearest. Definitions only. Assumes nothing.
 use Prim.Native.Nat.{ℕ, zero, suc, _+_, _-_, _*_, _/_, _%_, _^_, compare, Ordering, Ordering·lt, Ordering·eq, Ordering·gt}
 use mathlib.Core.Bool.{Bool, true, false, cond}
 use lib.Dec.{leb, eqb}
@@ -39,7 +40,7 @@ sqrtOf (fin s zero e) = fin s zero e
 sqrtOf (fin true (suc m) e) = nan
 sqrtOf (fin false (suc m) e) = rootOf binary64 (suc m * up e) (down e)
 
--- ---- the three steps
+-- ---- the three steps: special operands, the floor of the root of a scaled significand, rounding
 
 -- Step 1: the special operands with their answers; what is left is finite and above 0.
 unfoldable pub operandOf : Float → Operand
