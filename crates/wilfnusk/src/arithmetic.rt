@@ -1,7 +1,8 @@
-// Section 1's functions: no f64 is refused.
+// Section 1's functions and the difference: no f64 is refused.
 ghost use mathlib.Core.Path.{_≡_};
 ghost use Rattle.float.specs.Root.{sqrtOf};
 ghost use Rattle.float.specs.Arctangent.{arctangent};
+ghost use Rattle.solar_roll.specs.Roll.{circularDiffDeg};
 
 #[no_mangle]
 pub extern "C" fn wilfnusk_sqrt(x: f64) -> f64
@@ -15,4 +16,11 @@ pub extern "C" fn wilfnusk_atan2(y: f64, z: f64) -> f64
     ensures { λ r. ⌜ r ≡ arctangent y z ⌝ }
 {
     float::atan2(y, z)
+}
+
+#[no_mangle]
+pub extern "C" fn wilfnusk_circular_diff_deg(a: f64, b: f64) -> f64
+    ensures { λ r. ⌜ r ≡ circularDiffDeg a b ⌝ }
+{
+    solar_roll::circular_diff_deg(a, b)
 }

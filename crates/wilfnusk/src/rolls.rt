@@ -1,0 +1,48 @@
+// The roll of one cell.
+use crate::answers::minus;
+use solar_roll::CellRoll;
+use solar_roll::cell_roll;
+ghost use mathlib.Core.Path.{_≡_};
+ghost use Rattle.buffers.specs.Refusal.{reply};
+ghost use Rattle.solar_roll.specs.Vectors.{vector};
+ghost use Rattle.solar_roll.specs.Roll.{sunUnit};
+ghost use Rattle.solar_roll.specs.Cell.{cellRefusal, optimalRoll};
+ghost use Rattle.wilfnusk.specs.Answers.{int64, cellAnswer, cellWritten};
+
+#[no_mangle]
+pub extern "C" fn wilfnusk_cell(
+    target_x: f64,
+    target_y: f64,
+    target_z: f64,
+    sun_x: f64,
+    sun_y: f64,
+    sun_z: f64,
+    observer_x: f64,
+    observer_y: f64,
+    observer_z: f64,
+    panel_x: f64,
+    panel_y: f64,
+    panel_z: f64,
+    roll: &mut f64,
+) -> u64
+    ensures { λ r. ⌜ (r ≡ int64 (cellAnswer (reply
+        (cellRefusal (vector «target_x» «target_y» «target_z») (vector «sun_x» «sun_y» «sun_z») (vector «observer_x» «observer_y» «observer_z») (vector «panel_x» «panel_y» «panel_z»))
+        (optimalRoll (vector «target_x» «target_y» «target_z») (sunUnit (vector «sun_x» «sun_y» «sun_z») (vector «observer_x» «observer_y» «observer_z»)) (vector «panel_x» «panel_y» «panel_z»)))))
+        × (now (roll .exit) ≡ cellWritten (reply
+        (cellRefusal (vector «target_x» «target_y» «target_z») (vector «sun_x» «sun_y» «sun_z») (vector «observer_x» «observer_y» «observer_z») (vector «panel_x» «panel_y» «panel_z»))
+        (optimalRoll (vector «target_x» «target_y» «target_z») (sunUnit (vector «sun_x» «sun_y» «sun_z») (vector «observer_x» «observer_y» «observer_z»)) (vector «panel_x» «panel_y» «panel_z»)))
+        (now (roll .entry))) ⌝ }
+{
+    let target = [target_x, target_y, target_z];
+    let sun = [sun_x, sun_y, sun_z];
+    let observer = [observer_x, observer_y, observer_z];
+    let panel = [panel_x, panel_y, panel_z];
+    match cell_roll(target, sun, observer, panel) {
+        CellRoll::Free => 0,
+        CellRoll::At(optimal) => {
+            *roll = optimal;
+            1
+        }
+        CellRoll::Refused(k) => minus(k),
+    }
+}
