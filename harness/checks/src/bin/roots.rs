@@ -125,16 +125,22 @@ fn angles(s: &mut Seeded, factor: u64) -> Tally {
     t
 }
 
-/// Nanoseconds a call, the best of five runs.
-fn time(xs: &[f64], f: impl Fn(f64) -> f64) -> f64 {
-    let run = || {
+/// Nanoseconds a call: of blocks of inputs, each timed once, the quickest tenth, so that other work on the machine does not count.
+/// `wait`: each call waits for the result of the one before.
+fn time(inputs: &[f64], wait: bool, f: impl Fn(f64) -> f64) -> f64 {
+    let mask = black_box(if wait { 0 } else { 1 });
+    let block = |xs: &[f64]| {
+        let mut before = 0;
         let start = Instant::now();
         for &x in xs {
-            black_box(f(black_box(x)));
+            let root = if wait { f(f64::from_bits(x.to_bits() ^ before & mask)) } else { f(black_box(x)) };
+            before = black_box(root).to_bits();
         }
         start.elapsed().as_secs_f64() / xs.len() as f64 * 1e9
     };
-    (0..5).map(|_| run()).fold(f64::MAX, f64::min)
+    let mut blocks: Vec<f64> = inputs.chunks(4096).map(block).collect();
+    blocks.sort_by(f64::total_cmp);
+    blocks[blocks.len() / 10]
 }
 
 fn main() {
@@ -143,9 +149,11 @@ fn main() {
     let (r, a) = (roots(&mut s, factor), angles(&mut s, factor));
     println!("roots: {} inputs, {} differ from the machine's", r.compared, r.differ);
     println!("arctangents: {} pairs, {} differ from the rule", a.compared, a.differ);
-    let positive: Vec<f64> = (0..1 << 20).map(|_| f64::from_bits(s.below(0x7ff0_0000_0000_0000))).collect();
-    let (ours, machine) = (time(&positive, wilfnusk::sqrt), time(&positive, f64::sqrt));
-    println!("root: {ours:.1} ns, the machine's {machine:.1} ns, ratio {:.1} (random positive doubles)", ours / machine);
+    let positive: Vec<f64> = (0..1 << 22).map(|_| f64::from_bits(s.below(0x7ff0_0000_0000_0000))).collect();
+    for (kind, wait) in [("one by one", true), ("independent", false)] {
+        let (ours, machine) = (time(&positive, wait, wilfnusk::sqrt), time(&positive, wait, f64::sqrt));
+        println!("root of random positive doubles, {kind}: {ours:.1} ns, the machine's {machine:.1} ns, ratio {:.1}", ours / machine);
+    }
     if r.differ + a.differ > 0 || r.compared < 10_000_000 {
         exit(1);
     }

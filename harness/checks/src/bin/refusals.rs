@@ -1,0 +1,338 @@
+//! What each call says no to, and in which order: faulty inputs, often several faults at once, against document 01 in plain Rust. That a
+//! refused call changes nothing, and an accepted one nothing beyond its answer, is looked at in every call.
+//! `refusals [FACTOR]` multiplies the number of inputs.
+use cases::{plans, rows, Seeded};
+use checks::{lent, Calls, Library, Model};
+use model::journal::{Sweep, HEADER, LINE};
+use model::plan::Rolls;
+use model::{arithmetic::bits, Answer, Optimal, Plan, Roll};
+use std::collections::BTreeMap;
+use std::process::exit;
+
+#[derive(Default)]
+struct Tally {
+    /// How often each call gave each answer; 0 for accepted.
+    answers: BTreeMap<&'static str, BTreeMap<u8, u64>>,
+    differ: u64,
+}
+
+impl Tally {
+    fn same<T: PartialEq + std::fmt::Debug>(&mut self, call: &'static str, ours: Answer<T>, theirs: Answer<T>, input: &dyn Fn() -> String) {
+        *self.answers.entry(call).or_default().entry(theirs.as_ref().err().copied().unwrap_or(0)).or_default() += 1;
+        if ours != theirs {
+            self.differ += 1;
+            if self.differ <= 10 {
+                println!("DIFFERS {call}: {}\n  library {ours:?}\n  model   {theirs:?}", input());
+            }
+        }
+    }
+}
+
+/// The numbers that each call lists.
+const LISTED: [(&str, &[u8]); 16] = [
+    ("cell", &[0, 4, 5, 6]),
+    ("named values", &[0, 1, 2, 4, 5, 6, 7]),
+    ("batch", &[0, 1, 2, 4, 5, 6, 7]),
+    ("at a roll", &[0, 1, 2, 4, 5, 6, 7]),
+    ("every roll", &[0, 1, 2, 3, 4, 5, 6, 7]),
+    ("row", &[0, 1, 2, 4, 5, 6, 7, 9]),
+    ("field of regard", &[0, 1, 2, 3, 4, 5, 6, 7, 9]),
+    ("field of regard at a roll", &[0, 1, 2, 4, 5, 6, 7, 9]),
+    ("begin", &[0, 1, 2, 3, 4, 5, 6, 7, 13]),
+    ("work", &[0, 1, 2, 3, 4, 5, 6, 7, 9, 10, 11, 12]),
+    ("recover", &[0, 1, 2, 3, 4, 5, 6, 11]),
+    ("collect", &[0, 1, 2, 3, 4, 5, 6, 7, 11, 12, 15]),
+    ("violation windows", &[0, 1, 2, 7, 8, 14]),
+    ("visibility windows", &[0, 1, 2, 7, 8, 14]),
+    ("expand", &[0, 1, 2, 7, 8]),
+    ("seconds", &[0, 1, 2, 8]),
+];
+
+const BAD_POSITION: [f64; 5] = [f64::NAN, f64::INFINITY, f64::NEG_INFINITY, 1.0000000000000002e100, -1e101];
+const BAD_DIRECTION: [f64; 6] = [f64::NAN, f64::INFINITY, 1.0000000000000002, -1.0000000000000002, -7.0, 1e308];
+const BAD_N: [u64; 7] = [0, 3601, 1 << 32, (1 << 32) + 5, u64::MAX, 65_536, 1 << 63];
+
+fn spoil(s: &mut Seeded, list: &mut [f64], with: &[f64]) {
+    if !list.is_empty() {
+        let at = s.index(list.len());
+        list[at] = s.one_of(with);
+    }
+}
+
+/// A small plan with any of the faults that refusals 1 to 6 name.
+fn faulty(s: &mut Seeded) -> (Plan, u64) {
+    let (rows, times) = (s.index(6), s.index(9));
+    let mut p = plans::plan(s, plans::Targets::Any, rows, times);
+    let n = if s.once_in(8) { s.one_of(&BAD_N) } else { s.one_of(&[1, 1, 2, 3, 7, 3600]) };
+    plans::for_sweep(s, &mut p, n.clamp(1, 3600));
+    if s.once_in(12) {
+        p.targets.extend([0.5].repeat(s.within(1, 2) as usize));
+    }
+    if s.once_in(12) {
+        p.suns.truncate(p.suns.len().saturating_sub(s.within(1, 3) as usize));
+    }
+    if s.once_in(12) {
+        let more = s.within(1, 3) as usize;
+        p.observers.extend([1.0].repeat(more));
+        if s.once_in(2) {
+            p.suns.extend([2.0].repeat(more));
+        }
+    }
+    if s.once_in(400) {
+        // At the limits of 2, and one over.
+        let (rows, times) =
+            s.one_of(&[(1025, 1024), (65_537, 1), (1, 65_537), (65_537, 0), (0, 65_537), (0, 65_536), (65_536, 0), (17, 65_536)]);
+        p.targets = [1.0, 0.0, 0.0].repeat(rows);
+        p.suns = [0.0, 1.0, 0.0].repeat(times);
+        p.observers = vec![0.0; 3 * times];
+    }
+    if s.once_in(10) {
+        spoil(s, &mut p.suns, &BAD_POSITION);
+    }
+    if s.once_in(10) {
+        spoil(s, &mut p.observers, &BAD_POSITION);
+    }
+    if s.once_in(8) {
+        spoil(s, &mut p.targets, &BAD_DIRECTION);
+    }
+    if s.once_in(8) {
+        spoil(s, &mut p.panel_normal, &BAD_POSITION);
+    }
+    (p, n)
+}
+
+/// About as much room as is needed: sometimes too little, sometimes none.
+fn room(s: &mut Seeded, needed: usize) -> usize {
+    match s.below(8) {
+        0 => needed.saturating_sub(1),
+        1 => 0,
+        2 => needed / 2,
+        _ => needed + s.index(3),
+    }
+}
+
+/// An index that is mostly below n.
+fn index(s: &mut Seeded, n: usize) -> u64 {
+    match s.below(8) {
+        0 => n as u64,
+        1 => s.one_of(&[u64::MAX, 1 << 32, 1 << 40, n as u64 + 1]),
+        _ => s.below(n as u64 + 1),
+    }
+}
+
+fn floats(answer: Answer<Vec<f64>>) -> Answer<Vec<u64>> {
+    answer.map(|list| list.into_iter().map(bits).collect())
+}
+
+fn of_plans(s: &mut Seeded, t: &mut Tally) {
+    let (p, n) = faulty(s);
+    let shown = || if p.cells() > 1000 { format!("{} rows {} times", p.rows(), p.times()) } else { format!("{p:?} n {n}") };
+    let (cells, roll) = (room(s, p.cells()), plans::roll(s, &p));
+    t.same("named values", floats(Library.named_values(&p, cells)), floats(Model.named_values(&p, cells)), &shown);
+    t.same("batch", Library.in_constraint_batch(&p, cells), Model.in_constraint_batch(&p, cells), &shown);
+    let kind = if s.once_in(2) { Roll::Sweep(roll) } else { Roll::Fixed(roll) };
+    let at = |c: &dyn Calls| c.in_constraint_batch_at_roll(&p, kind, cells);
+    t.same("at a roll", at(&Library), at(&Model), &shown);
+    t.same("every roll", Library.constrained_at_every_roll(&p, n, cells), Model.constrained_at_every_roll(&p, n, cells), &shown);
+
+    let target = index(s, p.rows());
+    let (masks, severities) = (room(s, p.times()), room(s, p.times()));
+    let row = |c: &dyn Calls| c.evaluate(&p, target, masks, severities).map(|(m, v)| (m, v.into_iter().map(bits).collect::<Vec<_>>()));
+    t.same("row", row(&Library), row(&Model), &shown);
+
+    let (time, marks) = (index(s, p.times()), room(s, p.rows()));
+    let regard = |c: &dyn Calls| c.field_of_regard_violated_batch(&p, time, n, marks);
+    t.same("field of regard", regard(&Library), regard(&Model), &shown);
+    let regard = |c: &dyn Calls| c.field_of_regard_violated_at_roll(&p, time, roll, marks);
+    t.same("field of regard at a roll", regard(&Library), regard(&Model), &shown);
+
+    journal(s, t, &p, n, &shown);
+}
+
+/// The four calls of a journal, each on a journal as far along as chance has it.
+fn journal(s: &mut Seeded, t: &mut Tally, p: &Plan, n: u64, shown: &dyn Fn() -> String) {
+    let fits = p.refusal(Rolls::Sampled(n), false).is_ok() && p.cells() < 1000;
+    let sweep = if fits { Some(Sweep::new(p.clone(), n)) } else { None };
+    let mut file = Vec::new();
+    if let Some(sweep) = &sweep {
+        if !s.once_in(4) {
+            file = sweep.header.clone();
+            let from = s.index(sweep.chunks() + 1);
+            for c in 0..s.within(from as u64, sweep.chunks() as u64) {
+                file.extend(&sweep.lines[c as usize]);
+            }
+        }
+        if s.once_in(4) && !file.is_empty() {
+            file.truncate(s.index(file.len()));
+        }
+        if s.once_in(6) && !file.is_empty() {
+            let at = s.index(file.len());
+            file[at] = s.one_of(b"0123456789abcdef\nx");
+        }
+    }
+    let mut used = file.len() as u64;
+    file.resize(file.len() + s.one_of(&[0, 32, 33, 106, 107, 150]), 0x5a);
+    if s.once_in(16) {
+        used = s.one_of(&[file.len() as u64 + 1, u64::MAX, 1 << 32]);
+    }
+    let chunk = index(s, sweep.as_ref().map_or(2, Sweep::chunks));
+    let beyond = used > file.len() as u64;
+    let mask = room(s, p.cells());
+    let number = |r: wilfnusk::Refusal| r.number();
+    let refusal = p.refusal(Rolls::Sampled(n), beyond);
+    // What the model says, once the plan is accepted; a plan of many cells is refused here by something else.
+    let Some(theirs) = refusal.err().map(Err).or_else(|| sweep.as_ref().map(Ok)) else { return };
+    let (l, untouched) = (lent(p), file.clone());
+
+    let mut buffer = file.clone();
+    let ours = l.begin(n, &mut buffer, used).map_err(number).map(|u| (u, buffer.clone()));
+    let expected = theirs.and_then(|sweep| {
+        let header = sweep.begin(file.len(), used)?;
+        let mut after = file.clone();
+        after[..HEADER].copy_from_slice(header);
+        Ok((HEADER as u64, after))
+    });
+    t.same("begin", ours, expected, shown);
+    assert!(l.begin(n, &mut buffer, used).is_ok() || refusal.is_ok() || buffer == untouched);
+
+    let mut buffer = file.clone();
+    let ours = l.work(n, chunk, &mut buffer, used).map_err(number);
+    let kept = buffer == untouched;
+    let expected = theirs.and_then(|sweep| {
+        let line = sweep.work(chunk, &file, used)?;
+        let mut after = file.clone();
+        after[used as usize..][..LINE].copy_from_slice(line);
+        Ok((used + LINE as u64, after))
+    });
+    assert!(ours.is_ok() || kept, "work refused and wrote");
+    t.same("work", ours.map(|u| (u, buffer)), expected, shown);
+
+    t.same("recover", l.recover(n, &file, used).map_err(number), theirs.and_then(|sweep| sweep.recover(&file, used)), shown);
+
+    let mut out = vec![0x5a; mask];
+    let ours = l.collect(n, &file, used, &mut out).map_err(number);
+    assert!(ours.is_ok() || out.iter().all(|&b| b == 0x5a), "collect refused and wrote");
+    let written = p.cells().min(out.len());
+    let ours = ours.map(|sum| (out[..written].to_vec(), sum));
+    t.same("collect", ours, theirs.and_then(|sweep| sweep.collect(&file, used, mask)), shown);
+}
+
+fn of_cells(s: &mut Seeded, t: &mut Tally) {
+    let p = plans::plan(s, plans::Targets::Any, 1, 1);
+    let (mut target, mut sun, mut observer, mut panel) = (p.target(0), p.sun(0), p.observer(0), p.panel_normal);
+    if s.once_in(4) {
+        spoil(s, &mut target, &BAD_DIRECTION);
+    }
+    if s.once_in(6) {
+        spoil(s, &mut sun, &BAD_POSITION);
+    }
+    if s.once_in(6) {
+        spoil(s, &mut observer, &BAD_POSITION);
+    }
+    if s.once_in(4) {
+        spoil(s, &mut panel, &BAD_POSITION);
+    }
+    let answer = |c: &dyn Calls| {
+        c.cell(target, sun, observer, panel).map(|o| match o {
+            Optimal::Free => None,
+            Optimal::At(roll) => Some(bits(roll)),
+        })
+    };
+    t.same("cell", answer(&Library), answer(&Model), &|| format!("{target:?} {sun:?} {observer:?} {panel:?}"));
+}
+
+const LATE: [i64; 4] = [4_000_000_000_000_000_001, -4_000_000_000_000_000_001, i64::MAX, i64::MIN];
+
+fn spoil_times(s: &mut Seeded, times: &mut [i64]) {
+    if !times.is_empty() && s.once_in(8) {
+        let at = s.index(times.len());
+        times[at] = s.one_of(&LATE);
+    }
+}
+
+/// Removes or adds an element once in a while.
+fn resized<T: Clone + Default>(s: &mut Seeded, list: &mut Vec<T>) {
+    if s.once_in(12) {
+        match list.pop() {
+            Some(_) if s.once_in(2) => {}
+            Some(last) => list.extend([last, T::default()]),
+            None => list.push(T::default()),
+        }
+    }
+}
+
+fn of_rows(s: &mut Seeded, t: &mut Tally) {
+    let samples = if s.once_in(3000) { s.within(65_535, 65_538) as usize } else { s.index(20) };
+    let mut mask = rows::mask(s, samples);
+    let (mut times, mut severities) = (rows::times(s, samples), rows::severities(s, samples));
+    resized(s, &mut mask);
+    resized(s, &mut times);
+    resized(s, &mut severities);
+    spoil_times(s, &mut times);
+    if s.once_in(8) && !mask.is_empty() {
+        let at = s.index(mask.len());
+        mask[at] = s.within(2, 255) as u8;
+    }
+    if s.once_in(6) {
+        spoil(s, &mut severities, &[f64::NAN, f64::INFINITY, -0.0, -1.0, f64::NEG_INFINITY, -5e-324]);
+    }
+    let places = room(s, samples.div_ceil(2));
+    let mut columns = [places; 6];
+    if s.once_in(10) {
+        columns[s.index(6)] += 1;
+    }
+    let shown =
+        || if mask.len() > 1000 { format!("{} samples", mask.len()) } else { format!("{mask:?} {times:?} {severities:?} {columns:?}") };
+    let columns_of = |c: &dyn Calls| c.violation_windows(&mask, &times, &severities, columns);
+    t.same("violation windows", columns_of(&Library), columns_of(&Model), &shown);
+    let columns_of = |c: &dyn Calls| c.visibility_windows(&mask, &times, columns);
+    t.same("visibility windows", columns_of(&Library), columns_of(&Model), &shown);
+    let records = |c: &dyn Calls| c.violation_records(&mask, &times, &severities, places);
+    t.same("violation windows", records(&Library), records(&Model), &shown);
+    let records = |c: &dyn Calls| c.visibility_records(&mask, &times, places);
+    t.same("visibility windows", records(&Library), records(&Model), &shown);
+
+    let (mut first, mut last) = rows::windows(s, &times, 6);
+    if s.once_in(1500) {
+        first.resize(65_537, 0);
+        last.resize(65_537, 0);
+    }
+    first.iter_mut().chain(&mut last).for_each(|x| *x = (*x).clamp(-4_000_000_000_000_000_000, 4_000_000_000_000_000_000));
+    resized(s, &mut first);
+    resized(s, &mut last);
+    spoil_times(s, &mut first);
+    spoil_times(s, &mut last);
+    let lent = room(s, times.len());
+    let shown = || format!("{first:?} {last:?} {times:?} {lent}");
+    t.same("expand", Library.expand(&first, &last, &times, lent), Model.expand(&first, &last, &times, lent), &shown);
+    t.same("seconds", Library.seconds(&first, &last), Model.seconds(&first, &last), &shown);
+}
+
+fn main() {
+    let factor: u64 = std::env::args().nth(1).map_or(1, |a| a.parse().expect("a whole number"));
+    let mut s = Seeded::new(5);
+    let mut t = Tally::default();
+    for _ in 0..60_000 * factor {
+        of_cells(&mut s, &mut t);
+        of_plans(&mut s, &mut t);
+        of_rows(&mut s, &mut t);
+    }
+    let mut asked = 0;
+    let mut good = t.differ == 0;
+    for (call, numbers) in &t.answers {
+        asked += numbers.values().sum::<u64>();
+        println!("{call:<27} {}", numbers.iter().map(|(n, k)| format!("{n}: {k}")).collect::<Vec<_>>().join("  "));
+    }
+    for (call, numbers) in LISTED {
+        for n in numbers {
+            if !t.answers.get(call).is_some_and(|a| a.contains_key(n)) {
+                println!("FAILED {call}: no input gave {n}");
+                good = false;
+            }
+        }
+    }
+    println!("refusals: {asked} answers, {} differ from document 01 in plain Rust", t.differ);
+    if !good {
+        exit(1);
+    }
+}
