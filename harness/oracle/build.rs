@@ -2,9 +2,8 @@
 //! WILFNUSK_ORACLE_SRC names the folder that holds src/constraints/core.rs; else it is ../shared/docs/src beside the repository.
 use std::{env, fs, path::PathBuf, process::exit};
 
-/// A patch is switched by the feature of its name.
+/// Each can be switched off again while the program runs (src/patch.rs).
 struct Patch {
-    feature: &'static str,
     file: &'static str,
     from: &'static str,
     to: &'static str,
@@ -13,28 +12,27 @@ struct Patch {
 
 const PATCHES: [Patch; 4] = [
     // Document 01, section 1: the harness patches f64::atan2.
-    Patch { feature: "ATAN2", file: "src/constraints/solar_roll.rs", from: "f64::atan2(", to: "crate::patch::atan2(", times: 2 },
+    Patch { file: "src/constraints/solar_roll.rs", from: "f64::atan2(", to: "crate::patch::atan2(", times: 2 },
     // Document 01, known differences: both hand over the vector.
     Patch {
-        feature: "VECTORS",
         file: "src/constraints/solar_roll.rs",
         from: "fn radec_to_unit(ra_deg: f64, dec_deg: f64) -> [f64; 3] {",
-        to: "fn radec_to_unit(ra_deg: f64, dec_deg: f64) -> [f64; 3] { return crate::patch::vector(ra_deg, dec_deg);",
+        to: "fn radec_to_unit(ra_deg: f64, dec_deg: f64) -> [f64; 3] { if let Some(v) = crate::patch::vector(ra_deg) { return v; }",
         times: 1,
     },
     Patch {
-        feature: "VECTORS",
         file: "src/utils/vector_math.rs",
         from: "pub fn radec_to_unit_vectors_batch(ras_deg: &[f64], decs_deg: &[f64]) -> Array2<f64> {",
-        to: "pub fn radec_to_unit_vectors_batch(ras_deg: &[f64], decs_deg: &[f64]) -> Array2<f64> { return crate::patch::vectors(ras_deg, decs_deg);",
+        to: "pub fn radec_to_unit_vectors_batch(ras_deg: &[f64], decs_deg: &[f64]) -> Array2<f64> { \
+             if let Some(v) = crate::patch::vectors(ras_deg) { return v; }",
         times: 1,
     },
     // docs/DIFFERENCES.md: a Python datetime holds microseconds.
     Patch {
-        feature: "NANOSECONDS",
         file: "src/utils/time_utils.rs",
         from: "pub fn utc_to_python_datetime(py: Python, dt: &DateTime<Utc>) -> PyResult<Py<PyAny>> {",
-        to: "pub fn utc_to_python_datetime(py: Python, dt: &DateTime<Utc>) -> PyResult<Py<PyAny>> { return Ok(crate::patch::instant(dt));",
+        to: "pub fn utc_to_python_datetime(py: Python, dt: &DateTime<Utc>) -> PyResult<Py<PyAny>> { \
+             if let Some(v) = crate::patch::instant(dt) { return Ok(v); }",
         times: 1,
     },
 ];
@@ -54,7 +52,7 @@ impl Source {
     }
     fn patched(&self, file: &str) -> String {
         let mut text = self.read(file);
-        for p in PATCHES.iter().filter(|p| p.file == file && env::var(format!("CARGO_FEATURE_{}", p.feature)).is_ok()) {
+        for p in PATCHES.iter().filter(|p| p.file == file) {
             let found = text.matches(p.from).count();
             if found != p.times {
                 stop(format!("{file}: {:?} occurs {found} times, not {}", p.from, p.times));

@@ -60,7 +60,7 @@ impl Calls for Model {
         plan.field_of_regard_violated_at_roll(time, roll, lent)
     }
     fn swept(&self, plan: &Plan, n: u64, order: &[u64]) -> Answer<(Vec<u8>, Vec<u8>, u64)> {
-        let sweep = Sweep::new(plan.clone(), n);
+        let sweep = Sweep::new(plan.clone(), n)?;
         let mut journal = sweep.header.clone();
         for &c in order {
             journal.extend(&sweep.lines[c as usize]);

@@ -1,13 +1,72 @@
-//! Inputs that docs/DIFFERENCES.md or docs/DECISIONS.md tell of, each the smallest that was found.
+//! The differences that docs/DIFFERENCES.md lists, each by the smallest input that was found: what the library answers, and what the
+//! original answers without the patch. A difference that is gone is a failure too.
 use crate::tally::Tally;
 use checks::Calls;
-use model::Plan;
-use oracle::Oracle;
+use model::arithmetic::bits;
+use model::{Plan, Roll};
+use oracle::{patch, Oracle};
 
-fn plan(target: [f64; 3], sun: [f64; 3], panel_normal: [f64; 3], tolerance_deg: f64) -> Plan {
-    Plan { targets: target.to_vec(), suns: sun.to_vec(), observers: vec![0.0; 3], tolerance_deg, roll_deg: None, panel_normal }
+fn plan(target: [f64; 3], sun: [f64; 3], tolerance_deg: f64, roll_deg: Option<f64>) -> Plan {
+    let panel_normal = [0.0, 1.0, 0.0];
+    Plan { targets: target.to_vec(), suns: sun.to_vec(), observers: vec![0.0; 3], tolerance_deg, roll_deg, panel_normal }
 }
 
 pub fn run(calls: &dyn Calls, t: &mut Tally) {
-    let _ = (calls, t, Oracle::new, plan);
+    refused(calls, t);
+    arctangent(calls, t);
+    field_of_regard(calls, t);
+    nanoseconds(calls, t);
+    every_roll(calls, t);
+}
+
+/// Refused here, answered there.
+fn refused(calls: &dyn Calls, t: &mut Tally) {
+    let p = plan([2.0, 0.0, 0.0], [0.0, 0.0, 1.0], 10.0, None);
+    let ours = calls.in_constraint_batch_at_roll(&p, Roll::Sweep(0.0), 1);
+    let theirs = Oracle::new(&p, &[0]).in_constraint_batch_at_roll(Roll::Sweep(0.0));
+    t.known("1: a target of length 2", (ours, theirs), (Err(5), vec![1]));
+
+    let p = plan([1.0, 0.0, 0.0], [0.0, 0.0, 1.0], 10.0, None);
+    let ours = calls.swept(&p, 0, &[0]).map(|swept| swept.1);
+    t.known("1: a sweep of no rolls", (ours, Oracle::new(&p, &[0]).sweep(0).0), (Err(3), vec![1]));
+}
+
+/// The Sun in the y-z plane, a tolerance met exactly by section 1's arctangent and missed by the C library's.
+fn arctangent(calls: &dyn Calls, t: &mut Tally) {
+    let p = plan([1.0, 0.0, 0.0], [0.0, -3.0, -2.0], f64::from_bits(0x4062_49ea_f781_fc53), Some(0.0));
+    let theirs = patch::without(&patch::ATAN2, || Oracle::new(&p, &[0]).in_constraint_batch());
+    t.known("2: the arctangent", (calls.in_constraint_batch(&p, 1), theirs), (Ok(vec![0]), vec![1]));
+}
+
+/// A configured roll: the original works out right ascension and declination, and from them another vector.
+fn field_of_regard(calls: &dyn Calls, t: &mut Tally) {
+    for (what, p) in [
+        ("3: field of regard, unit target", plan([0.0, 0.8, 0.6], [0.0, 0.6, 0.8], 90.0, Some(180.0))),
+        ("3: field of regard, short target", plan([0.5, 0.5, 0.0], [0.0, 0.6, 0.8], 10.0, Some(45.0))),
+    ] {
+        let theirs = patch::without(&patch::VECTORS, || Oracle::new(&p, &[0]).field_of_regard_violated_at_roll(0, 0.0));
+        t.known(what, (calls.field_of_regard_violated_at_roll(&p, 0, 0.0, 1), theirs), (Ok(vec![0]), vec![1]));
+    }
+}
+
+/// One clear sample at 1 ns, and at -1 ns.
+fn nanoseconds(calls: &dyn Calls, t: &mut Tally) {
+    for (time, read_back) in [(1, 0), (-1, -1000)] {
+        let ours = calls.visibility_windows(&[0], &[time], [1; 6]).map(|l| l.iter().map(|w| w.first_time).collect());
+        let theirs = patch::without(&patch::NANOSECONDS, || oracle::visibility_windows(&[0], &[time]));
+        let theirs = theirs.iter().map(|w| w.first_time).collect();
+        t.known("4: nanoseconds", (ours, theirs), (Ok(vec![time]), vec![read_back]));
+    }
+}
+
+/// Not a difference between the two sides: the original's own two ways to a mask. Both sides give both answers.
+fn every_roll(calls: &dyn Calls, t: &mut Tally) {
+    let p = plan([1.0, 0.0, 0.0], [0.0, -1.0, -2.0], f64::from_bits(0x405d_2429_cc69_8770), None);
+    let o = Oracle::new(&p, &[0]);
+    let rolls: Vec<u64> = o.named_values().iter().map(|&r| bits(r)).collect();
+    assert_eq!(rolls, [0xc05d_2429_cc69_8771]);
+    t.same("sweep where every roll differs", calls.swept(&p, 1, &[0]).map(|s| s.1), vec![1], &|| format!("{p:?}"));
+    t.same("every roll where the sweep differs", calls.constrained_at_every_roll(&p, 1, 1), vec![0], &|| format!("{p:?}"));
+    t.same("sweep where every roll differs", Ok(o.sweep(1).0), vec![1], &|| "the original".to_string());
+    t.same("every roll where the sweep differs", Ok(o.constrained_at_every_roll(1)), vec![0], &|| "the original".to_string());
 }

@@ -82,6 +82,15 @@ impl Tally {
         }
         false
     }
+    /// A difference that docs/DIFFERENCES.md lists: (ours, the original's) as it says.
+    pub fn known<T: PartialEq + Debug>(&mut self, what: &'static str, found: (Answer<Vec<T>>, Vec<T>), listed: (Answer<Vec<T>>, Vec<T>)) {
+        let k = self.kinds.entry(what).or_default();
+        k.answers += 1;
+        if found != listed {
+            k.differ += 1;
+            println!("DIFFERS {what}: {found:?}, docs/DIFFERENCES.md has {listed:?}");
+        }
+    }
     /// The same of a mask, whose marks are counted.
     pub fn mask(&mut self, kind: &'static str, ours: Answer<Vec<u8>>, theirs: Vec<u8>, input: &dyn Fn() -> String) -> bool {
         if !self.uncounted {

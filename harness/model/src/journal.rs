@@ -45,9 +45,8 @@ fn line(bytes: &[u8]) -> Option<Line> {
 }
 
 impl Sweep {
-    /// Of a plan that is accepted with this n.
-    pub fn new(plan: Plan, n: u64) -> Sweep {
-        assert_eq!(plan.refusal(Rolls::Sampled(n), false), Ok(()));
+    pub fn new(plan: Plan, n: u64) -> Answer<Sweep> {
+        plan.refusal(Rolls::Sampled(n), false)?;
         let cells = plan.sweep(n);
         let mut header = format!("{:08x}{:08x}{n:08x}{:016x}", plan.rows(), plan.times(), bits(plan.tolerance_deg));
         header += &match plan.roll_deg {
@@ -64,14 +63,14 @@ impl Sweep {
             let probes = cells.iter().map(|cell| cell.1).sum::<u64>();
             format!("{c:08x}{mask:016x}{probes:08x}\n").into_bytes()
         });
-        Sweep {
+        Ok(Sweep {
             lines: lines.collect(),
             mask: cells.iter().map(|cell| cell.0 as u8).collect(),
             probes: cells.iter().map(|cell| cell.1).sum(),
             header: header.into_bytes(),
             plan,
             n,
-        }
+        })
     }
     pub fn chunks(&self) -> usize {
         self.lines.len()

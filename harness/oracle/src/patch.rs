@@ -1,16 +1,32 @@
-//! What stands in the originals' places after the patches.
+//! What stands in the originals' places after the patches. Each patch has a switch: off, the original runs as it was.
 use chrono::{DateTime, Utc};
 use ndarray::Array2;
 use std::cell::{Cell, RefCell};
+use std::sync::atomic::{AtomicBool, Ordering::Relaxed};
+
+/// Section 1's arctangent instead of the C library's.
+pub static ATAN2: AtomicBool = AtomicBool::new(true);
+/// Vectors handed over instead of right ascension and declination.
+pub static VECTORS: AtomicBool = AtomicBool::new(true);
+/// Whole instants instead of Python datetimes, which hold microseconds.
+pub static NANOSECONDS: AtomicBool = AtomicBool::new(true);
+
+/// The answer with a patch switched off.
+pub fn without<A>(patch: &AtomicBool, answer: impl FnOnce() -> A) -> A {
+    patch.store(false, Relaxed);
+    let a = answer();
+    patch.store(true, Relaxed);
+    a
+}
 
 thread_local! {
-    static VECTORS: RefCell<Vec<[f64; 3]>> = const { RefCell::new(Vec::new()) };
+    static LENT: RefCell<Vec<[f64; 3]>> = const { RefCell::new(Vec::new()) };
     static NEXT: Cell<Option<usize>> = const { Cell::new(None) };
 }
 
 /// From now on right ascension k means vector k.
 pub fn lend(vectors: &[[f64; 3]]) {
-    VECTORS.with(|v| *v.borrow_mut() = vectors.to_vec());
+    LENT.set(vectors.to_vec());
     NEXT.set(None);
 }
 
@@ -20,26 +36,29 @@ pub fn lend_in_order(vectors: &[[f64; 3]]) {
     NEXT.set(Some(0));
 }
 
-pub fn vector(ra: f64, _dec: f64) -> [f64; 3] {
-    let k = match NEXT.get() {
-        Some(k) => {
-            NEXT.set(Some(k + 1));
-            k
-        }
-        None => ra as usize,
-    };
-    VECTORS.with(|v| v.borrow()[k])
+pub fn vector(ra: f64) -> Option<[f64; 3]> {
+    if !VECTORS.load(Relaxed) {
+        return None;
+    }
+    let k = NEXT.get().unwrap_or(ra as usize);
+    NEXT.set(NEXT.get().map(|k| k + 1));
+    LENT.with_borrow(|v| v.get(k).copied())
 }
 
-pub fn vectors(ras: &[f64], decs: &[f64]) -> Array2<f64> {
-    let list: Vec<[f64; 3]> = ras.iter().zip(decs).map(|(&r, &d)| vector(r, d)).collect();
-    Array2::from_shape_fn((list.len(), 3), |(i, j)| list[i][j])
+pub fn vectors(ras: &[f64]) -> Option<Array2<f64>> {
+    let list = ras.iter().map(|&ra| vector(ra)).collect::<Option<Vec<[f64; 3]>>>()?;
+    Some(Array2::from_shape_fn((list.len(), 3), |(i, j)| list[i][j]))
 }
 
-pub fn instant(dt: &DateTime<Utc>) -> pyo3::Py<pyo3::PyAny> {
-    pyo3::Py::of(pyo3::Obj::Nanos(dt.timestamp_nanos_opt().unwrap()))
+pub fn instant(dt: &DateTime<Utc>) -> Option<pyo3::Py<pyo3::PyAny>> {
+    let whole = NANOSECONDS.load(Relaxed);
+    whole.then(|| pyo3::Py::of(pyo3::Obj::Nanos(dt.timestamp_nanos_opt().unwrap())))
 }
 
 pub fn atan2(y: f64, z: f64) -> f64 {
-    model::arithmetic::arctangent(y, z)
+    if ATAN2.load(Relaxed) {
+        model::arithmetic::arctangent(y, z)
+    } else {
+        f64::atan2(y, z)
+    }
 }

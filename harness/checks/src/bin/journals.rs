@@ -3,7 +3,7 @@
 use cases::{plans, Seeded};
 use model::journal::{Sweep, HEADER, LINE};
 use model::ledger::{Entry, Ledger, Said};
-use model::{plan::Rolls, Answer};
+use model::Answer;
 use std::process::exit;
 
 /// The four calls, on a buffer and a used length.
@@ -265,8 +265,7 @@ fn sweeps(s: &mut Seeded) -> Vec<Sweep> {
         let mut plan = plans::plan(s, targets, rows, times);
         let n = s.one_of(&[1, 1, 2, 3, 5, 8, 12]);
         plans::for_sweep(s, &mut plan, n);
-        assert_eq!(plan.refusal(Rolls::Sampled(n), false), Ok(()));
-        Sweep::new(plan, n)
+        Sweep::new(plan, n).expect("an accepted plan")
     };
     (0..sizes.len() * 30).map(|k| one(s, k)).collect()
 }
@@ -281,7 +280,7 @@ fn example(machine: &dyn Machine, t: &mut Tally) {
         roll_deg: None,
         panel_normal: [0.0, 1.0, 0.0],
     };
-    let sweep = Sweep::new(plan, 1);
+    let sweep = Sweep::new(plan, 1).expect("an accepted plan");
     let mut journal = vec![FILL; HEADER + LINE];
     let used = machine.begin(&sweep, &mut journal, 0).unwrap_or(0);
     let used = machine.work(&sweep, 0, &mut journal, used).unwrap_or(0);

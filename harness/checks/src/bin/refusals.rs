@@ -151,8 +151,7 @@ fn of_plans(s: &mut Seeded, t: &mut Tally) {
 
 /// The four calls of a journal, each on a journal as far along as chance has it.
 fn journal(s: &mut Seeded, t: &mut Tally, p: &Plan, n: u64, shown: &dyn Fn() -> String) {
-    let fits = p.refusal(Rolls::Sampled(n), false).is_ok() && p.cells() < 1000;
-    let sweep = if fits { Some(Sweep::new(p.clone(), n)) } else { None };
+    let sweep = if p.cells() < 1000 { Sweep::new(p.clone(), n).ok() } else { None };
     let mut file = Vec::new();
     if let Some(sweep) = &sweep {
         if !s.once_in(4) {
@@ -182,29 +181,27 @@ fn journal(s: &mut Seeded, t: &mut Tally, p: &Plan, n: u64, shown: &dyn Fn() -> 
     let refusal = p.refusal(Rolls::Sampled(n), beyond);
     // What the model says, once the plan is accepted; a plan of many cells is refused here by something else.
     let Some(theirs) = refusal.err().map(Err).or_else(|| sweep.as_ref().map(Ok)) else { return };
-    let (l, untouched) = (lent(p), file.clone());
+    let l = lent(p);
 
     let mut buffer = file.clone();
-    let ours = l.begin(n, &mut buffer, used).map_err(number).map(|u| (u, buffer.clone()));
+    let ours = l.begin(n, &mut buffer, used).map_err(number);
+    assert!(ours.is_ok() || buffer == file, "begin refused and wrote");
     let expected = theirs.and_then(|sweep| {
         let header = sweep.begin(file.len(), used)?;
         let mut after = file.clone();
         after[..HEADER].copy_from_slice(header);
         Ok((HEADER as u64, after))
     });
-    t.same("begin", ours, expected, shown);
-    assert!(l.begin(n, &mut buffer, used).is_ok() || refusal.is_ok() || buffer == untouched);
-
+    t.same("begin", ours.map(|u| (u, buffer)), expected, shown);
     let mut buffer = file.clone();
     let ours = l.work(n, chunk, &mut buffer, used).map_err(number);
-    let kept = buffer == untouched;
+    assert!(ours.is_ok() || buffer == file, "work refused and wrote");
     let expected = theirs.and_then(|sweep| {
         let line = sweep.work(chunk, &file, used)?;
         let mut after = file.clone();
         after[used as usize..][..LINE].copy_from_slice(line);
         Ok((used + LINE as u64, after))
     });
-    assert!(ours.is_ok() || kept, "work refused and wrote");
     t.same("work", ours.map(|u| (u, buffer)), expected, shown);
 
     t.same("recover", l.recover(n, &file, used).map_err(number), theirs.and_then(|sweep| sweep.recover(&file, used)), shown);

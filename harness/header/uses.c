@@ -1,0 +1,65 @@
+/* Uses include/wilfnusk.h as a program in C or C++ does: document 01's examples. Prints the example's journal. */
+#include <stdio.h>
+#include <string.h>
+
+#include "wilfnusk.h"
+
+static int failed = 0;
+
+static void expect(int holds, const char *what)
+{
+    if (!holds) {
+        printf("FAILED %s\n", what);
+        failed = 1;
+    }
+}
+
+int main(void)
+{
+    const double target[3] = {1, 0, 0};
+    const double suns[6] = {0, 1, 0, 0, 0, 1};
+    const double observers[6] = {0, 0, 0, 0, 0, 0};
+    uint8_t journal[256], mask[2] = {9, 9}, flags[3];
+    uint64_t bits, first[3], last[3];
+    int64_t used, first_time[3], last_time[3];
+    double roll = -1, severity[3], root = wilfnusk_sqrt(2);
+    const uint8_t row[5] = {0, 1, 0, 1, 1};
+    const int64_t times[5] = {0, 10, 20, 30, 40};
+    const double severities[5] = {0, 1.5, 0, 2, 3};
+    wilfnusk_window windows[3];
+    uint8_t expanded[5];
+
+    memcpy(&bits, &root, 8);
+    expect(bits == 0x3ff6a09e667f3bcdULL, "root of 2");
+    expect(wilfnusk_circular_diff_deg(350, 10) == 20, "difference of 350 and 10");
+    expect(sizeof(wilfnusk_window) == 48, "a record of 48 bytes");
+
+    expect(wilfnusk_cell(1, 0, 0, 1, 0, 0, 0, 0, 0, 0, 1, 0, &roll) == 0 && roll == -1, "Sun on the boresight: Free, roll unwritten");
+    expect(wilfnusk_cell(1, 0, 0, 0, 0, 1, 0, 0, 0, 0, 1, 0, &roll) == 1 && roll == 90, "Sun [0,0,1]: At 90");
+    expect(wilfnusk_cell(2, 0, 0, 0, 0, 1, 0, 0, 0, 0, 1, 0, &roll) == -5 && roll == 90, "a target beyond 1: -5, roll unwritten");
+
+#define PLAN target, 3, suns, 6, observers, 6, 10.0, 0, 0.0, 0.0, 1.0, 0.0
+    used = wilfnusk_begin(PLAN, 1, journal, sizeof journal, 0);
+    expect(used == 107, "begin");
+    expect(wilfnusk_begin(PLAN, 1, journal, sizeof journal, (uint64_t)used) == -13, "begin in a journal that is not empty");
+    expect(wilfnusk_collect(PLAN, 1, journal, sizeof journal, (uint64_t)used, mask, 2) == -15, "collect without a line");
+    used = wilfnusk_work(PLAN, 1, 0, journal, sizeof journal, (uint64_t)used);
+    expect(used == 140, "work");
+    expect(wilfnusk_recover(PLAN, 1, journal, sizeof journal, 139) == 107, "recover from a line cut short");
+    expect(wilfnusk_collect(PLAN, 1, journal, sizeof journal, (uint64_t)used, mask, 2) == 2, "collect: two probes");
+    expect(mask[0] == 0 && mask[1] == 1, "collect's mask");
+    printf("%.*s", (int)used, (const char *)journal);
+
+    expect(wilfnusk_violation_windows(row, 5, times, 5, severities, 5, first, 3, last, 3, first_time, 3, last_time, 3, severity, 3, flags,
+                                      3) == 2,
+           "two violation windows");
+    expect(first[1] == 3 && last[1] == 4 && first_time[1] == 30 && last_time[1] == 40 && severity[1] == 3 && flags[1] == 1,
+           "the second: 3-4, last");
+    expect(wilfnusk_visibility_records(row, 5, times, 5, windows, 3) == 0, "no visibility window");
+    expect(wilfnusk_violation_records(row, 5, times, 5, severities, 5, windows, 1) == -7, "one place for two records");
+    expect(wilfnusk_violation_records(row, 5, times, 5, severities, 5, windows, 3) == 2 && windows[0].first == 1 && windows[0].is_last == 0,
+           "two records");
+    expect(wilfnusk_expand(first_time, 2, last_time, 2, times, 5, expanded, 5) == 0 && memcmp(expanded, row, 5) == 0, "expansion");
+    expect(wilfnusk_total_violation_duration(first_time, 2, last_time, 2, severity) == 0 && severity[0] == 0, "seconds");
+    return failed;
+}
