@@ -107,7 +107,7 @@ impl Sweep {
         j.len() >= HEADER && (j.len() - HEADER) % LINE == 0
     }
     fn has_line(&self, j: &[u8], chunk: u64) -> bool {
-        self.whole_lines(j).any(|bytes| line(bytes).is_some_and(|l| l.chunk == chunk))
+        self.whole_lines(j).any(|bytes| line(bytes).map_or(false, |l| l.chunk == chunk))
     }
 
     // The calls on a buffer of which the first `used` bytes are J. Each gives what it adds or keeps, never the whole buffer.

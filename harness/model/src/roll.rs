@@ -132,7 +132,7 @@ impl Plan {
         Ok((0..self.cells()).map(|c| optimal_roll(self.target(c / times), self.sun_unit(c % times), self.panel_normal)).collect())
     }
     pub fn in_constraint_batch(&self, lent: usize) -> Answer<Vec<u8>> {
-        self.mask(Rolls::NotTaken, lent, |i, j| self.roll_deg.is_some_and(|r| self.violated(i, j, r)))
+        self.mask(Rolls::NotTaken, lent, |i, j| self.roll_deg.map_or(false, |r| self.violated(i, j, r)))
     }
     pub fn in_constraint_batch_at_roll(&self, roll: Roll, lent: usize) -> Answer<Vec<u8>> {
         self.mask(Rolls::NotTaken, lent, |i, j| self.violated(i, j, self.in_force(roll)))

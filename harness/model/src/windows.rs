@@ -80,7 +80,7 @@ pub fn expand(first_times: &[i64], last_times: &[i64], times: &[i64], lent: usiz
     let mark = |&t: &i64| {
         if rising {
             passed += windows[passed..].iter().take_while(|w| w.1 < t).count();
-            windows.get(passed).is_some_and(|w| w.0 <= t)
+            windows.get(passed).map_or(false, |w| w.0 <= t)
         } else {
             windows.iter().take_while(|w| w.0 <= t).any(|w| t <= w.1)
         }

@@ -1,0 +1,108 @@
+//! Plans to sweep: their files for the program, and what document 01 says of them, worked out by the model.
+use cases::{plans::direction, Seeded};
+use model::{journal::Sweep, Plan};
+use std::{fmt::Write, fs, path::Path};
+
+pub struct Case {
+    pub name: &'static str,
+    pub sweep: Sweep,
+    pub times: Vec<i64>,
+}
+
+const FIRST_TIME: i64 = 1_774_000_000_000_000_000;
+const STEP: i64 = 60_000_000_000;
+
+impl Case {
+    fn new(name: &'static str, plan: Plan, n: u64) -> Case {
+        let times = (0..plan.times() as i64).map(|j| FIRST_TIME + STEP * j).collect();
+        Case { name, sweep: Sweep::new(plan, n), times }
+    }
+    /// Document 01's example.
+    pub fn example() -> Case {
+        let plan = Plan {
+            targets: vec![1.0, 0.0, 0.0],
+            suns: vec![0.0, 1.0, 0.0, 0.0, 0.0, 1.0],
+            observers: vec![0.0; 6],
+            tolerance_deg: 10.0,
+            roll_deg: None,
+            panel_normal: [0.0, 1.0, 0.0],
+        };
+        Case::new("document 01's example", plan, 1)
+    }
+    /// Random directions, and Suns that turn slowly, so that marks come in runs.
+    pub fn drawn(name: &'static str, seed: u64, targets: usize, times: usize, n: u64, tolerance_deg: f64, roll_deg: Option<f64>) -> Case {
+        let mut seeded = Seeded::new(seed);
+        let mut plan = Plan { tolerance_deg, roll_deg, panel_normal: [0.0, 1.0, 0.25], ..Plan::default() };
+        for _ in 0..targets {
+            plan.targets.extend(direction(&mut seeded));
+        }
+        for j in 0..times {
+            let (s, c) = (j as f64 * 0.013).sin_cos();
+            plan.suns.extend([1.5e8 * c, 1.4e8 * s, 0.6e8 * s]);
+            plan.observers.extend(direction(&mut seeded).map(|x| 7000.0 * x));
+        }
+        Case::new(name, plan, n)
+    }
+    pub fn chunks(&self) -> usize {
+        self.sweep.chunks()
+    }
+    /// Writes plan.toml, targets.csv and ephemeris.csv into a folder. A number is written so that it reads as itself.
+    pub fn write(&self, folder: &Path) {
+        let plan = &self.sweep.plan;
+        let mut toml = String::from("targets = \"targets.csv\"\nephemeris = \"ephemeris.csv\"\n");
+        let _ = writeln!(toml, "rolls = {}\ntolerance = {}", self.sweep.n, toml_number(plan.tolerance_deg));
+        let _ = writeln!(toml, "panel = {:?}", plan.panel_normal);
+        if let Some(roll) = plan.roll_deg {
+            let _ = writeln!(toml, "configured_roll = {}", toml_number(roll));
+        }
+        let mut targets = String::from("name,x,y,z\n");
+        for i in 0..plan.rows() {
+            let [x, y, z] = plan.target(i);
+            let _ = writeln!(targets, "T{},{:?},{:?},{:?}", i, x, y, z);
+        }
+        let mut ephemeris = String::from("time,sun_x,sun_y,sun_z,observer_x,observer_y,observer_z\n");
+        for j in 0..plan.times() {
+            let ([a, b, c], [d, e, f]) = (plan.sun(j), plan.observer(j));
+            let _ = writeln!(ephemeris, "{},{:?},{:?},{:?},{:?},{:?},{:?}", self.clock(j), a, b, c, d, e, f);
+        }
+        fs::create_dir_all(folder).unwrap();
+        fs::write(folder.join("plan.toml"), toml).unwrap();
+        fs::write(folder.join("targets.csv"), targets).unwrap();
+        fs::write(folder.join("ephemeris.csv"), ephemeris).unwrap();
+    }
+    /// The time of sample j; FIRST_TIME is 2026-03-20T09:46:40Z, and plans stay within that month.
+    fn clock(&self, j: usize) -> String {
+        let seconds = (self.times[j] - FIRST_TIME) / 1_000_000_000 + 9 * 3600 + 46 * 60 + 40;
+        let (day, of_day) = (20 + seconds / 86_400, seconds % 86_400);
+        assert!(day <= 31);
+        format!("2026-03-{:02}T{:02}:{:02}:{:02}.000000000Z", day, of_day / 3600, of_day / 60 % 60, of_day % 60)
+    }
+    /// The windows of the whole sweep as the program's CSV says them.
+    pub fn windows_csv(&self) -> String {
+        let mut csv = String::from("target,kind,first_sample,last_sample,start,end,severity_deg,data_end\n");
+        let times = self.times.len();
+        let room = [times; 6];
+        for i in 0..self.sweep.plan.rows() {
+            let mask = &self.sweep.mask[i * times..(i + 1) * times];
+            let visible = model::windows::visibility_windows(mask, &self.times, room).unwrap();
+            let violated = model::windows::violation_windows(mask, &self.times, &vec![0.0; times], room).unwrap();
+            let mut all: Vec<_> = visible.iter().map(|w| ("visible", w)).chain(violated.iter().map(|w| ("violated", w))).collect();
+            all.sort_by_key(|(_, w)| w.first);
+            for (kind, w) in all {
+                let (start, end) = (self.clock(w.first as usize), self.clock(w.last as usize));
+                let _ = writeln!(csv, "T{},{},{},{},{},{},0,{}", i, kind, w.first, w.last, start, end, w.is_last as u8);
+            }
+        }
+        csv
+    }
+}
+
+fn toml_number(x: f64) -> String {
+    if x.is_nan() {
+        "nan".into()
+    } else if x.is_infinite() {
+        if x > 0.0 { "inf" } else { "-inf" }.into()
+    } else {
+        format!("{:?}", x)
+    }
+}

@@ -1,0 +1,214 @@
+//! Power cuts: at every byte of the journal, at every system call, at any moment.
+use crate::{
+    case::Case,
+    machine::{run_to_call, sweep_words, Ended, Machine, Stop},
+    Tally,
+};
+use cases::Seeded;
+use model::{
+    journal::{HEADER, LINE},
+    ledger::{Entry, Ledger},
+};
+use std::{
+    fs,
+    path::Path,
+    time::{Duration, Instant},
+};
+
+/// An order of chunks as the command line says it.
+pub fn words(order: &[usize]) -> String {
+    order.iter().map(usize::to_string).collect::<Vec<_>>().join(",")
+}
+
+pub fn shuffled(seeded: &mut Seeded, n: usize) -> Vec<usize> {
+    let mut all: Vec<_> = (0..n).collect();
+    for i in (1..n).rev() {
+        all.swap(i, seeded.index(i + 1));
+    }
+    all
+}
+
+/// The entries of a sweep in this order, whose power fails when the journal has this many bytes.
+pub fn swept(ledger: &mut Ledger, order: &[usize], bytes: usize) {
+    let room = usize::MAX;
+    let begin = [Entry::Begin { lent: room }];
+    let works = order.iter().map(|&c| Entry::Work { chunk: c as u64, lent: room });
+    ledger.enter(Entry::Recover).unwrap();
+    for entry in begin.into_iter().chain(works) {
+        let before = ledger.length();
+        // A header or a line that stands is not written again.
+        if ledger.enter(entry).is_ok() && ledger.length() > bytes {
+            ledger.enter(Entry::Cut { k: bytes - before }).unwrap();
+            return;
+        }
+    }
+}
+
+/// How many whole lines the ledger's journal has.
+fn lines(ledger: &Ledger) -> usize {
+    ledger.length().saturating_sub(HEADER) / LINE
+}
+
+fn looked_at(machine: &Machine, ledger: &Ledger) {
+    assert!(machine.journal() == ledger.journal(), "the journal is not the ledger's");
+    let status = machine.run(&["status", "plan.toml"]);
+    let says = format!("chunks   {} of {} have a line", lines(ledger), machine.case.chunks());
+    let said = String::from_utf8(status.stdout).unwrap();
+    assert!(status.status == 0 && said.contains(&says), "status says\n{}{}", said, status.stderr);
+    assert!(machine.journal() == ledger.journal(), "status changed the journal");
+}
+
+/// Every chunk has its line and the mask is that of section 3.
+pub fn whole(machine: &Machine, ended: &Ended) {
+    assert_eq!(ended.status, 0, "{}", ended.stderr);
+    assert!(machine.mask() == machine.case.sweep.mask, "the mask is not that of section 3");
+    let mut journal: Vec<_> = machine.journal()[HEADER..].chunks(LINE).map(<[u8]>::to_vec).collect();
+    journal.sort();
+    assert!(journal == machine.case.sweep.lines, "the lines are not those of an unbroken run");
+}
+
+/// For every byte: the power fails there; the journal is looked at; the next start loses power between recovery and shortening, and
+/// once more directly after it; then the sweep goes on to its end, in the same order or from the first chunk on.
+pub fn every_byte(case: &Case, order: &[usize], folder: &Path, tally: &mut Tally) {
+    let machine = Machine::new(case, folder);
+    let said = words(order);
+    let said = if order.is_empty() { None } else { Some(said.as_str()) };
+    whole(&machine, &machine.sweep(said));
+    assert!(machine.windows_csv() == case.windows_csv(), "the windows are not those of section 5");
+    let length = machine.journal().len();
+    let ascending: Vec<_> = (0..case.chunks()).collect();
+    for byte in 0..=length {
+        machine.without_journal();
+        let mut ledger = Ledger::new(&case.sweep);
+        let ended = machine.sweep_to_byte(said, byte);
+        assert_eq!(ended.status, if byte < length { -libc::SIGXFSZ } else { 0 }, "{}", ended.stderr);
+        swept(&mut ledger, order, byte);
+        assert_eq!(ledger.length(), byte);
+        tally.cuts += (byte < length) as u64;
+        looked_at(&machine, &ledger);
+
+        let again = || machine.command(&sweep_words(said));
+        let to_shorten = {
+            let mut recovered = Ledger::new(&case.sweep);
+            swept(&mut recovered, order, byte);
+            recovered.enter(Entry::Recover).unwrap();
+            recovered.length() < byte
+        };
+        if to_shorten {
+            assert!(run_to_call(again(), Stop::First(libc::SYS_ftruncate)));
+            assert!(machine.journal() == ledger.journal(), "a recovery that lost power changed the journal");
+            assert!(run_to_call(again(), Stop::After(libc::SYS_ftruncate)));
+            ledger.enter(Entry::Recover).unwrap();
+            assert!(machine.journal() == ledger.journal(), "recovery left other bytes than the ledger's");
+            tally.cuts += 2;
+        }
+        let rest = if byte % 2 == 0 { order } else { &ascending };
+        let ended = machine.sweep(if byte % 2 == 0 { said } else { None });
+        swept(&mut ledger, rest, usize::MAX);
+        assert!(machine.journal() == ledger.journal(), "the resumed journal is not the ledger's");
+        whole(&machine, &ended);
+    }
+    tally.bytes += length as u64 + 1;
+}
+
+/// The power fails while the digest is written, before the first byte of the journal: at every byte of it.
+pub fn every_byte_of_the_digest(case: &Case, folder: &Path, tally: &mut Tally) {
+    let machine = Machine::new(case, folder);
+    whole(&machine, &machine.sweep(None));
+    let digest = machine.folder.join("plan.journal.plan");
+    let text = fs::read(&digest).unwrap();
+    for byte in 0..text.len() {
+        machine.without_journal();
+        fs::remove_file(&digest).unwrap();
+        assert_eq!(machine.sweep_to_byte(None, byte).status, -libc::SIGXFSZ);
+        assert!(machine.journal().is_empty() && !digest.exists());
+        tally.cuts += 1;
+        whole(&machine, &machine.sweep(None));
+        assert!(fs::read(&digest).unwrap() == text);
+    }
+}
+
+/// The power fails on entry to each system call of a sweep, the first to the last; then on entry to another of the run after it.
+pub fn every_call(case: &Case, folder: &Path, seeded: &mut Seeded, tally: &mut Tally) {
+    let machine = Machine::new(case, folder);
+    let all: Vec<_> = (0..case.chunks()).collect();
+    let mut number = 0;
+    loop {
+        number += 1;
+        let _ = fs::remove_file(machine.folder.join("plan.journal.plan"));
+        machine.without_journal();
+        let killed = run_to_call(machine.command(&sweep_words(None)), Stop::Call(number));
+        tally.cuts += killed as u64;
+        between_entries(&machine, &all);
+        let before = machine.journal();
+        if run_to_call(machine.command(&sweep_words(None)), Stop::Call(1 + seeded.below(number + 1))) {
+            tally.cuts += 1;
+        }
+        between_entries(&machine, &all);
+        assert!(machine.journal().starts_with(&before), "a whole line was lost");
+        whole(&machine, &machine.sweep(None));
+        if !killed {
+            break;
+        }
+    }
+    tally.calls += number - 1;
+}
+
+/// The journal is the ledger's after some number of whole entries: no write is cut when a process ends between two calls.
+fn between_entries(machine: &Machine, order: &[usize]) {
+    let mut ledger = Ledger::new(&machine.case.sweep);
+    let journal = machine.journal();
+    if !journal.is_empty() {
+        swept(&mut ledger, order, journal.len());
+        ledger.enter(Entry::Recover).unwrap();
+    }
+    assert!(journal == ledger.journal(), "the journal is not the ledger's");
+}
+
+/// One journal, killed at random moments and bytes, each run in another order of chunks, until it is whole.
+pub fn any_moment(case: &Case, folder: &Path, seeded: &mut Seeded, until: Instant, tally: &mut Tally) {
+    let machine = Machine::new(case, folder);
+    // What a start takes without work, and what the whole takes.
+    let begun = Instant::now();
+    whole(&machine, &machine.sweep(None));
+    let all = begun.elapsed();
+    let begun = Instant::now();
+    whole(&machine, &machine.sweep(None));
+    let start = begun.elapsed() / 2;
+    machine.without_journal();
+
+    let mut ledger = Ledger::new(&case.sweep);
+    let mut kills = 0;
+    while lines(&ledger) < case.chunks() && Instant::now() < until {
+        let order = shuffled(seeded, case.chunks());
+        let said = words(&order);
+        let before = ledger.journal();
+        if seeded.once_in(4) {
+            let bytes = before.len() + seeded.index(6 * LINE);
+            machine.sweep_to_byte(Some(&said), bytes);
+        } else {
+            let most = start + all.saturating_sub(start) / 300;
+            machine.sweep_for(Some(&said), most.mul_f64(2.0 * seeded.unit()));
+        }
+        kills += 1;
+        let now = machine.journal();
+        // A process that ended before it shortened has left the tail; else the tail is gone and whole lines may follow.
+        if now != before {
+            swept(&mut ledger, &order, now.len());
+            assert!(now == ledger.journal(), "the journal is not the ledger's");
+        }
+        if kills % 16 == 0 {
+            looked_at(&machine, &ledger);
+        }
+    }
+    tally.cuts += kills;
+    tally.longest = tally.longest.max(kills);
+    let ended = machine.sweep(None);
+    whole(&machine, &ended);
+    assert!(machine.windows_csv() == case.windows_csv(), "the windows are not those of section 5");
+}
+
+/// Waits a little; for processes that are ending.
+pub fn pause() {
+    std::thread::sleep(Duration::from_millis(5));
+}

@@ -1,0 +1,117 @@
+//! Pulls the plug of `wilfnusk sweep` on purpose, and often, and holds what is left against document 01's ledger.
+//!
+//! `crash-test [SECONDS]`: every byte and every system call of small sweeps, damage and trouble always; random moments and splits for
+//! as many seconds. What a journal, a mask and a window must be comes from the model of document 01, never from the program itself.
+mod case;
+mod cuts;
+mod damage;
+mod machine;
+mod split;
+mod trouble;
+
+use case::Case;
+use cases::Seeded;
+use std::{
+    env, fs,
+    path::{Path, PathBuf},
+    process,
+    time::{Duration, Instant},
+};
+
+/// What was done.
+#[derive(Default)]
+pub struct Tally {
+    /// Power cuts.
+    pub cuts: u64,
+    /// Bytes of journals at which it was cut.
+    pub bytes: u64,
+    /// System calls at which it was cut.
+    pub calls: u64,
+    /// The most cuts in a row on one journal.
+    pub longest: u64,
+    /// Sweeps that were split over machines and merged.
+    pub splits: u64,
+    /// Damaged journals, and how many of them were told from right ones.
+    pub damaged: u64,
+    pub told: u64,
+}
+
+fn main() {
+    let seconds: u64 = match env::args().nth(1).map(|text| text.parse()) {
+        None => 20,
+        Some(Ok(seconds)) => seconds,
+        Some(Err(_)) => {
+            eprintln!("usage: crash-test [SECONDS]");
+            process::exit(2);
+        }
+    };
+    let seed = env::var("SEED").ok().and_then(|text| text.parse().ok()).unwrap_or(1);
+    // Memory, if there is a folder for it: a cut is the kernel's doing and the same there, and syncing costs nothing.
+    let memory = Path::new("/dev/shm");
+    let base = if memory.is_dir() { memory.to_owned() } else { env::temp_dir() };
+    let folder = base.join(format!("wilfnusk-crash-test-{}", process::id()));
+    println!("cutting the power of {} (seed {})", machine::program().display(), seed);
+    let tally = run(&folder, seconds, seed);
+    fs::remove_dir_all(&folder).unwrap();
+    println!(
+        "{} power cuts, up to {} in a row on one journal, {} split sweeps, {} damaged journals ({} refused, the rest still right): nothing was lost",
+        tally.cuts, tally.longest, tally.splits, tally.damaged, tally.told
+    );
+}
+
+fn run(folder: &Path, seconds: u64, seed: u64) -> Tally {
+    let mut tally = Tally::default();
+    let mut seeded = Seeded::new(seed);
+    let at = |name: &str| -> PathBuf { folder.join(name) };
+    let begun = Instant::now();
+    let done = |what: String| println!("{:7.1} s  {}", begun.elapsed().as_secs_f64(), what);
+
+    let example = Case::example();
+    let four = Case::drawn("3 targets, 70 times, 8 rolls", 2, 3, 70, 8, 15.0, None);
+    let fixed = Case::drawn("2 targets, 50 times, a configured roll", 3, 2, 50, 3, 30.0, Some(-40.5));
+    let none = Case::drawn("no targets", 4, 0, 5, 360, f64::NAN, None);
+    for case in [&example, &four, &fixed, &none] {
+        let chunks = case.chunks();
+        let mut orders = vec![(0..chunks).collect::<Vec<_>>()];
+        if chunks > 1 {
+            orders.push((0..chunks).rev().collect());
+        }
+        if chunks > 2 {
+            orders.push(cuts::shuffled(&mut seeded, chunks));
+        }
+        let before = tally.cuts;
+        for order in &orders {
+            cuts::every_byte(case, order, &at("bytes"), &mut tally);
+        }
+        done(format!("every byte: {}, {} orders of {} chunks: {} cuts", case.name, orders.len(), chunks, tally.cuts - before));
+    }
+    cuts::every_byte_of_the_digest(&example, &at("digest"), &mut tally);
+    done("every byte of the digest".into());
+    cuts::every_call(&fixed, &at("calls"), &mut seeded, &mut tally);
+    done(format!("every system call: {} of them", tally.calls));
+    damage::all(&four, &at("damage"), &mut seeded, &mut tally);
+    done(format!("damage: {} journals", tally.damaged));
+    for what in trouble::all(&four, &at("trouble")) {
+        done(what);
+    }
+
+    let large = Case::drawn("40 targets, 1,000 times, 720 rolls", 5, 40, 1000, 720, 0.2, None);
+    let until = Instant::now() + Duration::from_secs(seconds);
+    let half = Instant::now() + Duration::from_secs(seconds) / 2;
+    let before = tally.cuts;
+    cuts::any_moment(&large, &at("moments"), &mut seeded, half, &mut tally);
+    done(format!("any moment: {}: {} cuts on one journal", large.name, tally.cuts - before));
+    let middle = Case::drawn("9 targets, 200 times, 90 rolls", 6, 9, 200, 90, 1.7, None);
+    loop {
+        for machines in [2, 5] {
+            split::split(&middle, machines, &at("split"), &mut seeded, &mut tally);
+            split::with_parallel(&middle, machines, &at("parallel"), &mut seeded, &mut tally);
+        }
+        cuts::any_moment(&middle, &at("moments"), &mut seeded, until, &mut tally);
+        if Instant::now() >= until {
+            break;
+        }
+    }
+    done(format!("split over two and five machines: {} sweeps, merged", tally.splits));
+    tally
+}

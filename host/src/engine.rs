@@ -1,0 +1,102 @@
+//! The proved library as this program calls it. Every line, mask and window comes from here, and nothing else calls it.
+use crate::plan::Plan;
+pub use wilfnusk::{Refusal, Roll, Window, CHUNK_CELLS, HEADER_BYTES, LINE_BYTES};
+
+fn lent(plan: &Plan) -> wilfnusk::Plan<'_> {
+    wilfnusk::Plan {
+        targets: &plan.targets,
+        suns: &plan.suns,
+        observers: &plan.observers,
+        tolerance_deg: plan.tolerance,
+        roll_deg: plan.configured_roll,
+        panel_normal: plan.panel,
+    }
+}
+
+/// Whether the library takes this plan: recovery of an empty journal refuses as the plan does, and a listing as its times do.
+pub fn check(plan: &Plan) -> Result<(), Refusal> {
+    lent(plan).recover(plan.rolls, &[], 0)?;
+    visibility(&vec![0; plan.times.len()], &plan.times)?;
+    Ok(())
+}
+
+/// The header of the plan's journal.
+pub fn header(plan: &Plan) -> Result<Vec<u8>, Refusal> {
+    let mut header = vec![0; HEADER_BYTES as usize];
+    begin(plan, &mut header)?;
+    Ok(header)
+}
+
+/// Writes the header into an empty journal. The used length after it.
+pub fn begin(plan: &Plan, journal: &mut [u8]) -> Result<usize, Refusal> {
+    lent(plan).begin(plan.rolls, journal, 0).map(|used| used as usize)
+}
+
+/// Appends the lines of these chunks, in this order. The used length after them.
+pub fn work(plan: &Plan, chunks: &[u64], journal: &mut [u8], used: usize) -> Result<usize, Refusal> {
+    let mut used = used as u64;
+    for &chunk in chunks {
+        used = lent(plan).work(plan.rolls, chunk, journal, used)?;
+    }
+    Ok(used as usize)
+}
+
+/// How much of the journal stands: the header and the lines whose writing ended.
+pub fn recover(plan: &Plan, journal: &[u8]) -> Result<usize, Refusal> {
+    lent(plan).recover(plan.rolls, journal, journal.len() as u64).map(|used| used as usize)
+}
+
+/// The mask that a whole journal holds, and the sum of its probes.
+pub fn collect(plan: &Plan, journal: &[u8]) -> Result<(Vec<u8>, u64), Refusal> {
+    let mut mask = vec![0; plan.cells()];
+    let probes = lent(plan).collect(plan.rolls, journal, journal.len() as u64, &mut mask)?;
+    Ok((mask, probes))
+}
+
+/// One target's mask and severities at the configured roll.
+pub fn evaluate(plan: &Plan, target: usize) -> Result<(Vec<u8>, Vec<f64>), Refusal> {
+    let (mut mask, mut severities) = (vec![0; plan.times.len()], vec![0.0; plan.times.len()]);
+    lent(plan).evaluate(target as u64, &mut mask, &mut severities)?;
+    Ok((mask, severities))
+}
+
+/// The mask of every cell at one roll.
+pub fn mask_at(plan: &Plan, roll: Roll) -> Result<Vec<u8>, Refusal> {
+    let mut mask = vec![0; plan.cells()];
+    lent(plan).in_constraint_batch_at_roll(roll, &mut mask)?;
+    Ok(mask)
+}
+
+/// Each target's mark at one time: at a roll, or by the distance to the nearest of the plan's rolls.
+pub fn regard(plan: &Plan, time: usize, roll: Option<f64>) -> Result<Vec<u8>, Refusal> {
+    let mut mask = vec![0; plan.names.len()];
+    match roll {
+        Some(roll) => lent(plan).field_of_regard_violated_at_roll(time as u64, roll, &mut mask)?,
+        None => lent(plan).field_of_regard_violated_batch(time as u64, plan.rolls, &mut mask)?,
+    }
+    Ok(mask)
+}
+
+/// A row's visibility windows.
+pub fn visibility(mask: &[u8], times: &[i64]) -> Result<Vec<Window>, Refusal> {
+    listed(mask, |out| wilfnusk::visibility_records(mask, times, out))
+}
+
+/// A row's violation windows.
+pub fn violations(mask: &[u8], times: &[i64], severities: &[f64]) -> Result<Vec<Window>, Refusal> {
+    listed(mask, |out| wilfnusk::violation_records(mask, times, severities, out))
+}
+
+/// Lends room for the most windows that a row can have.
+fn listed(mask: &[u8], list: impl FnOnce(&mut [Window]) -> Result<u64, Refusal>) -> Result<Vec<Window>, Refusal> {
+    let mut out = vec![Window::default(); (mask.len() + 1) / 2];
+    let count = list(&mut out)?;
+    out.truncate(count as usize);
+    Ok(out)
+}
+
+/// The windows' lengths, each in whole seconds, summed.
+pub fn seconds(windows: &[Window]) -> Result<f64, Refusal> {
+    let (first, last): (Vec<_>, Vec<_>) = windows.iter().map(|w| (w.first_time, w.last_time)).unzip();
+    wilfnusk::total_violation_duration(&first, &last)
+}

@@ -1,0 +1,45 @@
+//! Why the program stops, and the exit status that says so.
+use std::{fmt, io};
+
+#[derive(Debug)]
+pub enum Fault {
+    /// The library said no, with document 01's number.
+    Refused(u8, String),
+    /// The command line asks for what cannot be.
+    Usage(String),
+    /// A file: it cannot be opened or written, or what it says cannot be read.
+    Files(String),
+    /// Ctrl-C, or the machine's wish to end.
+    Stopped(String),
+    /// Nobody reads our output any more.
+    Unread,
+}
+
+impl Fault {
+    pub fn status(&self) -> i32 {
+        match self {
+            Fault::Refused(..) => 1,
+            Fault::Usage(_) => 2,
+            Fault::Files(_) => 3,
+            Fault::Stopped(_) => 130,
+            Fault::Unread => 0,
+        }
+    }
+    /// A fault of our own output, on a terminal or a pipe.
+    pub fn output(e: io::Error) -> Fault {
+        match e.kind() {
+            io::ErrorKind::BrokenPipe => Fault::Unread,
+            _ => Fault::Files(format!("standard output: {}", e)),
+        }
+    }
+}
+
+impl fmt::Display for Fault {
+    fn fmt(&self, f: &mut fmt::Formatter) -> fmt::Result {
+        match self {
+            Fault::Refused(number, text) => write!(f, "refused with {}: {}", number, text),
+            Fault::Usage(text) | Fault::Files(text) | Fault::Stopped(text) => f.write_str(text),
+            Fault::Unread => Ok(()),
+        }
+    }
+}

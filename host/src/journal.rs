@@ -1,0 +1,217 @@
+//! The journal's file: document 01's bytes and nothing else. Locked, read, shortened, and written at its end only.
+use crate::{
+    engine::{HEADER_BYTES, LINE_BYTES},
+    fault::Fault,
+    files::{fault, reason, sync_folder},
+    plan::Plan,
+    stop,
+};
+use clap::ValueEnum;
+use fs2::FileExt;
+use std::{
+    fs::{self, File, OpenOptions},
+    io::{self, Read, Write},
+    os::unix::fs::MetadataExt,
+    path::{Path, PathBuf},
+    thread::sleep,
+    time::{Duration, Instant},
+};
+
+/// When what was written is made to last.
+#[derive(Clone, Copy, Debug, PartialEq, Eq, ValueEnum)]
+pub enum Sync {
+    /// After each line: a power cut loses only the line being written
+    Line,
+    /// Once a second: faster, and a power cut may lose a second's lines
+    Second,
+}
+
+/// A journal that this process has locked.
+pub struct Journal {
+    pub path: PathBuf,
+    file: File,
+    /// A buffer with room for the whole journal; the first `used` bytes are those of the file.
+    pub bytes: Vec<u8>,
+    pub used: usize,
+    sync: Sync,
+    synced: Instant,
+    unsynced: bool,
+}
+
+/// No journal of any plan is longer; a larger file is something else.
+const MOST: u64 = 1 << 24;
+
+impl Journal {
+    /// Opens the plan's journal, or makes an empty one, locks it and reads it.
+    pub fn open(path: &Path, plan: &Plan, wait: bool, sync: Sync) -> Result<Journal, Fault> {
+        let (file, made) = locked(path, wait)?;
+        if made {
+            sync_folder(path).map_err(|e| fault(path, &e))?;
+        }
+        let mut journal =
+            Journal { path: path.to_owned(), bytes: read(path, &file)?, file, used: 0, sync, synced: Instant::now(), unsynced: false };
+        journal.used = journal.bytes.len();
+        let room = HEADER_BYTES as usize + LINE_BYTES as usize * plan.chunks();
+        if journal.used < room {
+            journal.bytes.resize(room, 0);
+        }
+        Ok(journal)
+    }
+    pub fn used(&self) -> &[u8] {
+        &self.bytes[..self.used]
+    }
+    /// Cuts the file to what recovery keeps.
+    pub fn shorten(&mut self, keep: usize) -> Result<(), Fault> {
+        if keep < self.used {
+            self.as_left()?;
+            self.file.set_len(keep as u64).and_then(|()| self.file.sync_data()).map_err(|e| self.fault(&e))?;
+            self.used = keep;
+        }
+        Ok(())
+    }
+    /// Writes the frames that the buffer holds beyond the used length, up to this one: each with one write at the end of
+    /// the file. A short write is gone on with; nothing written is ever taken back.
+    pub fn append(&mut self, upto: usize) -> Result<(), Fault> {
+        while self.used < upto {
+            let frame = if self.used == 0 { HEADER_BYTES } else { LINE_BYTES } as usize;
+            self.as_left()?;
+            let end = self.used + frame;
+            self.file.write_all(&self.bytes[self.used..end]).map_err(|e| self.fault(&e))?;
+            self.used = end;
+            self.unsynced = true;
+            if self.sync == Sync::Line || self.synced.elapsed() >= Duration::from_secs(1) {
+                self.sync()?;
+            }
+        }
+        Ok(())
+    }
+    /// Makes all that was written last.
+    pub fn sync(&mut self) -> Result<(), Fault> {
+        if self.unsynced {
+            self.file.sync_data().map_err(|e| self.fault(&e))?;
+            self.unsynced = false;
+        }
+        self.synced = Instant::now();
+        Ok(())
+    }
+    /// The file is as this process left it: nobody else wrote, shortened or removed it.
+    fn as_left(&self) -> Result<(), Fault> {
+        let now = self.file.metadata().map_err(|e| self.fault(&e))?;
+        let path = self.path.display();
+        if now.nlink() == 0 {
+            return Err(Fault::Files(format!("{}: the file was removed while this sweep wrote it", path)));
+        }
+        if now.len() != self.used as u64 {
+            return Err(Fault::Files(format!(
+                "{}: the file has {} bytes and had {} after this sweep's last write, so another program writes it; \
+                 nothing was overwritten. Find that program, then sweep again",
+                path,
+                now.len(),
+                self.used
+            )));
+        }
+        Ok(())
+    }
+    fn fault(&self, e: &io::Error) -> Fault {
+        Fault::Files(format!(
+            "{}: {}; every whole line stays: once that is mended, the same command goes on",
+            self.path.display(),
+            reason(e)
+        ))
+    }
+}
+
+/// Opens the file for this process alone. Whether it was made.
+fn locked(path: &Path, wait: bool) -> Result<(File, bool), Fault> {
+    let asked = Instant::now();
+    let mut told = false;
+    loop {
+        let made = !path.exists();
+        if path.is_dir() {
+            return Err(Fault::Files(format!("{}: this is a folder; allowed: a journal's file", path.display())));
+        }
+        let file = OpenOptions::new().read(true).append(true).create(true).open(path).map_err(|e| fault(path, &e))?;
+        match file.try_lock_exclusive() {
+            Ok(()) => {
+                // The name may have been given to another file before the lock was ours.
+                let ours = file.metadata().map_err(|e| fault(path, &e))?;
+                if fs::metadata(path).map_or(false, |named| named.ino() == ours.ino() && named.dev() == ours.dev()) {
+                    return Ok((file, made));
+                }
+            }
+            Err(e) if e.kind() == io::ErrorKind::WouldBlock => {
+                // `wilfnusk status` looks at the lock for a moment.
+                if !wait && asked.elapsed() > Duration::from_millis(300) {
+                    return Err(Fault::Files(format!(
+                        "{}: another process sweeps into it; let it end, or wait for it with --wait",
+                        path.display()
+                    )));
+                }
+                if wait && !told && asked.elapsed() > Duration::from_secs(1) {
+                    told = true;
+                    eprintln!("waiting: another process sweeps into {}", path.display());
+                }
+            }
+            Err(e) => return Err(fault(path, &e)),
+        }
+        if stop::asked() {
+            return Err(Fault::Stopped("stopped while waiting; nothing was written".into()));
+        }
+        sleep(Duration::from_millis(30));
+    }
+}
+
+/// Whether a sweep has the journal locked.
+pub fn is_locked(path: &Path) -> bool {
+    File::open(path).map_or(false, |file| file.try_lock_shared().is_err())
+}
+
+fn read(path: &Path, mut file: &File) -> Result<Vec<u8>, Fault> {
+    let about = file.metadata().map_err(|e| fault(path, &e))?;
+    if !about.is_file() || about.len() > MOST {
+        return Err(Fault::Files(format!(
+            "{}: {} bytes; allowed: a plain file of at most {} bytes, which no journal exceeds",
+            path.display(),
+            about.len(),
+            MOST
+        )));
+    }
+    let mut bytes = Vec::new();
+    file.read_to_end(&mut bytes).map_err(|e| fault(path, &e))?;
+    Ok(bytes)
+}
+
+/// The bytes of a journal that is only looked at.
+pub fn look(path: &Path) -> Result<Vec<u8>, Fault> {
+    read(path, &File::open(path).map_err(|e| fault(path, &e))?)
+}
+
+/// The whole lines after the header.
+pub fn lines(journal: &[u8]) -> impl Iterator<Item = &[u8]> {
+    journal.get(HEADER_BYTES as usize..).unwrap_or(&[]).chunks_exact(LINE_BYTES as usize)
+}
+
+/// A field of lowercase hexadecimal digits.
+pub fn hex(digits: &[u8]) -> Option<u64> {
+    digits.iter().try_fold(0, |value, digit| match digit {
+        b'0'..=b'9' => Some(value << 4 | u64::from(digit - b'0')),
+        b'a'..=b'f' => Some(value << 4 | u64::from(digit - b'a' + 10)),
+        _ => None,
+    })
+}
+
+/// The chunk that a line is of.
+pub fn chunk_of(line: &[u8]) -> Option<u64> {
+    hex(line.get(..8)?)
+}
+
+/// Which chunks have a line.
+pub fn done(journal: &[u8], chunks: usize) -> Vec<bool> {
+    let mut done = vec![false; chunks];
+    for chunk in lines(journal).filter_map(chunk_of) {
+        if let Some(d) = done.get_mut(chunk as usize) {
+            *d = true;
+        }
+    }
+    done
+}

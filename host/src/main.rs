@@ -1,0 +1,172 @@
+//! wilfnusk: sweeps a plan over rolls, keeps a journal that survives power cuts, and lists its windows.
+//!
+//! The program owns files, time, locks and screens. Every number comes from the proved library (engine.rs).
+#![forbid(unsafe_code)]
+
+mod digest;
+mod engine;
+mod example;
+mod explain;
+mod fault;
+mod files;
+mod instant;
+mod journal;
+mod listing;
+mod look;
+mod merge;
+mod plan;
+mod progress;
+mod sheet;
+mod source;
+mod stop;
+mod svg;
+mod sweep;
+mod text;
+
+use clap::{Args, Parser, Subcommand};
+use fault::Fault;
+use std::{
+    fs::File,
+    io::{self, BufWriter, Write},
+    path::{Path, PathBuf},
+    process::exit,
+};
+
+/// Sweeps a plan of targets over rolls and lists when each may be looked at.
+///
+/// A sweep is kept in a journal: a power cut costs at most the line being written, and the same command goes on.
+#[derive(Parser)]
+#[command(
+    name = "wilfnusk",
+    version,
+    after_help = "Start with:\n  wilfnusk example day\n  wilfnusk sweep day/plan.toml --svg windows.svg\n\n\
+        Exit status: 0 done, 1 refused (the message has the number of the reason),\n  \
+        2 wrong command line, 3 files, 130 stopped by Ctrl-C."
+)]
+struct Cli {
+    #[command(subcommand)]
+    command: Command,
+}
+
+#[derive(Subcommand)]
+enum Command {
+    /// Work out the chunks that the journal lacks, then list the windows
+    Sweep(sweep::Sweep),
+    /// List the windows of a finished sweep: table, CSV, JSON, SVG
+    Windows(look::Windows),
+    /// Show how far a sweep is
+    Status(look::Status),
+    /// Check a plan and its journal, and explain what is refused
+    Check(look::Status),
+    /// Print the sweep's mask, or the mask at one roll
+    Mask(look::Mask),
+    /// Print each target's mark at one time
+    Regard(look::Regard),
+    /// Put the lines of several journals of one plan into a new one
+    Merge(merge::Merge),
+    /// Write a plan to start from: a day of a telescope in low orbit
+    Example {
+        /// Folder for plan.toml, targets.csv and ephemeris.csv
+        folder: PathBuf,
+    },
+}
+
+/// A plan and its journal.
+#[derive(Args)]
+struct Files {
+    /// The plan, a TOML file that names a CSV file of targets and one of positions
+    #[arg(value_name = "PLAN.toml")]
+    plan: PathBuf,
+    /// The journal [default: the plan's name with .journal]
+    #[arg(long, value_name = "FILE")]
+    journal: Option<PathBuf>,
+}
+
+/// Where windows are listed.
+#[derive(Args)]
+struct Outputs {
+    /// Write the windows as CSV ("-" for standard output, in place of the table)
+    #[arg(long, value_name = "FILE")]
+    csv: Option<PathBuf>,
+    /// Write the windows as JSON
+    #[arg(long, value_name = "FILE")]
+    json: Option<PathBuf>,
+    /// Write a timeline as SVG
+    #[arg(long, value_name = "FILE")]
+    svg: Option<PathBuf>,
+    /// Leave the table out
+    #[arg(long, short)]
+    quiet: bool,
+}
+
+impl Files {
+    /// The plan, as far as the library takes it, and the journal's place.
+    fn read(&self) -> Result<(plan::Plan, PathBuf), Fault> {
+        let plan = plan::Plan::read(&self.plan)?;
+        engine::check(&plan).map_err(|refusal| explain::plan(&plan, refusal))?;
+        let journal = self.journal.clone().unwrap_or_else(|| plan.journal());
+        Ok((plan, journal))
+    }
+}
+
+impl Outputs {
+    /// Writes the windows wherever they are asked for.
+    fn write(&self, listing: &listing::Listing) -> Result<(), Fault> {
+        let dash = Path::new("-");
+        let files = [&self.csv, &self.json, &self.svg];
+        let on_stdout = files.iter().filter(|f| f.as_deref() == Some(dash)).count();
+        if on_stdout > 1 {
+            return Err(Fault::Usage("only one of --csv, --json and --svg can go to standard output".into()));
+        }
+        if !self.quiet && on_stdout == 0 {
+            listing.table(&mut io::stdout().lock()).map_err(Fault::output)?;
+        }
+        type Write<'a> = Box<dyn Fn(&mut dyn io::Write) -> io::Result<()> + 'a>;
+        let writes: [Write; 3] =
+            [Box::new(|out| listing.csv(out)), Box::new(|out| listing.json(out)), Box::new(|out| svg::write(listing, out))];
+        for (file, write) in files.iter().zip(writes) {
+            match file {
+                None => {}
+                Some(path) if path == dash => write(&mut io::stdout().lock()).map_err(Fault::output)?,
+                Some(path) => {
+                    let written = File::create(path).and_then(|f| write(&mut BufWriter::new(f)));
+                    written.map_err(|e| files::fault(path, &e))?;
+                    eprintln!("wrote {}", path.display());
+                }
+            }
+        }
+        Ok(())
+    }
+}
+
+fn run(command: Command) -> Result<(), Fault> {
+    match command {
+        Command::Sweep(c) => c.run(),
+        Command::Windows(c) => c.run(),
+        Command::Status(c) => c.status(),
+        Command::Check(c) => c.check(),
+        Command::Mask(c) => c.run(),
+        Command::Regard(c) => c.run(),
+        Command::Merge(c) => c.run(),
+        Command::Example { folder } => {
+            example::write(&folder)?;
+            let plan = folder.join("plan.toml");
+            say(format_args!("wrote {}, targets.csv and ephemeris.csv\nnext: wilfnusk sweep {}", plan.display(), plan.display()))
+        }
+    }
+}
+
+/// Prints a line.
+fn say(text: impl std::fmt::Display) -> Result<(), Fault> {
+    writeln!(io::stdout(), "{}", text).map_err(Fault::output)
+}
+
+fn main() {
+    if let Err(fault) = run(Cli::parse().command) {
+        let text = fault.to_string();
+        if !text.is_empty() {
+            eprintln!("wilfnusk: {}", text);
+        }
+        exit(fault.status());
+    }
+}

@@ -1,0 +1,192 @@
+//! `wilfnusk sweep`: lock the journal, recover, shorten, work out what is missing, list.
+use crate::{
+    digest::{same_plan, Digest},
+    engine::{self, HEADER_BYTES},
+    explain,
+    fault::Fault,
+    journal::{done, Journal, Sync},
+    listing::Listing,
+    plan::Plan,
+    progress::Progress,
+    stop,
+    text::{grouped, ranges},
+    Files, Outputs,
+};
+use clap::Args;
+use std::{ops::Range, str::FromStr};
+
+#[derive(Args)]
+pub struct Sweep {
+    #[command(flatten)]
+    files: Files,
+    /// Work out one of N equal parts, such as 2/5
+    #[arg(long, value_name = "K/N", conflicts_with = "chunks")]
+    part: Option<Part>,
+    /// Work out these chunks in this order, such as 40..80 or 7,0..5
+    #[arg(long, value_name = "A..B", value_delimiter = ',')]
+    chunks: Option<Vec<Chunks>>,
+    /// When lines are made to last
+    #[arg(long, value_enum, default_value_t = Sync::Line)]
+    sync: Sync,
+    /// Wait while another process sweeps into the journal
+    #[arg(long)]
+    wait: bool,
+    #[command(flatten)]
+    outputs: Outputs,
+}
+
+/// Part k of n, k from 1.
+#[derive(Clone, Copy, Debug, PartialEq, Eq)]
+pub struct Part {
+    k: u64,
+    n: u64,
+}
+
+impl FromStr for Part {
+    type Err = String;
+    fn from_str(text: &str) -> Result<Part, String> {
+        let read = text.split_once('/').and_then(|(k, n)| Some(Part { k: k.parse().ok()?, n: n.parse().ok()? }));
+        match read {
+            Some(part) if (1..=part.n).contains(&part.k) && part.n <= u64::from(u32::MAX) => Ok(part),
+            _ => Err("allowed: K/N with K from 1 to N".into()),
+        }
+    }
+}
+
+impl Part {
+    /// The parts are runs of chunks, one after the other, as equal as can be.
+    fn of(self, chunks: u64) -> Range<u64> {
+        chunks * (self.k - 1) / self.n..chunks * self.k / self.n
+    }
+}
+
+/// A chunk, or a run of them.
+#[derive(Clone, Debug, PartialEq, Eq)]
+pub struct Chunks(Range<u64>);
+
+impl FromStr for Chunks {
+    type Err = String;
+    fn from_str(text: &str) -> Result<Chunks, String> {
+        let read = match text.split_once("..") {
+            Some((a, b)) => a.parse().ok().zip(b.parse().ok()),
+            None => text.parse().ok().filter(|&a| a < u64::MAX).map(|a| (a, a + 1)),
+        };
+        match read {
+            Some((a, b)) if a <= b => Ok(Chunks(a..b)),
+            _ => Err("allowed: A..B with A up to B (B itself is left out), or one chunk's number".into()),
+        }
+    }
+}
+
+impl Sweep {
+    pub fn run(&self) -> Result<(), Fault> {
+        let (plan, path) = self.files.read()?;
+        let asked = self.asked(&plan)?;
+        stop::listen();
+        let mut journal = Journal::open(&path, &plan, self.wait, self.sync)?;
+        start(&plan, &mut journal)?;
+
+        let has_line = done(journal.used(), plan.chunks());
+        let mut missing: Vec<u64> = asked.into_iter().filter(|&c| !has_line[c as usize]).collect();
+        // A chunk that was asked for twice is worked out once.
+        let mut seen = has_line;
+        missing.retain(|&c| !std::mem::replace(&mut seen[c as usize], true));
+        let mut progress = Progress::of(missing.len());
+        for &chunk in &missing {
+            if stop::asked() {
+                break;
+            }
+            let used = journal.used;
+            let upto = engine::work(&plan, &[chunk], &mut journal.bytes, used).map_err(|r| explain::plan(&plan, r))?;
+            journal.append(upto)?;
+            progress.add(1);
+        }
+        journal.sync()?;
+        progress.end();
+        self.end(&plan, &journal)
+    }
+    /// The chunks that the command line asks for, in its order.
+    fn asked(&self, plan: &Plan) -> Result<Vec<u64>, Fault> {
+        let chunks = plan.chunks() as u64;
+        match (&self.part, &self.chunks) {
+            (Some(part), _) => Ok(part.of(chunks).collect()),
+            (None, Some(list)) => {
+                if let Some(beyond) = list.iter().find(|c| c.0.end > chunks) {
+                    let (a, b) = (beyond.0.start, beyond.0.end);
+                    return Err(Fault::Usage(format!("--chunks {}..{}: this plan has the chunks 0..{}", a, b, chunks)));
+                }
+                Ok(list.iter().flat_map(|c| c.0.clone()).collect())
+            }
+            (None, None) => Ok((0..chunks).collect()),
+        }
+    }
+    fn end(&self, plan: &Plan, journal: &Journal) -> Result<(), Fault> {
+        let has_line = done(journal.used(), plan.chunks());
+        let count = has_line.iter().filter(|&&d| d).count();
+        let about = format!("{}: {} of {} chunks have a line", journal.path.display(), grouped(count), grouped(plan.chunks()));
+        if stop::asked() {
+            return Err(Fault::Stopped(format!("stopped. {}; the same command goes on", about)));
+        }
+        if count < plan.chunks() {
+            eprintln!("{}; missing: {}", about, ranges(&has_line, false));
+            return Ok(());
+        }
+        let bytes = journal.used();
+        let (mask, probes) = engine::collect(plan, bytes).map_err(|r| explain::journal(plan, &journal.path, bytes, r))?;
+        eprintln!("{}; {} rolls were tried", about, grouped(probes));
+        let listing = Listing::of_mask(plan, &mask, probes).map_err(|r| explain::plan(plan, r))?;
+        self.outputs.write(&listing)
+    }
+}
+
+/// The start-up of every sweep, after a power cut or not: recover, hold the plan against the digest, shorten, begin.
+fn start(plan: &Plan, journal: &mut Journal) -> Result<(), Fault> {
+    let found = journal.used;
+    let keep = engine::recover(plan, journal.used()).map_err(|r| explain::journal(plan, &journal.path, journal.used(), r))?;
+    if keep > HEADER_BYTES as usize {
+        same_plan(plan, &journal.path)?;
+    }
+    journal.shorten(keep)?;
+    if keep < found {
+        eprintln!("recovered {}: {} bytes of a write that did not end are gone", journal.path.display(), found - keep);
+    }
+    // Without a line nothing depends on the digest: it is made this plan's, before the first line can follow.
+    if keep <= HEADER_BYTES as usize {
+        let digest = Digest::of(plan);
+        if Digest::beside(&journal.path).ok().flatten().as_ref() != Some(&digest) {
+            digest.write(&journal.path)?;
+        }
+    }
+    if keep == 0 {
+        let upto = engine::begin(plan, &mut journal.bytes).map_err(|r| explain::plan(plan, r))?;
+        journal.append(upto)?;
+    }
+    Ok(())
+}
+
+#[cfg(test)]
+mod tests {
+    use super::*;
+    use proptest::prelude::*;
+
+    #[test]
+    fn parts_and_chunks_of_the_command_line() {
+        assert_eq!("2/5".parse(), Ok(Part { k: 2, n: 5 }));
+        for wrong in ["", "2", "0/5", "6/5", "-1/5", "1/0", "1/2/3"] {
+            assert!(wrong.parse::<Part>().is_err(), "{}", wrong);
+        }
+        assert_eq!("3..7".parse(), Ok(Chunks(3..7)));
+        assert_eq!("7".parse(), Ok(Chunks(7..8)));
+        assert_eq!("7..7".parse(), Ok(Chunks(7..7)));
+        for wrong in ["", "7..3", "..3", "3..", "a", "18446744073709551615"] {
+            assert!(wrong.parse::<Chunks>().is_err(), "{}", wrong);
+        }
+    }
+    proptest! {
+        #[test]
+        fn the_parts_are_all_chunks_once(chunks in 0u64..20_000, n in 1u64..300) {
+            let all: Vec<_> = (1..=n).flat_map(|k| Part { k, n }.of(chunks)).collect();
+            prop_assert_eq!(all, (0..chunks).collect::<Vec<_>>());
+        }
+    }
+}
