@@ -7,7 +7,18 @@ ghost use Rattle.journal.specs.Header.{headerText};
 use crate::hex::write_fields;
 
 // Writes a header of the numbers that it holds: a float as its bits.
-pub(crate) fn write_header(out: &mut [u8], rows: u64, times: u64, n: u64, tolerance: u64, configured: u64, roll: u64, x: u64, y: u64, z: u64)
+pub(crate) fn write_header(
+    out: &mut [u8],
+    rows: u64,
+    times: u64,
+    n: u64,
+    tolerance: u64,
+    configured: u64,
+    roll: u64,
+    x: u64,
+    y: u64,
+    z: u64,
+)
     requires { ⌜ 107 ≤ length (now out) ⌝ }
     ensures { λ r. ⌜ now (out .exit) ≡ over (headerText rows times n tolerance configured roll x y z) (now (out .entry)) ⌝ }
 {

@@ -29,7 +29,16 @@ fn write_hex(out: &mut [u8], at: usize, w: usize, x: u64)
 }
 
 // Writes three numbers one after the other from index at on, each in its own number of digits.
-pub(crate) fn write_fields(out: &mut [u8], at: usize, a: usize, x: u64, b: usize, y: u64, c: usize, z: u64)
+pub(crate) fn write_fields(
+    out: &mut [u8],
+    at: usize,
+    a: usize,
+    x: u64,
+    b: usize,
+    y: u64,
+    c: usize,
+    z: u64,
+)
     requires { ⌜ at + a + b + c ≤ length (now out) ⌝ }
     ensures { λ r. ⌜ now (out .exit) ≡ put at (hexText a x ++ (hexText b y ++ hexText c z)) (now (out .entry)) ⌝ }
 {

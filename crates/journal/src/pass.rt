@@ -71,7 +71,14 @@ fn line_fits(line: Line, cells: u64, n: u64) -> bool
 }
 
 // Whether each of the first lines is right. The tables come blank, and are filled if they all are.
-fn check_lines(journal: &[u8], lines: usize, cells: u64, n: u64, seen: &mut [u8], masks: &mut [u64]) -> Checked
+fn check_lines(
+    journal: &[u8],
+    lines: usize,
+    cells: u64,
+    n: u64,
+    seen: &mut [u8],
+    masks: &mut [u64],
+) -> Checked
     requires { ⌜ ((l : ℕ) → l < lines → 107 + 33 * l + 33 ≤ length (now journal)) × (cells ≤ 1048576) × (n ≤ 3600) × (now seen ≡ replicate 16384 0) × (now masks ≡ replicate 16384 0) ⌝ }
     ensures { λ r. ⌜ (r ≡ checkedOf (linesRight cells n (now (journal .entry)) lines) (heldProbes (now (journal .entry)) lines))
         × (linesRight cells n (now (journal .entry)) lines ≡ true → Tables (now (journal .entry)) lines (now (seen .exit)) (now (masks .exit))) ⌝ }
@@ -141,7 +148,15 @@ pub(crate) fn kept_length(used: usize) -> usize
 }
 
 // Whether the used bytes are right. The tables come blank, and are filled if they are.
-pub(crate) fn check_journal(header: &[u8], cells: u64, n: u64, journal: &[u8], used: usize, seen: &mut [u8], masks: &mut [u64]) -> Checked
+pub(crate) fn check_journal(
+    header: &[u8],
+    cells: u64,
+    n: u64,
+    journal: &[u8],
+    used: usize,
+    seen: &mut [u8],
+    masks: &mut [u64],
+) -> Checked
     requires { ⌜ (length (now header) ≡ 107) × (cells ≤ 1048576) × (n ≤ 3600) × (used ≤ length (now journal)) × (now seen ≡ replicate 16384 0) × (now masks ≡ replicate 16384 0) ⌝ }
     ensures { λ r. ⌜ (r ≡ checkedOf (right cells n (now (header .entry)) (now (journal .entry)) used) (heldProbes (now (journal .entry)) (wholeLines used)))
         × (right cells n (now (header .entry)) (now (journal .entry)) used ≡ true → Tables (now (journal .entry)) (wholeLines used) (now (seen .exit)) (now (masks .exit))) ⌝ }
