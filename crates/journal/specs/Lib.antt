@@ -1,7 +1,8 @@
 -- Section 4: the journal's text, when a journal is right, and what begin, work, recover and collect answer and leave.
 pub mod Hex
 pub mod Lines
-pub mod Header
 pub mod Right
 pub mod Calls
 pub mod Pass
+pub mod Header
+pub mod Plan

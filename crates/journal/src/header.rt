@@ -3,27 +3,55 @@ ghost use mathlib.Core.Path.{_≡_};
 ghost use Prim.Native.Nat.{_≤_};
 ghost use lib.ListN.{length};
 ghost use Rattle.buffers.specs.Lent.{over};
-ghost use Rattle.journal.specs.Header.{headerText};
+ghost use Rattle.journal.specs.Header.{headerText, hasRoll, rollBits, settingsHeader};
 use crate::hex::write_fields;
+use float::bits;
+use solar_roll::ConfiguredRoll;
+use solar_roll::SolarRollConfig;
 
 // Writes a header of the numbers that it holds: a float as its bits.
-pub(crate) fn write_header(
-    out: &mut [u8],
-    rows: u64,
-    times: u64,
-    n: u64,
-    tolerance: u64,
-    configured: u64,
-    roll: u64,
-    x: u64,
-    y: u64,
-    z: u64,
-)
+fn write_numbers(out: &mut [u8], targets: u64, times: u64, n: u64, tolerance: u64, configured: u64, roll: u64, x: u64, y: u64, z: u64)
     requires { ⌜ 107 ≤ length (now out) ⌝ }
-    ensures { λ r. ⌜ now (out .exit) ≡ over (headerText rows times n tolerance configured roll x y z) (now (out .entry)) ⌝ }
+    ensures { λ r. ⌜ now (out .exit) ≡ over (headerText targets times n tolerance configured roll x y z) (now (out .entry)) ⌝ }
 {
-    write_fields(out, 0, 8, rows, 8, times, 8, n);
+    write_fields(out, 0, 8, targets, 8, times, 8, n);
     write_fields(out, 24, 16, tolerance, 2, configured, 16, roll);
     write_fields(out, 58, 16, x, 16, y, 16, z);
     out[106] = 10;
+}
+
+// 1 for a configured roll, else 0.
+fn has_roll(configured: ConfiguredRoll) -> u64
+    ensures { λ r. ⌜ r ≡ hasRoll configured ⌝ }
+{
+    match configured {
+        ConfiguredRoll::None => 0,
+        ConfiguredRoll::Some(_) => 1,
+    }
+}
+
+// The bits of a configured roll, else 0.
+fn roll_bits(configured: ConfiguredRoll) -> u64
+    ensures { λ r. ⌜ r ≡ rollBits configured ⌝ }
+{
+    match configured {
+        ConfiguredRoll::None => 0,
+        ConfiguredRoll::Some(roll) => bits(roll),
+    }
+}
+
+// Writes the header of a plan's settings.
+pub(crate) fn write_header(out: &mut [u8], targets: u64, times: u64, n: u64, config: SolarRollConfig)
+    requires { ⌜ 107 ≤ length (now out) ⌝ }
+    ensures { λ r. ⌜ now (out .exit) ≡ over (settingsHeader targets times n (config .«tolerance_deg») (config .«roll_deg») (config .«panel_normal»)) (now (out .entry)) ⌝ }
+{
+    let configured = config.roll_deg;
+    let panel = config.panel_normal;
+    let tolerance = bits(config.tolerance_deg);
+    let has = has_roll(configured);
+    let roll = roll_bits(configured);
+    let x = bits(panel[0]);
+    let y = bits(panel[1]);
+    let z = bits(panel[2]);
+    write_numbers(out, targets, times, n, tolerance, has, roll, x, y, z);
 }

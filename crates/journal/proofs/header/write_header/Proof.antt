@@ -1,54 +1,89 @@
-use Rattle.journal.proofs.Write.{header-written}
+use Rattle.journal.specs.Header.{headerText, settingsHeader}
+use Rattle.buffers.specs.Lent.{over}
+use mathlib.Core.Path.{_∙_}
 use borrow.Author.Needs.{needs}
 use Rattle.journal.proofs.header.write_header.Statement.{statement}
 use Rattle.journal.proofs.header.write_header.Tie as tie
 use Rattle.journal.proofs.header.write_header.Reads as reads
 use Rattle.journal.proofs.header.write_header.Lts as lts
-use Rattle.journal.proofs.hex.write_fields.Reads as write-fields-reads
+use Rattle.float.proofs.bits.Reads as bits-reads
+use Rattle.journal.proofs.header.has_roll.Reads as has-roll-reads
+use Rattle.journal.proofs.header.roll_bits.Reads as roll-bits-reads
+use Rattle.journal.proofs.header.write_numbers.Reads as write-numbers-reads
 
--- src/header.rt:14:5
-write-fields-requires : tie.Need-write-fields-requires
-write-fields-requires c κs = search needs
+-- src/header.rt:50:9
+bits-requires : tie.Need-bits-requires
+bits-requires c κs = search needs
 
--- src/header.rt:15:5
-write-fields-requires-2 : tie.Need-write-fields-requires-2
-write-fields-requires-2 c κs = search needs
+-- src/header.rt:51:9
+has-roll-requires : tie.Need-has-roll-requires
+has-roll-requires c κs = search needs
 
--- src/header.rt:16:5
-write-fields-requires-3 : tie.Need-write-fields-requires-3
-write-fields-requires-3 c κs = search needs
+-- src/header.rt:52:9
+roll-bits-requires : tie.Need-roll-bits-requires
+roll-bits-requires c κs = search needs
 
--- src/header.rt:17:5
-slice-write-out : tie.Need-slice-write-out
-slice-write-out c = search needs
+-- src/header.rt:53:18
+array-read-bits : tie.Need-array-read-bits
+array-read-bits c = search needs
 
--- src/header.rt:10:1
+-- src/header.rt:53:9
+bits-requires-2 : tie.Need-bits-requires-2
+bits-requires-2 c κs = search needs
+
+-- src/header.rt:54:18
+array-read-bits-2 : tie.Need-array-read-bits-2
+array-read-bits-2 c = search needs
+
+-- src/header.rt:54:9
+bits-requires-3 : tie.Need-bits-requires-3
+bits-requires-3 c κs = search needs
+
+-- src/header.rt:55:18
+array-read-bits-3 : tie.Need-array-read-bits-3
+array-read-bits-3 c = search needs
+
+-- src/header.rt:55:9
+bits-requires-4 : tie.Need-bits-requires-4
+bits-requires-4 c κs = search needs
+
+-- src/header.rt:56:5
+write-numbers-requires : tie.Need-write-numbers-requires
+write-numbers-requires c κs = search needs
+
+-- src/header.rt:44:1
 same-length : tie.Need-same-length
-same-length c =
-    let s = c .before .before .before .before .before .before .before .before .before .before .before .before .before in
-    let a = s .args in
-    (header-written (a .out .now) _ _ _ (a .rows) (a .times) (a .n) (a .tolerance) (a .configured) (a .roll) (a .x) (a .y) (a .z) (s .pre)
-    (c .before .before .before .before .before .before .before .before .before .before .write-fields .ensures)
-    (c .before .before .before .before .before .before .write-fields2 .ensures)
-    (c .before .before .write-fields3 .ensures)) .1
+same-length c = search needs
 
--- src/header.rt:10:1
+-- src/header.rt:44:1
 returns : tie.Need-returns
+unfolding settingsHeader
 returns c =
-    let s = c .before .before .before .before .before .before .before .before .before .before .before .before .before in
-    let a = s .args in
-    (header-written (a .out .now) _ _ _ (a .rows) (a .times) (a .n) (a .tolerance) (a .configured) (a .roll) (a .x) (a .y) (a .z) (s .pre)
-    (c .before .before .before .before .before .before .before .before .before .before .write-fields .ensures)
-    (c .before .before .before .before .before .before .write-fields2 .ensures)
-    (c .before .before .write-fields3 .ensures)) .0
+    let a = c .before .before .before .before .before .before .before .before .before .before .before .before .args in
+    c .before .before .write-numbers .ensures
+    ∙ (λ i. over
+    (headerText (a .targets) (a .times) (a .n)
+    (c .before .before .before .before .before .before .before .before .before .bits .ensures i)
+    (c .before .before .before .before .before .before .before .before .has-roll .ensures i)
+    (c .before .before .before .before .before .before .before .roll-bits .ensures i)
+    (c .before .before .before .before .before .before .bits2 .ensures i)
+    (c .before .before .before .before .before .bits3 .ensures i)
+    (c .before .before .before .before .bits4 .ensures i))
+    (a .out .now))
 
 pub write-header-spec : {M : Type 1} → statement M
 write-header-spec =
     tie.close
     (tie.spec
-    write-fields-requires
-    write-fields-requires-2
-    write-fields-requires-3
-    slice-write-out
+    bits-requires
+    has-roll-requires
+    roll-bits-requires
+    array-read-bits
+    bits-requires-2
+    array-read-bits-2
+    bits-requires-3
+    array-read-bits-3
+    bits-requires-4
+    write-numbers-requires
     same-length
     returns)
