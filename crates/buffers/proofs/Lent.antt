@@ -174,6 +174,11 @@ module _ {A : Type 0} where
   unfolding over
   length-over t l h = simp (length-append, length-drop) (omega arith)
 
+  -- a text over all places
+  pub over-all : (t l : List A) → length l ≤ length t → over t l ≡ t
+  unfolding over
+  over-all t l h = ap (λ (m : List A). t ++ m) (drop-of-length-le l h) ∙ append-nil t
+
   pub over-next : (t l : List A) (k : ℕ) (v : A) → k ≡ length t → k < length l → set (over t l) k v ≡ over (t ++ (v ∷ [])) l
   unfolding over
   over-next t l k v e h =

@@ -4,3 +4,5 @@ pub mod Write
 pub mod Possible
 pub mod Scan
 pub mod Cells
+pub mod Chains
+pub mod Planned

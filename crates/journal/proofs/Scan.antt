@@ -157,6 +157,17 @@ pub is-right : (t : Bool) (p q : ℕ) (X : Type 0) → t ≡ true → q ≡ p �
 unfolding checkedOf
 is-right t p q X e f x = (ap₂ checkedOf (sym e) f, λ h. x)
 
+-- back from the answer
+pub told-wrong : (t : Bool) (p : ℕ) → checkedOf t p ≡ Wrong → t ≡ false
+unfolding checkedOf
+told-wrong true p e = let z : _≡_ {A = ℕ} 0 1 = cc in absurd (omega arith)
+told-wrong false p e = refl
+
+pub told-right : (t : Bool) (p q : ℕ) → checkedOf t p ≡ Right q → (t ≡ true) × (q ≡ p)
+unfolding checkedOf
+told-right true p q e = (refl, cc)
+told-right false p q e = let z : _≡_ {A = ℕ} 0 1 = cc in absurd (omega arith)
+
 -- the tables keep their length
 pub blank-length : (t blank : List ℕ) → length t ≡ 16384 → blank ≡ replicate 16384 0 → length t ≡ length blank
 blank-length t blank n e = n ∙ sym (ap length e ∙ length-replicate {A = ℕ} 16384 0)

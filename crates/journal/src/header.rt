@@ -10,7 +10,18 @@ use solar_roll::ConfiguredRoll;
 use solar_roll::SolarRollConfig;
 
 // Writes a header of the numbers that it holds: a float as its bits.
-fn write_numbers(out: &mut [u8], targets: u64, times: u64, n: u64, tolerance: u64, configured: u64, roll: u64, x: u64, y: u64, z: u64)
+fn write_numbers(
+    out: &mut [u8],
+    targets: u64,
+    times: u64,
+    n: u64,
+    tolerance: u64,
+    configured: u64,
+    roll: u64,
+    x: u64,
+    y: u64,
+    z: u64,
+)
     requires { ⌜ 107 ≤ length (now out) ⌝ }
     ensures { λ r. ⌜ now (out .exit) ≡ over (headerText targets times n tolerance configured roll x y z) (now (out .entry)) ⌝ }
 {
@@ -41,7 +52,13 @@ fn roll_bits(configured: ConfiguredRoll) -> u64
 }
 
 // Writes the header of a plan's settings.
-pub(crate) fn write_header(out: &mut [u8], targets: u64, times: u64, n: u64, config: SolarRollConfig)
+pub(crate) fn write_header(
+    out: &mut [u8],
+    targets: u64,
+    times: u64,
+    n: u64,
+    config: SolarRollConfig,
+)
     requires { ⌜ 107 ≤ length (now out) ⌝ }
     ensures { λ r. ⌜ now (out .exit) ≡ over (settingsHeader targets times n (config .«tolerance_deg») (config .«roll_deg») (config .«panel_normal»)) (now (out .entry)) ⌝ }
 {

@@ -1,6 +1,11 @@
 // The journal of a sweep: section 4's frames, when a journal is right, and begin, work, recover and collect.
+mod calls;
 mod header;
 mod hex;
 mod line;
 mod mask;
 mod pass;
+
+pub use calls::begin;
+pub use calls::collect;
+pub use calls::recover;

@@ -1,0 +1,119 @@
+-- The refusals of the calls, condition by condition, and what a call answers and leaves by them. Assumes nothing.
+use mathlib.Core.Path.{_≡_, refl, sym, ap, ap₂, _∙_}
+use mathlib.Core.Bool.{Bool, true, false, not, _&&_}
+use mathlib.Core.List.{List, [], _∷_}
+use Prim.Native.Nat.{ℕ, _+_, _*_, _≤_, _<_}
+use native.Mathlib.Omega.{arith}
+use lib.Dec.{ltb, leb, eqb}
+use lib.ListN.{length}
+use borrow.Author.Tests.{lt-ltb, le-ltb, le-leb, lt-leb, eq-eqb, ne-eqb}
+use Rattle.buffers.specs.Lent.{filled, put}
+use Rattle.buffers.specs.Refusal.{Conditions, first, carried, Reply, refused, accepted, reply, unlessRefused}
+use Rattle.buffers.proofs.Refusal.{first-none, first-here, first-skip, carried-here, carried-skip, reply-none, reply-some, written-none, written-some}
+use Rattle.roll_sweep.specs.Sweep.{Sweep, cells, chunks}
+use Rattle.journal.specs.Lines.{lineOf, hasChunk, hasChunks, heldProbes}
+use Rattle.journal.specs.Right.{wholeLines, torn, right}
+use Rattle.journal.specs.Calls.{planFirst, wrong, beginShort, workShort, collectShort, beginRefusal, beginReply, beginBytes, workRefusal, workReply, workBytes, kept, recoverRefusal, recoverReply, collectRefusal, collectReply, heldBit, collectMask}
+
+module _ (s : Sweep) (b : List ℕ) (u : ℕ) where
+  -- ---- begin
+
+  pub begin-plan : (k : ℕ) → k ≡ s .refusal (ltb (length b) u) → 0 < k → beginRefusal s b u ≡ k
+  unfolding beginRefusal
+  begin-plan k e h = simp (sym e, ne-eqb k 0 (λ z. omega arith))
+
+  module _ (p : s .refusal (ltb (length b) u) ≡ 0) where
+    pub begin-13 : (u ≡ 0 → ⊥) → beginRefusal s b u ≡ 13
+    unfolding beginRefusal
+    begin-13 h = simp (p, ne-eqb u 0 h)
+
+    pub begin-7 : u ≡ 0 → length b < 107 → beginRefusal s b u ≡ 7
+    unfolding beginRefusal beginShort
+    begin-7 z h = simp (p, eq-eqb u 0 z, lt-ltb (length b) 107 h)
+
+    pub begin-0 : u ≡ 0 → 107 ≤ length b → beginRefusal s b u ≡ 0
+    unfolding beginRefusal beginShort
+    begin-0 z h = simp (p, eq-eqb u 0 z, le-ltb (length b) 107 h)
+
+  pub begin-refused : (k : ℕ) → 0 < k → beginRefusal s b u ≡ k → (refused k ≡ beginReply s b u) × (b ≡ beginBytes s b u)
+  unfolding beginReply beginBytes
+  begin-refused k h e = (
+    sym (ap (λ (n : ℕ). reply n 107) e ∙ reply-some k 107 h),
+    sym (ap (λ (n : ℕ). unlessRefused n (put 0 (s .header) b) b) e ∙ written-some k (put 0 (s .header) b) b h),
+  )
+
+  pub begin-accepted : (o : List ℕ) → o ≡ put 0 (s .header) b → beginRefusal s b u ≡ 0 → (accepted 107 ≡ beginReply s b u) × (o ≡ beginBytes s b u)
+  unfolding beginReply beginBytes
+  begin-accepted o w e = (
+    sym (reply-none (beginRefusal s b u) 107 e),
+    w ∙ sym (written-none (beginRefusal s b u) (put 0 (s .header) b) b e),
+  )
+
+  -- ---- recover
+
+  pub recover-plan : (k : ℕ) → k ≡ s .refusal (ltb (length b) u) → 0 < k → recoverRefusal s b u ≡ k
+  unfolding recoverRefusal
+  recover-plan k e h = simp (sym e, ne-eqb k 0 (λ z. omega arith))
+
+  module _ (p : s .refusal (ltb (length b) u) ≡ 0) where
+    pub recover-11 : wrong s b u ≡ true → recoverRefusal s b u ≡ 11
+    unfolding recoverRefusal
+    recover-11 w = simp (p, w)
+
+    pub recover-0 : wrong s b u ≡ false → recoverRefusal s b u ≡ 0
+    unfolding recoverRefusal
+    recover-0 w = simp (p, w)
+
+  pub recover-refused : (k : ℕ) → 0 < k → recoverRefusal s b u ≡ k → refused k ≡ recoverReply s b u
+  unfolding recoverReply
+  recover-refused k h e = sym (ap (λ (n : ℕ). reply n (kept u)) e ∙ reply-some k (kept u) h)
+
+  pub recover-accepted : (k : ℕ) → k ≡ kept u → recoverRefusal s b u ≡ 0 → accepted k ≡ recoverReply s b u
+  unfolding recoverReply
+  recover-accepted k f e = ap (λ (n : ℕ). accepted n) f ∙ sym (reply-none (recoverRefusal s b u) (kept u) e)
+
+  -- ---- collect
+
+  module _ (o : List ℕ) where
+    pub collect-plan : (k : ℕ) → k ≡ s .refusal (ltb (length b) u) → 0 < k → collectRefusal s b u o ≡ k
+    unfolding collectRefusal
+    collect-plan k e h = simp (sym e, ne-eqb k 0 (λ z. omega arith))
+
+    module _ (p : s .refusal (ltb (length b) u) ≡ 0) where
+      pub collect-11 : wrong s b u ≡ true → collectRefusal s b u o ≡ 11
+      unfolding collectRefusal
+      collect-11 w = simp (p, w)
+
+      module _ (w : wrong s b u ≡ false) where
+        pub collect-12 : torn u ≡ true → collectRefusal s b u o ≡ 12
+        unfolding collectRefusal
+        collect-12 t = simp (p, w, t)
+
+        module _ (t : torn u ≡ false) where
+          pub collect-15 : hasChunks b (wholeLines u) (chunks (cells s)) ≡ false → collectRefusal s b u o ≡ 15
+          unfolding collectRefusal
+          collect-15 a = simp (p, w, t, a)
+
+          module _ (a : hasChunks b (wholeLines u) (chunks (cells s)) ≡ true) where
+            pub collect-7 : length o < cells s → collectRefusal s b u o ≡ 7
+            unfolding collectRefusal
+            collect-7 h = simp (p, w, t, a, lt-ltb (length o) (cells s) h)
+
+            pub collect-0 : cells s ≤ length o → collectRefusal s b u o ≡ 0
+            unfolding collectRefusal
+            collect-0 h = simp (p, w, t, a, le-ltb (length o) (cells s) h)
+
+    pub collect-refused : (k : ℕ) → 0 < k → collectRefusal s b u o ≡ k → (refused k ≡ collectReply s b u o) × (o ≡ collectMask s b u o)
+    unfolding collectReply collectMask
+    collect-refused k h e = (
+      sym (ap (λ (n : ℕ). reply n (heldProbes b (wholeLines u))) e ∙ reply-some k (heldProbes b (wholeLines u)) h),
+      sym (ap (λ (n : ℕ). unlessRefused n (filled (cells s) (heldBit b u) o) o) e ∙ written-some k (filled (cells s) (heldBit b u) o) o h),
+    )
+
+    pub collect-accepted : (q : ℕ) (m : List ℕ) → q ≡ heldProbes b (wholeLines u) → m ≡ filled (cells s) (heldBit b u) o → collectRefusal s b u o ≡ 0
+        → (accepted q ≡ collectReply s b u o) × (m ≡ collectMask s b u o)
+    unfolding collectReply collectMask
+    collect-accepted q m f g e = (
+      ap (λ (n : ℕ). accepted n) f ∙ sym (reply-none (collectRefusal s b u o) (heldProbes b (wholeLines u)) e),
+      g ∙ sym (written-none (collectRefusal s b u o) (filled (cells s) (heldBit b u) o) o e),
+    )

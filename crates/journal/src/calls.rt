@@ -1,0 +1,174 @@
+// Begin, work, recover and collect. Each tries document 01's refusals in their order, and writes nothing until all have passed.
+ghost use mathlib.Core.Path.{_≡_};
+ghost use mathlib.Core.Bool.{true};
+ghost use Prim.Native.Nat.{_*_, _≤_};
+ghost use lib.ListN.{length, replicate};
+ghost use Rattle.buffers.specs.Refusal.{replyOf};
+ghost use Rattle.journal.specs.Lines.{heldProbes};
+ghost use Rattle.journal.specs.Right.{wholeLines, right};
+ghost use Rattle.journal.specs.Header.{settingsHeader};
+ghost use Rattle.journal.specs.Calls.{beginReply, beginBytes, recoverReply, collectReply, collectMask};
+ghost use Rattle.journal.specs.Pass.{checkedOf, Tables};
+ghost use Rattle.journal.specs.Plan.{lentSweep};
+use crate::header::write_header;
+use crate::mask::all_seen;
+use crate::mask::write_cells;
+use crate::pass::Checked;
+use crate::pass::check_journal;
+use crate::pass::is_torn;
+use crate::pass::kept_length;
+use buffers::Answer;
+use solar_roll::SolarRollConfig;
+use solar_roll::plan_refusal;
+use solar_roll::sampling;
+
+// Whether the used bytes are right for a plan of these rows, times and settings. The tables come blank, and are filled if they are.
+fn check_for(
+    rows: u64,
+    times: u64,
+    n: u64,
+    config: SolarRollConfig,
+    journal: &[u8],
+    used: usize,
+    seen: &mut [u8],
+    masks: &mut [u64],
+) -> Checked
+    requires { ⌜ (rows * times ≤ 1048576) × (n ≤ 3600) × (used ≤ length (now journal)) × (now seen ≡ replicate 16384 0) × (now masks ≡ replicate 16384 0) ⌝ }
+    ensures { λ r. ⌜ (r ≡ checkedOf (right (rows * times) n (settingsHeader rows times n (config .«tolerance_deg») (config .«roll_deg») (config .«panel_normal»)) (now (journal .entry)) used) (heldProbes (now (journal .entry)) (wholeLines used)))
+        × (right (rows * times) n (settingsHeader rows times n (config .«tolerance_deg») (config .«roll_deg») (config .«panel_normal»)) (now (journal .entry)) used ≡ true → Tables (now (journal .entry)) (wholeLines used) (now (seen .exit)) (now (masks .exit))) ⌝ }
+{
+    let mut header = [0u8; 107];
+    write_header(&mut header, rows, times, n, config);
+    check_journal(&header, rows * times, n, journal, used, seen, masks)
+}
+
+// Makes the journal the header, and gives the used length.
+pub fn begin(
+    targets: &[f64],
+    suns: &[f64],
+    observers: &[f64],
+    config: SolarRollConfig,
+    n: u64,
+    journal: &mut [u8],
+    used: u64,
+) -> Answer
+    ensures { λ r. ⌜ (replyOf r ≡ beginReply (lentSweep (now (targets .entry)) (now (suns .entry)) (now (observers .entry)) config n) (now (journal .entry)) used)
+        × (now (journal .exit) ≡ beginBytes (lentSweep (now (targets .entry)) (now (suns .entry)) (now (observers .entry)) config n) (now (journal .entry)) used) ⌝ }
+{
+    let room = journal.len() as u64;
+    let refusal = plan_refusal(targets, suns, observers, config, sampling(n), room < used);
+    if refusal != 0 {
+        return Answer::Refused(refusal);
+    }
+    if used != 0 {
+        return Answer::Refused(13);
+    }
+    if room < 107 {
+        return Answer::Refused(7);
+    }
+    write_header(
+        journal,
+        (targets.len() / 3) as u64,
+        (suns.len() / 3) as u64,
+        n,
+        config,
+    );
+    Answer::Accepted(107)
+}
+
+// Gives the used length that is left after a power failure.
+pub fn recover(
+    targets: &[f64],
+    suns: &[f64],
+    observers: &[f64],
+    config: SolarRollConfig,
+    n: u64,
+    journal: &[u8],
+    used: u64,
+) -> Answer
+    ensures { λ r. ⌜ replyOf r ≡ recoverReply (lentSweep (now (targets .entry)) (now (suns .entry)) (now (observers .entry)) config n) (now (journal .entry)) used ⌝ }
+{
+    let refusal = plan_refusal(
+        targets,
+        suns,
+        observers,
+        config,
+        sampling(n),
+        (journal.len() as u64) < used,
+    );
+    if refusal != 0 {
+        return Answer::Refused(refusal);
+    }
+    let rows = (targets.len() / 3) as u64;
+    let times = (suns.len() / 3) as u64;
+    let mut seen = [0u8; 16384];
+    let mut masks = [0u64; 16384];
+    match check_for(
+        rows,
+        times,
+        n,
+        config,
+        journal,
+        used as usize,
+        &mut seen,
+        &mut masks,
+    ) {
+        Checked::Right(_) => Answer::Accepted(kept_length(used as usize) as u64),
+        Checked::Wrong => Answer::Refused(11),
+    }
+}
+
+// Writes the mask that the journal's lines hold, and gives the sum of their probes.
+pub fn collect(
+    targets: &[f64],
+    suns: &[f64],
+    observers: &[f64],
+    config: SolarRollConfig,
+    n: u64,
+    journal: &[u8],
+    used: u64,
+    mask: &mut [u8],
+) -> Answer
+    ensures { λ r. ⌜ (replyOf r ≡ collectReply (lentSweep (now (targets .entry)) (now (suns .entry)) (now (observers .entry)) config n) (now (journal .entry)) used (now (mask .entry)))
+        × (now (mask .exit) ≡ collectMask (lentSweep (now (targets .entry)) (now (suns .entry)) (now (observers .entry)) config n) (now (journal .entry)) used (now (mask .entry))) ⌝ }
+{
+    let refusal = plan_refusal(
+        targets,
+        suns,
+        observers,
+        config,
+        sampling(n),
+        (journal.len() as u64) < used,
+    );
+    if refusal != 0 {
+        return Answer::Refused(refusal);
+    }
+    let rows = (targets.len() / 3) as u64;
+    let times = (suns.len() / 3) as u64;
+    let cells = (rows * times) as usize;
+    let mut seen = [0u8; 16384];
+    let mut masks = [0u64; 16384];
+    let Checked::Right(probes) = check_for(
+        rows,
+        times,
+        n,
+        config,
+        journal,
+        used as usize,
+        &mut seen,
+        &mut masks,
+    ) else {
+        return Answer::Refused(11);
+    };
+    if is_torn(used as usize) {
+        return Answer::Refused(12);
+    }
+    if !all_seen(&seen, (cells + 63) / 64) {
+        return Answer::Refused(15);
+    }
+    if mask.len() < cells {
+        return Answer::Refused(7);
+    }
+    write_cells(mask, cells, &masks);
+    Answer::Accepted(probes)
+}
