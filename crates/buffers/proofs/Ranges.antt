@@ -2,7 +2,7 @@
 -- turn (`-zero`), after one turn more (`-next`), where it leaves early (`-stop`). Assumes nothing.
 use mathlib.Core.Path.{_≡_, refl, sym, ap, ap₂, _∙_, subst}
 use mathlib.Core.Logic.{_↔_}
-use mathlib.Core.Bool.{Bool, true, false, cond, _&&_, _||_, or-true}
+use mathlib.Core.Bool.{Bool, true, false, cond, _&&_, _||_, or-true, or-false}
 use mathlib.Core.List.{List, [], _∷_, _++_, append-assoc, append-nil}
 use Prim.Native.Nat.{ℕ, zero, suc, _+_, _-_, _*_, _≤_, _<_}
 use native.Mathlib.Nat.{not-suc-le-zero, add-zero, add-suc}
@@ -209,6 +209,18 @@ module _ {A : Type 0} (p : A → Bool) (l : List A) (d : A) (i : ℕ) where
   pub scan-end : length l ≤ i → any p (drop i l) ≡ any p l → false ≡ any p l
   unfolding any
   scan-end h w = ap (any p) (sym (drop-of-length-le l h)) ∙ w
+
+-- the same of a loop that looks at every element, and keeps in b whether it has found one
+module _ {A : Type 0} (p : A → Bool) (l : List A) (d : A) (i : ℕ) (b : Bool) where
+  pub gather-hit : i < length l → p (getD l i d) ≡ true → (b || any p (drop i l)) ≡ any p l → true ≡ any p l
+  gather-hit h e w = sym (or-true b) ∙ ap (λ (x : Bool). b || x) (sym (scan-here p l d i h ∙ ap (λ (x : Bool). x || any p (drop (i + 1) l)) e)) ∙ w
+
+  pub gather-miss : i < length l → p (getD l i d) ≡ false → (b || any p (drop i l)) ≡ any p l → (b || any p (drop (i + 1) l)) ≡ any p l
+  gather-miss h e w = ap (λ (x : Bool). b || x) (sym (scan-here p l d i h ∙ ap (λ (x : Bool). x || any p (drop (i + 1) l)) e)) ∙ w
+
+  pub gather-end : length l ≤ i → (b || any p (drop i l)) ≡ any p l → b ≡ any p l
+  unfolding any
+  gather-end h w = sym (or-false b) ∙ ap (λ (m : List A). b || any p m) (sym (drop-of-length-le l h)) ∙ w
 
 -- where no element has the property, none at any place has
 pub any-getD : {A : Type 0} (p : A → Bool) (l : List A) (d : A) (i : ℕ) → any p l ≡ false → i < length l → p (getD l i d) ≡ false

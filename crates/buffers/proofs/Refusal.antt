@@ -1,11 +1,13 @@
 -- Laws of refusals: a step along a chain of conditions, and back from an accepted call to what it knows. Assumes nothing.
 use mathlib.Core.Path.{_≡_, refl, sym, ap, _∙_}
-use mathlib.Core.Bool.{Bool, true, false, cond, not}
-use borrow.Author.Tests.{ne-eqb}
+use mathlib.Core.Bool.{Bool, true, false, cond, not, _&&_}
 use mathlib.Core.List.{List, [], _∷_}
 use Prim.Native.Nat.{ℕ, zero, suc, _<_}
 use native.Mathlib.Omega.{arith}
+use lib.Dec.{ltb}
+use borrow.Author.Tests.{ne-eqb, ltb-true}
 use Rattle.buffers.specs.Refusal.{Conditions, first, carried, Reply, refused, accepted, reply, unlessRefused}
+use Rattle.buffers.proofs.Tests.{and-left, and-right}
 
 -- no condition is left
 pub first-none : first [] ≡ 0
@@ -40,6 +42,22 @@ carried-skip k cs e = ap (λ (n : ℕ). first (carried n ∷ cs)) e
 pub carried-clear : (k : ℕ) (cs : Conditions) → first (carried k ∷ cs) ≡ 0 → (k ≡ 0) × (first cs ≡ 0)
 carried-clear zero cs e = (refl, sym (carried-skip 0 cs refl) ∙ e)
 carried-clear (suc k) cs e = absurd (omega (arith, carried-here (suc k) cs (omega arith)))
+
+-- of a whole list: a chain that refuses nothing has no condition that holds, where every number is one of document 01's and not 0
+abbrev pub Clear : Conditions → Type 0
+Clear [] = Unit {0}
+Clear (c ∷ cs) = (c .0 ≡ false) × Clear cs
+
+abbrev pub numbered : Conditions → Bool
+numbered [] = true
+numbered (c ∷ cs) = ltb 0 (c .1) && numbered cs
+
+pub first-clears : (cs : Conditions) → numbered cs ≡ true → first cs ≡ 0 → Clear cs
+first-clears [] n e = tt
+first-clears ((b, k) ∷ cs) n e =
+    let h : 0 < k = ltb-true 0 k (and-left (ltb 0 k) (numbered cs) n) in
+    let r = first-clear b k cs h e in
+    (r .0, first-clears cs (and-right (ltb 0 k) (numbered cs) n) (r .1))
 
 module _ {A : Type 0} where
   pub reply-none : (k : ℕ) (a : A) → k ≡ 0 → reply k a ≡ accepted a

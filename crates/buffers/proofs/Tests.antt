@@ -29,6 +29,9 @@ or-here a b e = rw e
 pub or-skip : (a b : Bool) → a ≡ false → a || b ≡ b
 or-skip a b e = rw e
 
+pub or-none : (a b : Bool) → a ≡ false → b ≡ false → a || b ≡ false
+or-none a b e f = rw (e, f)
+
 pub or-left : (a b : Bool) → a || b ≡ false → a ≡ false
 or-left true b e = e
 or-left false b e = refl

@@ -1,0 +1,7 @@
+-- Laws of section 5.
+pub mod MaximalRuns
+pub mod NextRun
+pub mod Severities
+pub mod Refusals
+pub mod WindowLists
+pub mod Spread

@@ -1,0 +1,127 @@
+-- Refusals of the window calls: what an accepted call knows, and what follows from an answer for what is written. Assumes nothing.
+use mathlib.Core.Path.{_≡_, refl, sym, _∙_, ap, subst}
+use mathlib.Core.Logic.{_⊎_, inl, inr}
+use mathlib.Core.Bool.{Bool, true, false, not, _||_, true≢false}
+use mathlib.Core.List.{List, [], _∷_}
+use Prim.Native.Nat.{ℕ, zero, suc, _≤_, _<_}
+use native.Mathlib.Omega.{arith}
+use lib.ListN.{length, getD}
+use lib.Dec.{ltb, eqb}
+use lib.IntN.{ℤ}
+use lib.Ieee.{Float}
+use borrow.Author.Tests.{ltb-false, lt-ltb, le-ltb, eqb-true, not-false}
+use Rattle.buffers.specs.Ranges.{any}
+use Rattle.buffers.specs.Refusal.{Conditions, first, Reply, refused, accepted, reply, replyOf}
+use Rattle.buffers.specs.declared.Answer.the-variants.{Accepted as Accepts, Refused}
+use Rattle.buffers.proofs.Tests.{or-left, or-right}
+use Rattle.buffers.proofs.Ranges.{any-getD}
+use Rattle.buffers.proofs.Refusal.{first-clears, reply-none, reply-some}
+use Rattle.windows.specs.Refusal.{beyond, noMark, noSeverity, differ, noRoom, windowsConditions, windowsRefusal}
+use Rattle.windows.specs.Expand.{expandConditions, expandRefusal}
+use Rattle.windows.specs.Seconds.{durationConditions, durationRefusal}
+use Rattle.windows.specs.Steps.{countOf}
+
+-- ---- lengths that do not differ
+
+pub same-at : (n : ℕ) (ns : List ℕ) (i : ℕ) → differ (n ∷ ns) ≡ false → i < length ns → getD ns i 0 ≡ n
+unfolding differ
+same-at n ns i e h = eqb-true (getD ns i 0) n (not-false (eqb (getD ns i 0) n) (any-getD (λ (m : ℕ). not (eqb m n)) ns 0 i e h))
+
+-- ---- what an accepted call knows
+
+pub record Accepted (uneven : Bool) (mask : List ℕ) (times : List ℤ) (severities : List Float) (short : Bool) : Type 0 where
+  pub even : uneven ≡ false
+  pub few : length mask ≤ 65_536
+  pub timely : any beyond times ≡ false
+  pub marks : any noMark mask ≡ false
+  pub rated : any noSeverity severities ≡ false
+  pub room : short ≡ false
+
+pub windows-accepted : (uneven : Bool) (mask : List ℕ) (times : List ℤ) (severities : List Float) (short : Bool)
+    → windowsRefusal uneven mask times severities short ≡ 0 → Accepted uneven mask times severities short
+unfolding windowsRefusal
+windows-accepted uneven mask times severities short e =
+    let c = first-clears (windowsConditions uneven mask times severities short) refl e in
+    record {
+      even = c .0;
+      few = ltb-false 65_536 (length mask) (c .1 .0);
+      timely = c .1 .1 .0;
+      marks = or-left (any noMark mask) (any noSeverity severities) (c .1 .1 .1 .0);
+      rated = or-right (any noMark mask) (any noSeverity severities) (c .1 .1 .1 .0);
+      room = c .1 .1 .1 .1 .0;
+    }
+
+pub record Expandable (firsts lasts times : List ℤ) (places : ℕ) : Type 0 where
+  pub even : length lasts ≡ length firsts
+  pub room : length times ≤ places
+
+pub expand-accepted : (firsts lasts times : List ℤ) (places : ℕ) → expandRefusal firsts lasts times places ≡ 0 → Expandable firsts lasts times places
+unfolding expandRefusal
+expand-accepted firsts lasts times places e =
+    let c = first-clears (expandConditions firsts lasts times places) refl e in
+    record { even = same-at (length firsts) (length lasts ∷ []) 0 (c .0) (omega arith); room = ltb-false places (length times) (c .1 .1 .1 .0) }
+
+pub record Summable (firsts lasts : List ℤ) : Type 0 where
+  pub even : length lasts ≡ length firsts
+  pub few : length firsts ≤ 65_536
+  pub first : any beyond firsts ≡ false
+  pub last : any beyond lasts ≡ false
+
+pub duration-accepted : (firsts lasts : List ℤ) → durationRefusal firsts lasts ≡ 0 → Summable firsts lasts
+unfolding durationRefusal
+duration-accepted firsts lasts e =
+    let c = first-clears (durationConditions firsts lasts) refl e in
+    record {
+      even = same-at (length firsts) (length lasts ∷ []) 0 (c .0) (omega arith);
+      few = ltb-false 65_536 (length firsts) (c .1 .0);
+      first = or-left (any beyond firsts) (any beyond lasts) (c .1 .1 .0);
+      last = or-right (any beyond firsts) (any beyond lasts) (c .1 .1 .0);
+    }
+
+-- ---- how many windows are written after an answer
+
+pub counted : (why n count : ℕ) (r : Reply ℕ) → r ≡ reply why n → count ≡ countOf r → ((why ≡ 0) × (count ≡ n)) ⊎ ((0 < why) × (count ≡ 0))
+unfolding reply countOf
+counted zero n count r e h = inl (refl, h ∙ ap countOf e)
+counted (suc k) n count r e h = inr (omega arith, h ∙ ap countOf e)
+
+-- ---- an answer, by the refusal's number
+
+pub refused-with : (k why n : ℕ) → why ≡ k → 0 < k → replyOf (Refused k) ≡ reply why n
+unfolding replyOf
+refused-with k why n e h = sym (reply-some k n h) ∙ ap (λ (j : ℕ). reply j n) (sym e)
+
+pub accepted-with : (m why n : ℕ) → why ≡ 0 → m ≡ n → replyOf (Accepts m) ≡ reply why n
+unfolding replyOf
+accepted-with m why n e h = ap accepted h ∙ sym (reply-none why n e)
+
+-- ---- *Windows*, test by test
+
+module _ (uneven : Bool) (mask : List ℕ) (times : List ℤ) (severities : List Float) (short : Bool) where
+  abbrev why : ℕ
+  why = windowsRefusal uneven mask times severities short
+
+  pub refuses-1 : uneven ≡ true → why ≡ 1
+  unfolding windowsRefusal first
+  refuses-1 e = rw e
+
+  pub refuses-2 : uneven ≡ false → 65_536 < length mask → why ≡ 2
+  unfolding windowsRefusal first
+  refuses-2 e h = rw (e, lt-ltb 65_536 (length mask) h)
+
+  module _ (e : uneven ≡ false) (h : length mask ≤ 65_536) where
+    pub refuses-8 : any beyond times ≡ true → why ≡ 8
+    unfolding windowsRefusal first
+    refuses-8 t = rw (e, le-ltb 65_536 (length mask) h, t)
+
+    pub refuses-14 : any beyond times ≡ false → (any noMark mask || any noSeverity severities) ≡ true → why ≡ 14
+    unfolding windowsRefusal first
+    refuses-14 t m = rw (e, le-ltb 65_536 (length mask) h, t, m)
+
+    pub refuses-7 : any beyond times ≡ false → (any noMark mask || any noSeverity severities) ≡ false → short ≡ true → why ≡ 7
+    unfolding windowsRefusal first
+    refuses-7 t m s = rw (e, le-ltb 65_536 (length mask) h, t, m, s)
+
+    pub accepts : any beyond times ≡ false → (any noMark mask || any noSeverity severities) ≡ false → short ≡ false → why ≡ 0
+    unfolding windowsRefusal first
+    accepts t m s = rw (e, le-ltb 65_536 (length mask) h, t, m, s)

@@ -1,0 +1,106 @@
+-- `windows::listings::store_windows` meets its contract. The invariant: k windows are stored, and the rest is left from sample `from` on. Assumes nothing.
+use Prim.Native.Nat.{_-_, _≤_}
+use mathlib.Core.Path.{_≡_, _∙_, ap, sym}
+use native.Mathlib.Omega.{arith}
+use Prim.Native.Nat.{ℕ}
+use mathlib.Core.List.{List}
+use lib.ListN.{length, take}
+use Rattle.windows.specs.Windows.{Columns, columns, written}
+use Rattle.windows.specs.Steps.{windowsLeft}
+use Rattle.windows.proofs.WindowLists.{SameLengths, Storing, storing-none, storing-room, storing-lengths, storing-next, some-left}
+use Rattle.windows.proofs.listings.store_windows.Statement.{statement}
+use Rattle.windows.proofs.listings.store_windows.Tie as tie
+
+abbrev Inv-loop : tie.InvT-loop
+Inv-loop listing mask times severities count first₀ last₀ first-time₀ last-time₀ severity₀ is-last₀ k₀ from₀ first last first-time last-time severity is-last k from = 
+    (k ≤ count) × Storing listing mask times severities k from (columns first₀ last₀ first-time₀ last-time₀ severity₀ is-last₀) (columns first last first-time last-time severity is-last)
+
+abbrev μ-loop : tie.MeasureT-loop
+μ-loop listing mask times severities count first₀ last₀ first-time₀ last-time₀ severity₀ is-last₀ k₀ from₀ first last first-time last-time severity is-last k from = count - k
+
+loop-holds : tie.Need-loop-holds Inv-loop μ-loop
+loop-holds c = (omega arith, storing-none _ _ _ _ _)
+
+next-window-requires : tie.Need-next-window-requires Inv-loop μ-loop
+next-window-requires c κs = 
+    let i = c .before .loop .inv in
+    let s = c .before .before .before .before .before .before .before .before in
+    (i .1 .reached .in-row, s .pre .1 (omega arith), some-left _ _ _ _ _ _ (i .1 .reached) (omega (arith, s .pre .0, c .loop-test .taken)))
+
+add-from : tie.Need-add-from Inv-loop μ-loop
+add-from c = omega (arith, c .next-window .ensures .1)
+
+store-requires : tie.Need-store-requires Inv-loop μ-loop
+store-requires c κs = 
+    let n = c .before .before .before .before .before .before in
+    let l = n .before .before in
+    let s = n .before .before .before .before .before .before .before .before .before in
+    (storing-room _ _ _ _ (s .args .count) _ _ _ _ (s .pre .0) (s .pre .2) (l .loop .inv .1) (n .before .loop-test .taken), n .next-window .ensures .2)
+
+add-k : tie.Need-add-k Inv-loop μ-loop
+add-k c = omega (arith, c .before .before .before .before .before .before .before .before .before .before .before .before .before .before .before .before .before .before .before .before .before .before .before .before .before .before .fits .count, c .before .before .before .before .before .before .before .before .before .before .before .before .before .before .before .before .before .before .loop-test .taken)
+
+loop-less : tie.Need-loop-less Inv-loop μ-loop
+loop-less c = omega arith
+
+loop-again : tie.Need-loop-again Inv-loop μ-loop
+loop-again c = 
+    let p = c .before .before .before .before .before .before .before .before .before .before in
+    let n = p .before .before .before .before .before .before .before in
+    let l = n .before .before in
+    let s = n .before .before .before .before .before .before .before .before .before in
+    (omega (arith, n .before .loop-test .taken), storing-next _ _ _ _ (s .args .count) _ _ _ _ (s .pre .0) (s .pre .2) (l .loop .inv .1) (n .before .loop-test .taken) _ _ (n .next-window .ensures .0) (n .next-window .ensures .1) (p .store .ensures))
+
+-- at the loop's end
+at-end : (c : tie.After-loop Inv-loop μ-loop) → SameLengths
+    (columns (c .before .before .before .before .before .before .before .before .args .first .now) (c .before .before .before .before .before .before .before .before .args .last .now) (c .before .before .before .before .before .before .before .before .args .first-time .now) (c .before .before .before .before .before .before .before .before .args .last-time .now) (c .before .before .before .before .before .before .before .before .args .severity .now) (c .before .before .before .before .before .before .before .before .args .is-last .now))
+    (columns (c .before .loop .first) (c .before .loop .last) (c .before .loop .first-time) (c .before .loop .last-time) (c .before .loop .severity) (c .before .loop .is-last))
+at-end c =
+    let s = c .before .before .before .before .before .before .before .before in
+    storing-lengths _ _ _ _ (s .args .count) _ _ _ _ (s .pre .0) (s .pre .2) (c .before .loop .inv .1) (c .before .loop .inv .0)
+
+same-length : tie.Need-same-length Inv-loop μ-loop
+same-length c = at-end c .first
+
+same-length-2 : tie.Need-same-length-2 Inv-loop μ-loop
+same-length-2 c = at-end c .last
+
+same-length-3 : tie.Need-same-length-3 Inv-loop μ-loop
+same-length-3 c = at-end c .firstTime
+
+same-length-4 : tie.Need-same-length-4 Inv-loop μ-loop
+same-length-4 c = at-end c .lastTime
+
+same-length-5 : tie.Need-same-length-5 Inv-loop μ-loop
+same-length-5 c = at-end c .severity
+
+same-length-6 : tie.Need-same-length-6 Inv-loop μ-loop
+same-length-6 c = at-end c .isLast
+
+returns : tie.Need-returns Inv-loop μ-loop
+returns c =
+    let s = c .before .before .before .before .before .before .before .before in
+    let i = c .before .loop .inv in
+    let e : c .before .loop .k ≡ s .args .count = omega (arith, i .0, c .loop-test .left) in
+    i .1 .are ∙ ap (λ (k : ℕ). written (take k (windowsLeft (s .args .listing) (s .args .mask .now) (s .args .times .now) (s .args .severities .now) 0)) (columns (s .args .first .now) (s .args .last .now) (s .args .first-time .now) (s .args .last-time .now) (s .args .severity .now) (s .args .is-last .now))) e
+
+pub store-windows-spec : {M : Type 1} → statement M
+store-windows-spec =
+    tie.close
+    (tie.spec
+    Inv-loop
+    μ-loop
+    loop-holds
+    next-window-requires
+    add-from
+    store-requires
+    add-k
+    loop-less
+    loop-again
+    same-length
+    same-length-2
+    same-length-3
+    same-length-4
+    same-length-5
+    same-length-6
+    returns)

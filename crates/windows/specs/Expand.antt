@@ -1,0 +1,83 @@
+-- Section 5's expansion of windows to a mask, `_get_constraint_vec`, both branches: they differ on windows that end before they start. Definitions
+-- only. Assumes nothing.
+use mathlib.Core.Bool.{Bool, true, false, not, _&&_, _||_, cond}
+use mathlib.Core.List.{List, [], _∷_, map}
+use Prim.Native.Nat.{ℕ}
+use lib.ListN.{length}
+use lib.Dec.{ltb}
+use lib.IntN.{ℤ}
+use lib.Signed.{ltZ}
+use Rattle.buffers.specs.Ranges.{flag, any}
+use Rattle.buffers.specs.Refusal.{Conditions, first}
+use Rattle.windows.specs.Runs.{Run, visibilityRuns}
+use Rattle.windows.specs.Refusal.{beyond, differ}
+
+-- a window's first and last time
+pub record Span : Type 0 where
+  pub first : ℤ
+  pub last : ℤ
+
+abbrev pub span : ℤ → ℤ → Span
+span f l = record { first = f; last = l }
+
+-- the windows of two columns of times
+unfoldable pub spans : List ℤ → List ℤ → List Span
+spans [] ls = []
+spans (f ∷ fs) [] = []
+spans (f ∷ fs) (l ∷ ls) = span f l ∷ spans fs ls
+
+-- no time is before the one that stands before it; repeated times are in order
+unfoldable pub inOrder : List ℤ → Bool
+inOrder [] = true
+inOrder (t ∷ []) = true
+inOrder (t ∷ u ∷ ts) = not (ltZ u t) && inOrder (u ∷ ts)
+
+-- ---- times in order: windows that ended before a time are passed once, for it and for all later times
+
+unfoldable pub skip : ℤ → List Span → List Span
+skip t [] = []
+skip t (w ∷ ws) = cond (ltZ (w .last) t) (skip t ws) (w ∷ ws)
+
+-- t lies in the first of the windows
+unfoldable pub inFirst : ℤ → List Span → Bool
+inFirst t [] = false
+inFirst t (w ∷ ws) = not (ltZ t (w .first)) && not (ltZ (w .last) t)
+
+unfoldable pub sweep : List ℤ → List Span → List ℕ
+unfolding skip inFirst
+sweep [] ws = []
+sweep (t ∷ ts) ws = flag (inFirst t (skip t ws)) ∷ sweep ts (skip t ws)
+
+-- ---- times in any order: for each the windows are looked through, up to the first that starts after it
+
+unfoldable pub inSome : ℤ → List Span → Bool
+inSome t [] = false
+inSome t (w ∷ ws) = cond (ltZ t (w .first)) false (cond (ltZ (w .last) t) (inSome t ws) true)
+
+unfoldable pub look : List ℤ → List Span → List ℕ
+unfolding inSome
+look ts ws = map (λ (t : ℤ). flag (inSome t ws)) ts
+
+-- ---- the mask of the times, a byte a time
+
+unfoldable pub expanded : List ℤ → List Span → List ℕ
+unfolding inOrder sweep look
+expanded ts ws = cond (inOrder ts) (sweep ts ws) (look ts ws)
+
+-- `ConstraintResult`'s visibility windows: those of the expanded mask
+unfoldable pub constraintResultVisibility : List ℤ → List Span → List Run
+unfolding expanded visibilityRuns
+constraintResultVisibility ts ws = visibilityRuns (expanded ts ws)
+
+-- *Expand*: windows of two columns of times, the times, and the places of the mask
+abbrev pub expandConditions : List ℤ → List ℤ → List ℤ → ℕ → Conditions
+expandConditions firsts lasts times places =
+    (differ (length firsts ∷ length lasts ∷ []), 1)
+    ∷ (ltb 65_536 (length firsts) || ltb 65_536 (length times), 2)
+    ∷ (any beyond firsts || (any beyond lasts || any beyond times), 8)
+    ∷ (ltb places (length times), 7)
+    ∷ []
+
+unfoldable pub expandRefusal : List ℤ → List ℤ → List ℤ → ℕ → ℕ
+unfolding first
+expandRefusal firsts lasts times places = first (expandConditions firsts lasts times places)
