@@ -189,6 +189,13 @@ module _ {A : Type 0} where
       ∙ sym (append-assoc t (v ∷ []) (drop (suc (length t)) l))
       ∙ ap (λ (j : ℕ). (t ++ (v ∷ [])) ++ drop j l) (sym n)
 
+  -- the same of a list s that has t over its first places, as a loop keeps it
+  pub length-kept : (s t l : List A) → s ≡ over t l → length t ≤ length l → length s ≡ length l
+  length-kept s t l e h = ap length e ∙ length-over t l h
+
+  pub over-more : (s t l : List A) (k : ℕ) (v : A) → s ≡ over t l → length t ≡ k → k < length l → set s k v ≡ over (t ++ (v ∷ [])) l
+  over-more s t l k v e p h = ap (λ (m : List A). set m k v) e ∙ over-next t l k v (sym p) h
+
   -- a text over the first places, and a text directly after it
   pub over-put : (j : ℕ) (s t l : List A) → j ≡ length s → j + length t ≤ length l → put j t (over s l) ≡ over (s ++ t) l
   over-put j s t l e h =

@@ -6,8 +6,9 @@ use Prim.Native.Nat.{ℕ, zero, suc, _<_}
 use native.Mathlib.Omega.{arith}
 use lib.Dec.{ltb}
 use borrow.Author.Tests.{ne-eqb, ltb-true}
-use Rattle.buffers.specs.Refusal.{Conditions, first, carried, Reply, refused, accepted, reply, unlessRefused}
+use Rattle.buffers.specs.Refusal.{Conditions, first, carried, Reply, refused, accepted, reply, unlessRefused, replyOf}
 use Rattle.buffers.proofs.Tests.{and-left, and-right}
+use Rattle.buffers.specs.declared.Answer.the-variants.{Accepted, Refused}
 
 -- no condition is left
 pub first-none : first [] ≡ 0
@@ -77,3 +78,21 @@ module _ {A : Type 0} where
   unfolding unlessRefused
   written-some zero w b h = absurd (omega arith)
   written-some (suc k) w b h = refl
+
+-- ---- the answer that a call makes, by the refusal's number
+
+pub refused-with : (k why n : ℕ) → why ≡ k → 0 < k → replyOf (Refused k) ≡ reply why n
+unfolding replyOf
+refused-with k why n e h = sym (reply-some k n h) ∙ ap (λ (j : ℕ). reply j n) (sym e)
+
+pub accepted-with : (m why n : ℕ) → why ≡ 0 → m ≡ n → replyOf (Accepted m) ≡ reply why n
+unfolding replyOf
+accepted-with m why n e h = ap accepted h ∙ sym (reply-none why n e)
+
+-- with what it leaves in a lent list: k is the number that was found, 0 for none
+pub refused-leaves : {A : Type 0} (k why n : ℕ) (written before : A) → k ≡ why → (k ≡ 0 → ⊥) → (replyOf (Refused k) ≡ reply why n) × (before ≡ unlessRefused why written before)
+refused-leaves zero why n w b e h = absurd (h refl)
+refused-leaves (suc k) why n w b e h = (refused-with (suc k) why n (sym e) (omega arith), sym (written-some why w b (omega arith)))
+
+pub accepted-leaves : {A : Type 0} (k why n : ℕ) (written before now : A) → k ≡ why → k ≡ 0 → now ≡ written → (replyOf (Accepted n) ≡ reply why n) × (now ≡ unlessRefused why written before)
+accepted-leaves k why n w b now e z q = (accepted-with n why n (sym e ∙ z) refl, q ∙ sym (written-none why w b (sym e ∙ z)))

@@ -5,3 +5,4 @@ pub mod Severities
 pub mod Refusals
 pub mod WindowLists
 pub mod Spread
+pub mod Durations

@@ -11,11 +11,10 @@ use lib.IntN.{ℤ}
 use lib.Ieee.{Float}
 use borrow.Author.Tests.{ltb-false, lt-ltb, le-ltb, eqb-true, not-false}
 use Rattle.buffers.specs.Ranges.{any}
-use Rattle.buffers.specs.Refusal.{Conditions, first, Reply, refused, accepted, reply, replyOf}
-use Rattle.buffers.specs.declared.Answer.the-variants.{Accepted as Accepts, Refused}
+use Rattle.buffers.specs.Refusal.{Conditions, first, Reply, refused, accepted, reply}
 use Rattle.buffers.proofs.Tests.{or-left, or-right}
 use Rattle.buffers.proofs.Ranges.{any-getD}
-use Rattle.buffers.proofs.Refusal.{first-clears, reply-none, reply-some}
+use Rattle.buffers.proofs.Refusal.{first-clears}
 use Rattle.windows.specs.Refusal.{beyond, noMark, noSeverity, differ, noRoom, windowsConditions, windowsRefusal}
 use Rattle.windows.specs.Expand.{expandConditions, expandRefusal}
 use Rattle.windows.specs.Seconds.{durationConditions, durationRefusal}
@@ -84,16 +83,6 @@ pub counted : (why n count : ℕ) (r : Reply ℕ) → r ≡ reply why n → coun
 unfolding reply countOf
 counted zero n count r e h = inl (refl, h ∙ ap countOf e)
 counted (suc k) n count r e h = inr (omega arith, h ∙ ap countOf e)
-
--- ---- an answer, by the refusal's number
-
-pub refused-with : (k why n : ℕ) → why ≡ k → 0 < k → replyOf (Refused k) ≡ reply why n
-unfolding replyOf
-refused-with k why n e h = sym (reply-some k n h) ∙ ap (λ (j : ℕ). reply j n) (sym e)
-
-pub accepted-with : (m why n : ℕ) → why ≡ 0 → m ≡ n → replyOf (Accepts m) ≡ reply why n
-unfolding replyOf
-accepted-with m why n e h = ap accepted h ∙ sym (reply-none why n e)
 
 -- ---- *Windows*, test by test
 

@@ -9,7 +9,8 @@ use borrow.Author.Tests.{lt-ltb, le-ltb}
 use Rattle.buffers.proofs.Tests.{or-here, or-skip, or-none}
 use Rattle.windows.specs.Refusal.{windowsRefusal}
 use Rattle.windows.specs.Steps.{runsLeft}
-use Rattle.windows.proofs.Refusals.{refused-with, accepted-with, refuses-1, refuses-2, refuses-8, refuses-14, refuses-7, accepts}
+use Rattle.buffers.proofs.Refusal.{refused-with, accepted-with}
+use Rattle.windows.proofs.Refusals.{refuses-1, refuses-2, refuses-8, refuses-14, refuses-7, accepts}
 use borrow.Author.Needs.{needs}
 use Rattle.windows.proofs.listings.answer_of.Statement.{statement}
 use Rattle.windows.proofs.listings.answer_of.Tie as tie
