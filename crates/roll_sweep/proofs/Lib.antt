@@ -3,3 +3,5 @@ pub mod Words
 pub mod Tried
 pub mod Chunks
 pub mod Rows
+pub mod Swept
+pub mod Cells

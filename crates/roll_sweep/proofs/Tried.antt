@@ -1,11 +1,12 @@
 -- Laws of the samples tried: of one cell, through its first clear sample, and the bounds over several cells that a right line has. Assumes nothing.
-use mathlib.Core.Path.{_≡_, refl, ap, ap₂, _∙_}
+use mathlib.Core.Path.{_≡_, refl, sym, ap, ap₂, _∙_}
 use mathlib.Core.Bool.{Bool, true, false, _&&_}
-use Prim.Native.Nat.{ℕ, zero, suc, _+_, _*_, _≤_}
+use Prim.Native.Nat.{ℕ, zero, suc, _+_, _-_, _*_, _≤_, _<_}
 use native.Mathlib.Nat.{add-suc, add-zero, not-suc-le-zero}
 use native.Mathlib.Numerals.{add-one}
 use native.Mathlib.Omega.{arith}
 use Rattle.buffers.specs.Ranges.{flag, sum, allBelow}
+use Rattle.buffers.proofs.Ranges.{sum-ext, all-ext}
 use Rattle.buffers.proofs.Tests.{and-left, flag-le}
 use Rattle.roll_sweep.specs.Sweep.{tried}
 
@@ -41,6 +42,15 @@ tried-first k (suc m) v h e = ap (λ (n : ℕ). tried n v) (add-suc (suc k) m) �
     stop : (j : ℕ) → allBelow (suc k + j) v ≡ false
     stop zero = ap (λ (n : ℕ). allBelow n v) (add-zero (suc k)) ∙ ap₂ (λ (a b : Bool). a && b) h e
     stop (suc j) = ap (λ (n : ℕ). allBelow n v) (add-suc (suc k) j) ∙ ap (λ (a : Bool). a && v (suc k + j)) (stop j)
+
+pub tried-at : (n k : ℕ) (v : ℕ → Bool) → k < n → allBelow k v ≡ true → v k ≡ false → tried n v ≡ k + 1
+tried-at n k v l h e =
+    let q : n ≡ suc k + (n - suc k) = omega arith in
+    ap (λ (m : ℕ). tried m v) q ∙ tried-first k (n - suc k) v h e ∙ sym (add-one k)
+
+pub tried-ext : (n : ℕ) (v w : ℕ → Bool) → ((k : ℕ) → k < n → v k ≡ w k) → tried n v ≡ tried n w
+unfolding tried
+tried-ext n v w h = sum-ext n (λ k. flag (allBelow k v)) (λ k. flag (allBelow k w)) (λ k l. ap flag (all-ext k v w (λ j g. h j (omega arith))))
 
 tried-some : (n : ℕ) (v : ℕ → Bool) → 1 ≤ tried (suc n) v
 unfolding tried

@@ -1,8 +1,8 @@
 -- Laws of a number whose bit k says p k: its size, one bit, and how many bits are set. Assumes nothing.
 use mathlib.Core.Path.{_≡_, refl, sym, ap, ap₂, _∙_, subst}
 use mathlib.Core.Bool.{Bool, true, false}
-use Prim.Native.Nat.{ℕ, zero, suc, _+_, _-_, _*_, _/_, _%_, _^_, _<_}
-use native.Mathlib.Nat.{add-comm, mul-comm, mul-assoc, pow-suc, add-mul-mod-self-left, not-suc-le-zero}
+use Prim.Native.Nat.{ℕ, zero, suc, _+_, _-_, _*_, _/_, _%_, _^_, _≤_, _<_}
+use native.Mathlib.Nat.{add-comm, add-assoc, add-zero, add-suc, mul-comm, mul-assoc, add-mul, pow-suc, add-mul-mod-self-left, not-suc-le-zero}
 use native.Mathlib.Numerals.{add-one}
 use native.Mathlib.Omega.{arith}
 use lib.Pow.{pow-add, high, field}
@@ -11,6 +11,7 @@ use lib.Arith.{lt-of-le-ne}
 use lib.Dec.{eqb}
 use borrow.Author.Tests.{eqb-true, eqb-false}
 use Rattle.buffers.specs.Ranges.{flag, sum}
+use Rattle.buffers.proofs.Ranges.{sum-ext}
 use Rattle.roll_sweep.specs.Sweep.{word}
 
 -- no bit, and one bit more
@@ -21,6 +22,20 @@ word-zero p = refl
 pub word-next : (w : ℕ) (p : ℕ → Bool) → word (w + 1) p ≡ word w p + flag (p w) * 2 ^ w
 unfolding word
 word-next w p = ap (λ (n : ℕ). sum n (λ k. flag (p k) * 2 ^ k)) (add-one w)
+
+-- k bits, then m more
+pub word-add : (k m : ℕ) (p : ℕ → Bool) → word (k + m) p ≡ word k p + word m (λ j. p (k + j)) * 2 ^ k
+unfolding word
+word-add k zero p = ap (λ (n : ℕ). word n p) (add-zero k) ∙ omega arith
+word-add k (suc m) p =
+    let w : ℕ = word m (λ j. p (k + j)) in
+    ap (λ (n : ℕ). word n p) (add-suc k m)
+    ∙ ap₂ (λ (a b : ℕ). a + flag (p (k + m)) * b) (word-add k m p) (pow-add 2 k m)
+    ∙ omega arith
+
+pub word-ext : (w : ℕ) (p q : ℕ → Bool) → ((k : ℕ) → k < w → p k ≡ q k) → word w p ≡ word w q
+unfolding word
+word-ext w p q h = sum-ext w (λ k. flag (p k) * 2 ^ k) (λ k. flag (q k) * 2 ^ k) (λ k l. ap (λ (b : Bool). flag b * 2 ^ k) (h k l))
 
 one-bit : (b : Bool) (r n : ℕ) → r < n → r + flag b * n < n * 2
 one-bit true r n h = omega arith

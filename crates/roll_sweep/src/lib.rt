@@ -1,1 +1,8 @@
-// The sweep over rolls.
+// The sweep over rolls: the even samples, and the cells of a chunk that every sample violates.
+mod chunk;
+mod rolls;
+
+pub use chunk::ChunkAnswer;
+pub use chunk::Swept;
+pub use chunk::sweep_chunk;
+pub use rolls::even_rolls;

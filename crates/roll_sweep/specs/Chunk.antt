@@ -1,0 +1,49 @@
+-- Section 3: the sweep of a plan over a list of rolls, and what the sweep of one of its chunks answers. Definitions only. Assumes nothing.
+use mathlib.Core.Bool.{Bool}
+use mathlib.Core.List.{List, [], _∷_}
+use Prim.Native.Nat.{ℕ, _*_, _/_, _%_}
+use lib.Dec.{leb}
+use lib.ListN.{length, getD}
+use lib.Ieee.{Float, nan}
+use Rattle.buffers.specs.Ranges.{sum, allBelow}
+use Rattle.buffers.specs.Refusal.{first, carried, Reply, refused, accepted}
+use Rattle.solar_roll.specs.Plan.{Plan, rowsOf, timesOf, violatesAt, tooMany, samplingOf}
+use Rattle.roll_sweep.specs.Sweep.{Sweep, tried, chunks, word, chunkMask, chunkProbes}
+use Rattle.roll_sweep.specs.declared.chunk.Swept.{Swept}
+use Rattle.roll_sweep.specs.declared.chunk.ChunkAnswer.{ChunkAnswer}
+use Rattle.roll_sweep.specs.declared.chunk.ChunkAnswer.the-variants.{Accepted, Refused}
+
+-- cell number = row · times + time; a sample is taken as a Sweep roll, so a configured roll stands for every sample
+unfoldable pub cellViolated : Plan → List Float → ℕ → ℕ → Bool
+unfolding violatesAt
+cellViolated p rolls i k = violatesAt p (i / timesOf p) (i % timesOf p) (getD rolls k nan)
+
+-- the sweep of a plan over the rolls, with the plan's refusal and its header
+abbrev pub sweepOf : Plan → List Float → (Bool → ℕ) → List ℕ → Sweep
+sweepOf p rolls refusal header =
+    record { refusal = refusal; rows = rowsOf p; times = timesOf p; samples = length rolls; violates = cellViolated p rolls; header = header }
+
+-- ---- the answer of a chunk
+
+-- of w cells with n samples each, where v says which sample violates which cell: bit k of the mask is cell k
+unfoldable pub sweptBy : ℕ → ℕ → (ℕ → ℕ → Bool) → Swept
+unfolding word sum allBelow tried
+sweptBy w n v = record { mask = word w (λ k. allBelow n (v k)); probes = sum w (λ k. tried n (v k)) }
+
+-- of chunk c
+abbrev pub sweptOf : Sweep → ℕ → Swept
+sweptOf s c = record { mask = chunkMask s c; probes = chunkProbes s c }
+
+-- of *Plan*, what bounds the work: 2 and 3; 9 no such chunk
+unfoldable pub chunkRefusal : Plan → ℕ → ℕ → ℕ
+unfolding first carried tooMany samplingOf chunks
+chunkRefusal p samples c =
+    first ((tooMany (rowsOf p) (timesOf p), 2)
+    ∷ carried (samplingOf samples)
+    ∷ (leb (chunks (rowsOf p * timesOf p)) c, 9)
+    ∷ [])
+
+-- the number and the value of each case of the answer
+unfoldable pub chunkReply : ChunkAnswer → Reply Swept
+chunkReply (Accepted swept) = accepted swept
+chunkReply (Refused k) = refused k

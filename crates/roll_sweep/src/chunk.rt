@@ -1,0 +1,209 @@
+// The sweep of one chunk of cells.
+use solar_roll::ConfiguredRoll;
+use solar_roll::EvaluationRoll;
+use solar_roll::Panel;
+use solar_roll::SolarRollConfig;
+use solar_roll::body_axes;
+use solar_roll::direction;
+use solar_roll::in_force;
+use solar_roll::panel_of;
+use solar_roll::roll_in;
+use solar_roll::row_config;
+use solar_roll::sampling;
+use solar_roll::sun_unit;
+use solar_roll::triple;
+use solar_roll::violated;
+ghost use mathlib.Core.Path.{_≡_};
+ghost use mathlib.Core.Bool.{Bool};
+ghost use mathlib.Core.List.{List, []};
+ghost use Prim.Native.Nat.{ℕ, _+_, _-_, _*_, _/_, _%_, _≤_, _<_, min};
+ghost use lib.Count.{ones};
+ghost use lib.ListN.{length, getD, take};
+ghost use lib.Ieee.{nan};
+ghost use Rattle.buffers.specs.Ranges.{tab};
+ghost use Rattle.buffers.specs.Refusal.{reply};
+ghost use Rattle.solar_roll.specs.Roll.{sunUnit};
+ghost use Rattle.solar_roll.specs.Cell.{rollIn, violates, inForce};
+ghost use Rattle.solar_roll.specs.Plan.{planOf, rowsOf, timesOf, triple, count};
+ghost use Rattle.roll_sweep.specs.Chunk.{cellViolated, sweepOf, sweptBy, sweptOf, chunkRefusal, chunkReply};
+
+// What the sweep of cells gives: bit k of the mask is cell k, set where every sample violates it;
+// probes is how many samples were tried.
+pub struct Swept {
+    pub mask: u64,
+    pub probes: u64,
+}
+
+pub enum ChunkAnswer {
+    Accepted(Swept),
+    Refused(u64),
+}
+
+fn smaller(a: usize, b: usize) -> usize
+    ensures { λ r. ⌜ r ≡ min a b ⌝ }
+{
+    if a < b { a } else { b }
+}
+
+// The Sun's units at `cells` cells from number `first` on. Of a time that comes again, in another
+// row, the unit is not worked out again.
+fn chunk_units(suns: &[f64], observers: &[f64], first: usize, cells: usize) -> [[f64; 3]; 64]
+    requires { ⌜ (cells ≤ 64) × (0 < count (now suns)) × (first ≤ 1048576) ⌝ }
+    ensures { λ r. ⌜ take cells r ≡ tab cells (λ k. sunUnit (triple (now (suns .entry)) ((first + k) % count (now (suns .entry)))) (triple (now (observers .entry)) ((first + k) % count (now (suns .entry))))) ⌝ }
+{
+    let times = suns.len() / 3;
+    let mut units = [[0.0; 3]; 64];
+    let mut k = 0;
+    while k < cells {
+        let at = k;
+        k += 1;
+        if at < times {
+            let time = (first + at) % times;
+            let unit = sun_unit(triple(suns, time), triple(observers, time));
+            units[at] = unit;
+        } else {
+            let unit = units[at - times];
+            units[at] = unit;
+        }
+    }
+    units
+}
+
+// Sweeps cells of one row, a cell for each of the Sun's units: its samples are tried in turn, up to
+// the first clear one.
+fn sweep_row(
+    axes: [[f64; 3]; 3],
+    units: &[[f64; 3]],
+    panel: Panel,
+    configured: ConfiguredRoll,
+    tolerance_deg: f64,
+    rolls: &[f64],
+) -> Swept
+    requires { ⌜ (length (now units) ≤ 64) × (length (now rolls) ≤ 3600) ⌝ }
+    ensures { λ r. ⌜ r ≡ sweptBy (length (now (units .entry))) (length (now (rolls .entry))) (λ k s. violates (rollIn axes (getD (now (units .entry)) k []) panel) (inForce (EvaluationRoll.Sweep (getD (now (rolls .entry)) s nan)) configured) «tolerance_deg») ⌝ }
+{
+    let mut mask: u64 = 0;
+    let mut probes: u64 = 0;
+    'cells: for k in 0..units.len() {
+        let unit = units[k];
+        let cell = roll_in(axes, unit, panel);
+        'rolls: for s in 0..rolls.len() {
+            probes += 1;
+            let sample = rolls[s];
+            let roll = in_force(EvaluationRoll::Sweep(sample), configured);
+            if !violated(cell, roll, tolerance_deg) {
+                continue 'cells;
+            }
+        }
+        mask |= 1 << k;
+    }
+    Swept { mask, probes }
+}
+
+// Sweeps `cells` cells from number `first` on, row by row, so that a row's axes are worked out once.
+fn sweep_cells(
+    targets: &[f64],
+    suns: &[f64],
+    observers: &[f64],
+    config: SolarRollConfig,
+    rolls: &[f64],
+    first: usize,
+    cells: usize,
+) -> Swept
+    requires { ⌜ (cells ≤ 64) × (length (now rolls) ≤ 3600) × (0 < count (now suns)) × (count (now suns) ≤ 65536) × (first + cells ≤ 1048576) ⌝ }
+    ensures { λ r. ⌜ r ≡ sweptBy cells (length (now (rolls .entry))) (λ k. cellViolated (planOf (now (targets .entry)) (now (suns .entry)) (now (observers .entry)) config) (now (rolls .entry)) (first + k)) ⌝ }
+{
+    let times = suns.len() / 3;
+    let normal = config.panel_normal;
+    let panel = panel_of(normal);
+    let configured = config.roll_deg;
+    let units = chunk_units(suns, observers, first, cells);
+    let mut mask: u64 = 0;
+    let mut probes: u64 = 0;
+    let mut k = 0;
+    while k < cells {
+        let row = (first + k) / times;
+        let time = (first + k) % times;
+        let end = smaller(k + (times - time), cells);
+        let axes = body_axes(direction(targets, row));
+        let settings = row_config(config, row);
+        let part = sweep_row(
+            axes,
+            &units[k..end],
+            panel,
+            configured,
+            settings.tolerance_deg,
+            rolls,
+        );
+        mask |= part.mask << k;
+        probes += part.probes;
+        k = end;
+    }
+    Swept { mask, probes }
+}
+
+// The answer for n samples that are all the same roll, from the answer for one of them.
+fn repeated(one: Swept, n: usize) -> Swept
+    requires { ⌜ (1 ≤ n) × (n ≤ 3600) × (one .probes ≤ 64) ⌝ }
+    ensures { λ r. ⌜ (r .mask ≡ one .mask) × (r .probes ≡ one .probes + (n - 1) * ones (one .mask)) ⌝ }
+{
+    let again = (n - 1) as u64;
+    let marked = u64::count_ones(one.mask) as u64;
+    Swept {
+        mask: one.mask,
+        probes: one.probes + again * marked,
+    }
+}
+
+// Sweeps a chunk: cells 64 · chunk to 64 · chunk + 63, the last chunk perhaps fewer. With a
+// configured roll one sample is tried for all.
+pub fn sweep_chunk(
+    targets: &[f64],
+    suns: &[f64],
+    observers: &[f64],
+    config: SolarRollConfig,
+    rolls: &[f64],
+    chunk: u64,
+) -> ChunkAnswer
+    ensures { λ r. ⌜ ((refusal : Bool → ℕ) (header : List ℕ) → chunkReply r ≡ reply (chunkRefusal (planOf (now (targets .entry)) (now (suns .entry)) (now (observers .entry)) config) (length (now (rolls .entry))) chunk) (sweptOf (sweepOf (planOf (now (targets .entry)) (now (suns .entry)) (now (observers .entry)) config) (now (rolls .entry)) refusal header) chunk)) ⌝ }
+{
+    let rows = targets.len() / 3;
+    let times = suns.len() / 3;
+    if 65536 < rows {
+        return ChunkAnswer::Refused(2);
+    }
+    if 65536 < times {
+        return ChunkAnswer::Refused(2);
+    }
+    let cells = rows * times;
+    if 1048576 < cells {
+        return ChunkAnswer::Refused(2);
+    }
+    let no_sampling = sampling(rolls.len() as u64);
+    if no_sampling != 0 {
+        return ChunkAnswer::Refused(no_sampling);
+    }
+    let at = chunk as usize;
+    if (cells + 63) / 64 <= at {
+        return ChunkAnswer::Refused(9);
+    }
+    let first = 64 * at;
+    let held = smaller(cells - first, 64);
+    let configured = config.roll_deg;
+    match configured {
+        ConfiguredRoll::None => ChunkAnswer::Accepted(sweep_cells(
+            targets,
+            suns,
+            observers,
+            config,
+            rolls,
+            first,
+            held,
+        )),
+        ConfiguredRoll::Some(_) => {
+            let one = 1;
+            let tried = sweep_cells(targets, suns, observers, config, &rolls[..one], first, held);
+            ChunkAnswer::Accepted(repeated(tried, rolls.len()))
+        }
+    }
+}
