@@ -1,21 +1,25 @@
 -- A plan's cells, from what their rows and their times share. Assumes nothing.
 use mathlib.Core.Path.{_≡_, refl, sym, ap, ap₂, _∙_}
 use mathlib.Core.Bool.{Bool}
-use mathlib.Core.List.{List}
-use Prim.Native.Nat.{ℕ, _+_, _*_, _/_, _%_, _<_}
-use lib.ListN.{getD, take}
-use lib.Seq.{getD-take}
+use mathlib.Core.List.{List, []}
+use Prim.Native.Nat.{ℕ, _+_, _-_, _*_, _/_, _%_, _≤_, _<_}
+use native.Mathlib.Nat.{mod-lt, div-add-mod'}
+use native.Mathlib.Omega.{arith}
+use lib.ListN.{length, getD, take, drop, length-take, length-drop}
+use lib.Seq.{getD-take, getD-drop, length-take-le}
 use lib.Ieee.{Float, nan}
 use Rattle.buffers.specs.Ranges.{tab}
-use Rattle.buffers.proofs.Ranges.{getD-tab}
+use Rattle.buffers.proofs.Ranges.{length-tab, getD-tab}
 use Rattle.buffers.proofs.Rows.{cell-row}
+use Rattle.solar_roll.specs.Vectors.{Vector}
 use Rattle.solar_roll.specs.Roll.{bodyAxes, panelOf}
 use Rattle.solar_roll.specs.Cell.{rollIn, violates, inForce}
 use Rattle.solar_roll.specs.Plan.{Plan, timesOf, directionOf, rowConfig, configOf, sunAt, cellOf, headConfigured, violatesAt}
 use Rattle.solar_roll.specs.declared.cell.ConfiguredRoll.the-variants.{Some}
 use Rattle.solar_roll.specs.declared.cell.EvaluationRoll.the-variants.{Sweep}
 use Rattle.solar_roll.proofs.Cells.{roll-shared}
-use Rattle.roll_sweep.specs.Chunk.{cellViolated}
+use Rattle.roll_sweep.specs.Chunk.{cellViolated, sweptBy}
+use Rattle.roll_sweep.proofs.Swept.{swept-ext}
 
 -- an entry of a table that stands in a list's first places
 pub entry : {A : Type 0} (w : ℕ) (f : ℕ → A) (l : List A) (d : A) (k : ℕ) → take w l ≡ tab w f → k < w → getD l k d ≡ f k
@@ -30,6 +34,32 @@ unfolding cellViolated violatesAt cellOf rowConfig headConfigured
 cell-violated p rolls r j i k e h =
     let row : i / timesOf p ≡ r = ap (λ (n : ℕ). n / timesOf p) e ∙ cell-row (timesOf p) r j h in
     rw (row, roll-shared)
+
+-- cells k to e of those from number first on lie in one row: what is swept of the row's axes, the Sun's units, the panel and the settings
+-- are the plan's cells
+pub row-swept : (p : Plan) (rolls : List Float) (units : List Vector) (first cells k e : ℕ) → 0 < timesOf p
+    → take cells units ≡ tab cells (λ j. sunAt p ((first + j) % timesOf p)) → k ≤ e → e ≤ cells → e ≤ k + (timesOf p - (first + k) % timesOf p)
+    → let row : ℕ = (first + k) / timesOf p in
+    let part : List Vector = take (e - k) (drop k units) in
+    sweptBy (length part) (length rolls)
+    (λ j s. violates (rollIn (bodyAxes (directionOf p row)) (getD part j []) (panelOf (p .config .«panel_normal»))) (inForce (Sweep (getD rolls s nan)) (p .config .«roll_deg»)) (configOf p row .«tolerance_deg»))
+    ≡ sweptBy (e - k) (length rolls) (λ j. cellViolated p rolls (first + (k + j)))
+row-swept p rolls units first cells k e pos u a b c =
+    let times : ℕ = timesOf p in
+    let row : ℕ = (first + k) / times in
+    let time : ℕ = (first + k) % times in
+    let room : cells ≤ length units = omega (arith, length-take cells units, ap length u, length-tab cells (λ j. sunAt p ((first + j) % timesOf p))) in
+    let part : List Vector = take (e - k) (drop k units) in
+    let w : length part ≡ e - k = length-take-le (e - k) (drop k units) (omega (arith, length-drop k units)) in
+    let v : ℕ → ℕ → Bool = λ j s. violates (rollIn (bodyAxes (directionOf p row)) (getD part j []) (panelOf (p .config .«panel_normal»))) (inForce (Sweep (getD rolls s nan)) (p .config .«roll_deg»)) (configOf p row .«tolerance_deg») in
+    ap (λ (n : ℕ). sweptBy n (length rolls) v) w
+    ∙ swept-ext (e - k) (length rolls) v (λ j. cellViolated p rolls (first + (k + j)))
+    (λ j s h g.
+    let i : ℕ = first + (k + j) in
+    let at : i ≡ row * times + (time + j) = omega (arith, div-add-mod' (first + k) times) in
+    let unit : getD part j [] ≡ sunAt p (i % times) = getD-take (e - k) (drop k units) j [] h ∙ getD-drop k units j [] ∙ entry cells (λ m. sunAt p ((first + m) % times)) units [] (k + j) u (omega arith) in
+    ap (λ (x : Vector). violates (rollIn (bodyAxes (directionOf p row)) x (panelOf (p .config .«panel_normal»))) (inForce (Sweep (getD rolls s nan)) (p .config .«roll_deg»)) (configOf p row .«tolerance_deg»)) unit
+    ∙ sym (cell-violated p rolls row (time + j) i s at (omega (arith, mod-lt (first + k) pos))))
 
 -- a configured roll stands for every sample, of any list
 pub configured-same : (p : Plan) (c : Float) (rolls others : List Float) (i k l : ℕ) → p .config .«roll_deg» ≡ Some c → cellViolated p rolls i k ≡ cellViolated p others i l

@@ -5,3 +5,4 @@ pub mod Chunks
 pub mod Rows
 pub mod Swept
 pub mod Cells
+pub mod Accepted

@@ -11,8 +11,8 @@ use lib.Count.{ones}
 use lib.Pow.{pow-add, pow-mono, shl-exact}
 use Rattle.buffers.specs.Ranges.{flag, sum, allBelow}
 use Rattle.buffers.proofs.Ranges.{sum-next, sum-add, sum-ext, sum-mono, sum-same, all-iff, all-stop, all-ext}
-use Rattle.roll_sweep.specs.Sweep.{tried, word}
-use Rattle.roll_sweep.specs.Chunk.{sweptBy}
+use Rattle.roll_sweep.specs.Sweep.{Sweep, cells, tried, marked, cellProbes, cellsIn, word, chunkMask, chunkProbes}
+use Rattle.roll_sweep.specs.Chunk.{sweptBy, sweptOf}
 use Rattle.roll_sweep.specs.declared.chunk.Swept.{Swept}
 use Rattle.roll_sweep.proofs.Words.{word-next, word-add, word-ext, word-lt, ones-word}
 use Rattle.roll_sweep.proofs.Tried.{tried-le, tried-all, tried-at, tried-ext}
@@ -59,19 +59,21 @@ module _ (n : ℕ) (v : ℕ → ℕ → Bool) where
         trials = t ∙ omega (arith, u .trials, sum-next k (λ j. tried n (v j)), tried-all n (v k) h);
       }
 
-  -- m cells more
-  pub upto-part : {k mask probes : ℕ} (m : ℕ) (part : Swept) → Upto k mask probes → k + m ≤ 64 → part ≡ sweptBy m n (λ j. v (k + j))
-      → Upto (k + m) (bitOr mask ((part .mask * 2 ^ k) % 2 ^ 64)) (probes + part .probes)
+  -- the cells from k to e, where they were swept together
+  pub upto-part : {k mask probes : ℕ} (e : ℕ) (part : Swept) → Upto k mask probes → k ≤ e → e ≤ 64 → part ≡ sweptBy (e - k) n (λ j. v (k + j))
+      → Upto e (bitOr mask ((part .mask * 2 ^ k) % 2 ^ 64)) (probes + part .probes)
   unfolding sweptBy
-  upto-part {k} {mask} m part u l e =
-      let a : part .mask ≡ word m (λ j. allBelow n (v (k + j))) = ap (λ (w : Swept). w .mask) e in
-      let b : part .probes ≡ sum m (λ j. tried n (v (k + j))) = ap (λ (w : Swept). w .probes) e in
+  upto-part {k} {mask} e part u h l q =
+      let m : ℕ = e - k in
+      let z : k + m ≡ e = omega arith in
+      let a : part .mask ≡ word m (λ j. allBelow n (v (k + j))) = ap (λ (w : Swept). w .mask) q in
+      let b : part .probes ≡ sum m (λ j. tried n (v (k + j))) = ap (λ (w : Swept). w .probes) q in
       let c : mask < 2 ^ k = rw (u .marks) (word-lt k (λ j. allBelow n (v j))) in
       let d : part .mask < 2 ^ m = rw a (word-lt m (λ j. allBelow n (v (k + j)))) in
-      record {
+      rw (← z) (record {
         marks = set-above k m mask (part .mask) c d (omega arith) ∙ ap₂ (λ (x y : ℕ). x + y * 2 ^ k) (u .marks) a ∙ sym (word-add k m (λ j. allBelow n (v j)));
         trials = ap₂ (λ (x y : ℕ). x + y) (u .trials) b ∙ sym (sum-add k m (λ j. tried n (v j)));
-      }
+      })
 
 pub swept-ext : (w n : ℕ) (v u : ℕ → ℕ → Bool) → ((k s : ℕ) → k < w → s < n → v k s ≡ u k s) → sweptBy w n v ≡ sweptBy w n u
 unfolding sweptBy
@@ -79,6 +81,18 @@ swept-ext w n v u h =
     ap₂ {C = Swept} (λ (a b : ℕ). record { mask = a; probes = b })
     (word-ext w (λ k. allBelow n (v k)) (λ k. allBelow n (u k)) (λ k l. all-ext n (v k) (u k) (λ s g. h k s l g)))
     (sum-ext w (λ k. tried n (v k)) (λ k. tried n (u k)) (λ k l. tried-ext n (v k) (u k) (λ s g. h k s l g)))
+
+-- the cells of a chunk
+pub swept-chunk : (s : Sweep) (c w : ℕ) → w ≡ cellsIn (cells s) c → sweptBy w (s .samples) (λ k. s .violates (64 * c + k)) ≡ sweptOf s c
+unfolding sweptBy chunkMask chunkProbes marked cellProbes
+swept-chunk s c w e = rw e
+
+-- one sample a cell: one try each
+pub one-each : (w : ℕ) (v : ℕ → ℕ → Bool) (one : Swept) → w ≤ 64 → one ≡ sweptBy w 1 v → one .probes ≤ 64
+unfolding sweptBy
+one-each w v one l e =
+    let a : one .probes ≡ sum w (λ k. tried 1 (v k)) = ap (λ (r : Swept). r .probes) e in
+    omega (arith, sum-mono w (λ k. tried 1 (v k)) (λ k. 1) (λ k h. tried-le 1 (v k)), sum-same w 1)
 
 -- ---- samples that are all the same: one of them decides
 

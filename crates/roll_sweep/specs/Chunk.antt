@@ -34,13 +34,12 @@ sweptBy w n v = record { mask = word w (λ k. allBelow n (v k)); probes = sum w 
 abbrev pub sweptOf : Sweep → ℕ → Swept
 sweptOf s c = record { mask = chunkMask s c; probes = chunkProbes s c }
 
--- of *Plan*, what bounds the work: 2 and 3; 9 no such chunk
-unfoldable pub chunkRefusal : Plan → ℕ → ℕ → ℕ
-unfolding first carried tooMany samplingOf chunks
-chunkRefusal p samples c =
-    first ((tooMany (rowsOf p) (timesOf p), 2)
+-- of *Plan*, what bounds the work: 2, and 3 of the samples; then 9, no such chunk
+unfoldable pub chunkRefusal : ℕ → ℕ → ℕ → ℕ → ℕ
+chunkRefusal rows times samples c =
+    first ((tooMany rows times, 2)
     ∷ carried (samplingOf samples)
-    ∷ (leb (chunks (rowsOf p * timesOf p)) c, 9)
+    ∷ (leb (chunks (rows * times)) c, 9)
     ∷ [])
 
 -- the number and the value of each case of the answer

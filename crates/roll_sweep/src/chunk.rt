@@ -155,8 +155,32 @@ fn repeated(one: Swept, n: usize) -> Swept
     }
 }
 
+// The number of the first refusal of a chunk's sweep, 0 for none.
+fn chunk_refusal(rows: usize, times: usize, samples: usize, chunk: u64) -> u64
+    ensures { λ r. ⌜ r ≡ chunkRefusal rows times samples chunk ⌝ }
+{
+    if 65536 < rows {
+        return 2;
+    }
+    if 65536 < times {
+        return 2;
+    }
+    let cells = rows * times;
+    if 1048576 < cells {
+        return 2;
+    }
+    let no_sampling = sampling(samples as u64);
+    if no_sampling != 0 {
+        return no_sampling;
+    }
+    if (cells + 63) / 64 <= chunk as usize {
+        return 9;
+    }
+    0
+}
+
 // Sweeps a chunk: cells 64 · chunk to 64 · chunk + 63, the last chunk perhaps fewer. With a
-// configured roll one sample is tried for all.
+// configured roll every sample is the same, and one is tried for all.
 pub fn sweep_chunk(
     targets: &[f64],
     suns: &[f64],
@@ -165,30 +189,16 @@ pub fn sweep_chunk(
     rolls: &[f64],
     chunk: u64,
 ) -> ChunkAnswer
-    ensures { λ r. ⌜ ((refusal : Bool → ℕ) (header : List ℕ) → chunkReply r ≡ reply (chunkRefusal (planOf (now (targets .entry)) (now (suns .entry)) (now (observers .entry)) config) (length (now (rolls .entry))) chunk) (sweptOf (sweepOf (planOf (now (targets .entry)) (now (suns .entry)) (now (observers .entry)) config) (now (rolls .entry)) refusal header) chunk)) ⌝ }
+    ensures { λ r. ⌜ ((refusal : Bool → ℕ) (header : List ℕ) → chunkReply r ≡ reply (chunkRefusal (count (now (targets .entry))) (count (now (suns .entry))) (length (now (rolls .entry))) chunk) (sweptOf (sweepOf (planOf (now (targets .entry)) (now (suns .entry)) (now (observers .entry)) config) (now (rolls .entry)) refusal header) chunk)) ⌝ }
 {
     let rows = targets.len() / 3;
     let times = suns.len() / 3;
-    if 65536 < rows {
-        return ChunkAnswer::Refused(2);
+    let refusal = chunk_refusal(rows, times, rolls.len(), chunk);
+    if refusal != 0 {
+        return ChunkAnswer::Refused(refusal);
     }
-    if 65536 < times {
-        return ChunkAnswer::Refused(2);
-    }
-    let cells = rows * times;
-    if 1048576 < cells {
-        return ChunkAnswer::Refused(2);
-    }
-    let no_sampling = sampling(rolls.len() as u64);
-    if no_sampling != 0 {
-        return ChunkAnswer::Refused(no_sampling);
-    }
-    let at = chunk as usize;
-    if (cells + 63) / 64 <= at {
-        return ChunkAnswer::Refused(9);
-    }
-    let first = 64 * at;
-    let held = smaller(cells - first, 64);
+    let first = 64 * chunk as usize;
+    let cells = smaller(64, rows * times - first);
     let configured = config.roll_deg;
     match configured {
         ConfiguredRoll::None => ChunkAnswer::Accepted(sweep_cells(
@@ -198,11 +208,19 @@ pub fn sweep_chunk(
             config,
             rolls,
             first,
-            held,
+            cells,
         )),
         ConfiguredRoll::Some(_) => {
             let one = 1;
-            let tried = sweep_cells(targets, suns, observers, config, &rolls[..one], first, held);
+            let tried = sweep_cells(
+                targets,
+                suns,
+                observers,
+                config,
+                &rolls[..one],
+                first,
+                cells,
+            );
             ChunkAnswer::Accepted(repeated(tried, rolls.len()))
         }
     }

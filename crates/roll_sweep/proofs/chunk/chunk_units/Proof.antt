@@ -93,11 +93,16 @@ loop-again-2 c =
     let at = c .before .before .before .loop in
     let a = c .before .before .before .before .before .before .args in
     let l : at .k < 64 = omega arith in
-    let h : at .k - count (a .suns .now) < at .k = omega arith in
-    (omega arith, refl, refl, simp length-set (at .inv .3), ap (λ (u : List Vector). set u (at .k) (getD (at .units) (at .k - count (a .suns .now)) [])) (at .inv .4)
-    ∙ filled-next _ _ _ _ l
-    (entry (at .k) (unit-at (a .suns .now) (a .observers .now) (a .first)) _ _ _ (ap (take (at .k)) (at .inv .4) ∙ take-filled _ _ _) h
-    ∙ again (a .suns .now) (a .observers .now) (a .first) (at .k) (omega arith)))
+    let h : at .k - count (a .suns .now) < at .k = omega arith in (
+      omega arith,
+      refl,
+      refl,
+      simp length-set (at .inv .3),
+      ap (λ (u : List Vector). set u (at .k) (getD (at .units) (at .k - count (a .suns .now)) [])) (at .inv .4)
+          ∙ filled-next _ _ _ _ l
+          (entry (at .k) (unit-at (a .suns .now) (a .observers .now) (a .first)) _ _ _ (ap (take (at .k)) (at .inv .4) ∙ take-filled _ _ _) h
+          ∙ again (a .suns .now) (a .observers .now) (a .first) (at .k) (omega arith)),
+    )
 
 returns : tie.Need-returns Inv-loop μ-loop
 returns c =

@@ -7,6 +7,7 @@ use native.Mathlib.Omega.{arith}
 use borrow.Author.Needs.{needs}
 use lib.ListN.{length, getD, take, drop}
 use lib.Seq.{getD-take, getD-drop}
+use lib.Bits.{bitOr}
 use lib.Ieee.{Float, nan}
 use Rattle.solar_roll.specs.Vectors.{Vector}
 use Rattle.solar_roll.specs.Roll.{Axes, sunUnit, bodyAxes, panelOf}
@@ -16,7 +17,7 @@ use Rattle.solar_roll.specs.declared.cell.EvaluationRoll.the-variants.{Sweep}
 use Rattle.solar_roll.specs.declared.plan.SolarRollConfig.{SolarRollConfig}
 use Rattle.roll_sweep.specs.Chunk.{cellViolated, sweptBy}
 use Rattle.roll_sweep.proofs.Swept.{Upto, upto-zero, upto-whole, upto-le, upto-part, swept-ext}
-use Rattle.roll_sweep.proofs.Cells.{entry, cell-violated}
+use Rattle.roll_sweep.proofs.Cells.{row-swept}
 use Rattle.roll_sweep.proofs.chunk.sweep_cells.Statement.{statement}
 use Rattle.roll_sweep.proofs.chunk.sweep_cells.Tie as tie
 use Rattle.roll_sweep.proofs.chunk.sweep_cells.Reads as reads
@@ -35,6 +36,41 @@ Inv-loop targets suns observers config rolls first cells times panel configured 
 
 abbrev μ-loop : tie.MeasureT-loop
 μ-loop targets suns observers config rolls first cells times panel configured units mask₀ probes₀ k₀ mask probes k = cells - k
+
+-- where the row's part ends
+record Ends (k end cells left : ℕ) : Type 0 where
+  pub more : k < end
+  pub within : end ≤ cells
+  pub in-row : end ≤ k + left
+  pub few : end ≤ 64
+
+ends : (c : tie.After-smaller Inv-loop μ-loop) →
+    let a = c .before .before .before .before .before .before .before .before .before .before .args in
+    let k = c .before .before .loop .k in
+    Ends k (c .smaller .result) (a .cells) (count (a .suns .now) - (a .first + k) % count (a .suns .now))
+ends c =
+    let a = c .before .before .before .before .before .before .before .before .before .before .args in
+    let k = c .before .before .loop .k in
+    let pos : 0 < count (a .suns .now) = omega arith in
+    let m = mod-lt (a .first + k) pos in
+    record { more = omega arith; within = omega arith; in-row = omega arith; few = omega arith }
+
+-- mask and probes with the row's part
+stepped : (c : tie.After-sweep-row Inv-loop μ-loop) →
+    let a = c .before .before .before .before .before .before .before .before .before .before .before .before .before .before .before .before .args in
+    let at = c .before .before .before .before .before .before .before .before .loop in
+    Upto (length (a .rolls .now)) (λ j. cellViolated (planOf (a .targets .now) (a .suns .now) (a .observers .now) (a .config)) (a .rolls .now) (a .first + j))
+    (c .before .before .before .before .before .before .smaller .result) (bitOr (at .mask) ((c .sweep-row .result .mask * 2 ^ at .k) % 2 ^ 64)) (at .probes + c .sweep-row .result .probes)
+unfolding sunAt
+stepped c =
+    let a = c .before .before .before .before .before .before .before .before .before .before .before .before .before .before .before .before .args in
+    let at = c .before .before .before .before .before .before .before .before .loop in
+    let e = ends (c .before .before .before .before .before .before) in
+    upto-part _ _ (c .before .before .before .before .before .before .smaller .result) (c .sweep-row .result) (at .inv .1) (omega arith) (e .few)
+    (c .sweep-row .ensures
+    ∙ rw (c .before .before .before .before .body-axes .ensures, c .before .before .before .before .before .direction .ensures, c .before .before .before .row-config .ensures, c .before .before .before .before .before .before .before .before .before .before .panel-of .ensures)
+    (row-swept (planOf (a .targets .now) (a .suns .now) (a .observers .now) (a .config)) (a .rolls .now) (c .before .before .before .before .before .before .before .before .before .chunk-units .result) (a .first) (a .cells) (at .k) (c .before .before .before .before .before .before .smaller .result)
+    (c .before .before .before .before .before .before .before .before .before .before .before .before .before .before .before .before .pre .2) (c .before .before .before .before .before .before .before .before .before .chunk-units .ensures) (omega arith) (e .within) (e .in-row)))
 
 -- src/chunk.rt:118:9
 panel-of-requires : tie.Need-panel-of-requires Inv-loop μ-loop
@@ -66,11 +102,14 @@ rem-time c = search needs
 
 -- src/chunk.rt:127:32
 sub-smaller : tie.Need-sub-smaller Inv-loop μ-loop
-sub-smaller c = ?
+sub-smaller c =
+    let a = c .before .before .before .before .before .before .before .before .before .args in
+    let pos : 0 < count (a .suns .now) = omega arith in
+    omega (arith, mod-lt (a .first + c .before .loop .k) pos)
 
 -- src/chunk.rt:127:27
 add-smaller : tie.Need-add-smaller Inv-loop μ-loop
-add-smaller c = ?
+add-smaller c = search needs
 
 -- src/chunk.rt:127:13
 smaller-requires : tie.Need-smaller-requires Inv-loop μ-loop
@@ -110,23 +149,37 @@ sweep-row-requires c κs = search needs
 
 -- src/chunk.rt:138:17
 shl-mask : tie.Need-shl-mask Inv-loop μ-loop
-shl-mask c = search needs
+shl-mask c =
+    let e = ends (c .before .before .before .before .before .before .before) in
+    let k64 : c .before .before .before .before .before .before .before .before .before .loop .k < 64 = omega arith in
+    k64
 
 -- src/chunk.rt:139:9
 add-probes : tie.Need-add-probes Inv-loop μ-loop
-add-probes c = ?
+add-probes c =
+    let a = c .before .before .before .before .before .before .before .before .before .before .before .before .before .before .before .before .before .before .args in
+    let e = ends (c .before .before .before .before .before .before .before .before) in
+    let u = stepped (c .before .before) in
+    let few : length (a .rolls .now) ≤ 3600 = c .before .before .before .before .before .before .before .before .before .before .before .before .before .before .before .before .before .before .pre .1 in
+    record { fits = omega (arith, upto-le _ _ u, mul-le-mul (e .few) few) }
 
 -- src/chunk.rt:124:5
 loop-less : tie.Need-loop-less Inv-loop μ-loop
-loop-less c = ?
+loop-less c =
+    let e = ends (c .before .before .before .before .before .before .before .before) in
+    omega arith
 
 -- src/chunk.rt:124:5
 loop-again : tie.Need-loop-again Inv-loop μ-loop
-loop-again c = ?
+loop-again c =
+    let e = ends (c .before .before .before .before .before .before .before .before) in
+    (e .within, stepped (c .before .before))
 
 -- src/chunk.rt:104:1
 returns : tie.Need-returns Inv-loop μ-loop
-returns c = ?
+returns c =
+    let h : c .before .loop .k ≡ c .before .before .before .before .before .before .before .before .before .args .cells = omega arith in
+    upto-whole _ _ (c .before .loop .inv .1) ∙ rw h
 
 pub sweep-cells-spec : {M : Type 1} → statement M
 sweep-cells-spec =
