@@ -87,7 +87,7 @@ pub fn same_plan(plan: &Plan, journal: &Path) -> Result<(), Fault> {
     let then = match Digest::beside(journal)? {
         Some(then) => then,
         None => {
-            eprintln!(
+            tell!(
                 "warning: {} is missing: nothing tells whether {} was made from these targets and positions",
                 path.display(),
                 journal.display()

@@ -100,9 +100,8 @@ fn damage(plan: &Plan, path: &Path, bytes: &[u8]) -> String {
         text += &format!("\n  and {} more", grouped(faults.len() - TOLD));
     }
     text + &format!(
-        "\nThe header and the {} lines before line {} are right. To go on from them, keep a copy and shorten:\n  \
+        "\nAll before line {} is right. To go on from there, keep a copy and shorten:\n  \
          cp {path} {path}.damaged && truncate -s {keep} {path}",
-        grouped(right),
         right + 2,
         path = path.display(),
         keep = HEADER_BYTES as usize + right * LINE_BYTES as usize,
@@ -115,7 +114,7 @@ const FIELDS: [(&str, usize); 9] = [
     ("times", 8),
     ("rolls", 8),
     ("tolerance", 16),
-    ("configured roll, 01 for one", 2),
+    ("whether a roll is configured", 2),
     ("configured roll", 16),
     ("panel x", 16),
     ("panel y", 16),
@@ -123,37 +122,33 @@ const FIELDS: [(&str, usize); 9] = [
 ];
 
 fn header_faults(header: &[u8], bytes: &[u8]) -> String {
+    let digits = HEADER_BYTES as usize - 1;
+    if let Some(i) = bytes.iter().take(digits).position(|d| hex(&[*d]).is_none()) {
+        return format!("  line 1, column {}: byte {:#04x}; allowed: 0 to 9 and a to f", i + 1, bytes[i]);
+    }
     let mut faults = Vec::new();
     let mut start = 0;
     for (name, width) in FIELDS {
         let end = (start + width).min(bytes.len());
         if start < end && bytes[start..end] != header[start..end] {
-            let (read, due) = (&bytes[start..end], &header[start..end]);
-            faults.push(format!(
-                "  line 1, column {}: {} reads {}; this plan's is {}",
-                start + 1,
-                name,
-                shown(name, read),
-                shown(name, due)
-            ));
+            let (read, due) = (shown(&bytes[start..end]), shown(&header[start..end]));
+            faults.push(format!("  line 1, column {}: {} reads {}; this plan's is {}", start + 1, name, read, due));
         }
         start += width;
     }
     if faults.is_empty() {
-        let read = bytes.get(start).copied().unwrap_or(0);
-        faults.push(format!("  line 1, column {}: byte {:#04x}; allowed: 0x0a, the line's end", start + 1, read));
+        faults.push(format!("  line 1, column {}: byte {:#04x}; allowed: 0x0a, the line's end", digits + 1, bytes[digits]));
     }
     faults.join("\n")
 }
 
 /// A field as it stands, and the number that it means.
-fn shown(name: &str, digits: &[u8]) -> String {
-    let text = String::from_utf8_lossy(digits).escape_debug().to_string();
+fn shown(digits: &[u8]) -> String {
+    let text = String::from_utf8_lossy(digits);
     match (hex(digits), digits.len()) {
-        (Some(value), 16) if !name.contains("01") => format!("{} ({:?})", text, f64::from_bits(value)),
+        (Some(value), 16) => format!("{} ({:?})", text, f64::from_bits(value)),
         (Some(value), 8) => format!("{} ({})", text, value),
-        (None, _) => format!("`{}`, which is no lowercase hexadecimal", text),
-        _ => text,
+        _ => text.into_owned(),
     }
 }
 

@@ -34,6 +34,14 @@ impl Fault {
     }
 }
 
+/// An error of writing CSV with the kind of the write that failed.
+pub fn csv_error(e: csv::Error) -> io::Error {
+    match e.into_kind() {
+        csv::ErrorKind::Io(e) => e,
+        other => io::Error::new(io::ErrorKind::Other, format!("{:?}", other)),
+    }
+}
+
 impl fmt::Display for Fault {
     fn fmt(&self, f: &mut fmt::Formatter) -> fmt::Result {
         match self {

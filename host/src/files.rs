@@ -37,18 +37,14 @@ pub fn fault(path: &Path, e: &io::Error) -> Fault {
 
 /// What went wrong with a file, in words.
 pub fn reason(e: &io::Error) -> String {
-    const EROFS: i32 = 30;
-    const ENOSPC: i32 = 28;
-    const EDQUOT: i32 = 122;
     match e.raw_os_error() {
-        Some(ENOSPC) => return "the disk is full".into(),
-        Some(EDQUOT) => return "the disk quota is used up".into(),
-        Some(EROFS) => return "the file system is read-only".into(),
-        _ => {}
-    }
-    match e.kind() {
-        io::ErrorKind::NotFound => "there is no such file".into(),
-        io::ErrorKind::PermissionDenied => "permission denied".into(),
+        Some(libc::ENOSPC) => "the disk is full".into(),
+        Some(libc::EDQUOT) => "the disk quota is used up".into(),
+        Some(libc::EROFS) => "the file system is read-only".into(),
+        Some(libc::EFBIG) => "the file may not grow further".into(),
+        Some(libc::EISDIR) => "it is a folder".into(),
+        Some(libc::ENOENT) => "there is no such file or folder".into(),
+        Some(libc::EACCES) => "permission denied".into(),
         _ => e.to_string(),
     }
 }

@@ -20,9 +20,7 @@ use std::{
 /// When what was written is made to last.
 #[derive(Clone, Copy, Debug, PartialEq, Eq, ValueEnum)]
 pub enum Sync {
-    /// After each line: a power cut loses only the line being written
     Line,
-    /// Once a second: faster, and a power cut may lose a second's lines
     Second,
 }
 
@@ -149,7 +147,7 @@ fn locked(path: &Path, wait: bool) -> Result<(File, bool), Fault> {
                 }
                 if wait && !told && asked.elapsed() > Duration::from_secs(1) {
                     told = true;
-                    eprintln!("waiting: another process sweeps into {}", path.display());
+                    tell!("waiting: another process sweeps into {}", path.display());
                 }
             }
             Err(e) => return Err(fault(path, &e)),

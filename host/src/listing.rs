@@ -1,6 +1,7 @@
 //! The windows of every target: as a table for people, as CSV and JSON for programs.
 use crate::{
     engine::{self, Refusal, Window},
+    fault::csv_error,
     instant,
     plan::Plan,
     text::grouped,
@@ -56,18 +57,22 @@ impl<'a> Listing<'a> {
                 )?,
             }
             for (kind, w) in row.in_time_order() {
-                let mut line = format!("  {:8}  {}  {}", kind.word(), time(w.first_time), time(w.last_time));
+                let gap = if digits <= 3 { "  " } else { " " };
+                let mut line = format!("  {:8}{}{}{}{}", kind.word(), gap, time(w.first_time), gap, time(w.last_time));
                 line.push(if w.is_last != 0 { '>' } else { ' ' });
                 open |= w.is_last != 0;
                 if self.has_severities() {
                     if kind == Kind::Violated {
-                        line += &format!(" {:>11.6}", w.severity);
+                        line += &format!("{:>7.3}", w.severity);
                     }
                 } else if digits <= 3 {
                     line += &format!(" {:>13}", format!("{}-{}", w.first, w.last));
                 }
                 writeln!(out, "{}", line.trim_end())?;
             }
+        }
+        if self.rows.is_empty() {
+            return writeln!(out, "no targets");
         }
         if open {
             writeln!(out, "> the data end here; the window may go on")?;
@@ -84,7 +89,8 @@ impl<'a> Listing<'a> {
 
     pub fn csv(&self, out: impl Write) -> io::Result<()> {
         let mut out = csv::Writer::from_writer(out);
-        out.write_record(["target", "kind", "first_sample", "last_sample", "start", "end", "severity_deg", "data_end"])?;
+        out.write_record(["target", "kind", "first_sample", "last_sample", "start", "end", "severity_deg", "data_end"])
+            .map_err(csv_error)?;
         for row in &self.rows {
             for (kind, w) in row.in_time_order() {
                 out.write_record([
@@ -96,7 +102,8 @@ impl<'a> Listing<'a> {
                     instant::format(w.last_time, 9),
                     w.severity.to_string(),
                     w.is_last.to_string(),
-                ])?;
+                ])
+                .map_err(csv_error)?;
             }
         }
         out.flush()

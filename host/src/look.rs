@@ -3,7 +3,7 @@ use crate::{
     digest::{same_plan, Digest},
     engine::{self, Roll, HEADER_BYTES},
     explain,
-    fault::Fault,
+    fault::{csv_error, Fault},
     instant,
     journal::{done, is_locked, look},
     listing::Listing,
@@ -143,18 +143,15 @@ pub struct Mask {
     /// The mask at this roll, which nothing overrides
     #[arg(long, value_name = "DEG", allow_hyphen_values = true, conflicts_with = "roll")]
     fixed_roll: Option<f64>,
-    /// How marks are printed
+    /// Rows: 0 or 1 for each time, then the target; csv: a line a cell; raw: a byte a cell
     #[arg(long, value_enum, default_value_t = Form::Rows)]
     form: Form,
 }
 
 #[derive(Clone, Copy, ValueEnum)]
 enum Form {
-    /// A line a target: 0 clear or 1 marked for each time, then its name
     Rows,
-    /// A line a cell: target, time, marked
     Csv,
-    /// A byte a cell, 0 or 1
     Raw,
 }
 
@@ -181,10 +178,10 @@ impl Mask {
             }
             Form::Csv => {
                 let mut csv = csv::Writer::from_writer(&mut out);
-                csv.write_record(["target", "time", "marked"])?;
+                csv.write_record(["target", "time", "marked"]).map_err(csv_error)?;
                 for (i, name) in plan.names.iter().enumerate() {
                     for (j, &time) in plan.times.iter().enumerate() {
-                        csv.write_record([name, &instant::format(time, 9), &mask[i * times + j].to_string()])?;
+                        csv.write_record([name, &instant::format(time, 9), &mask[i * times + j].to_string()]).map_err(csv_error)?;
                     }
                 }
                 csv.flush()?;

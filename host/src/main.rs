@@ -3,6 +3,9 @@
 //! The program owns files, time, locks and screens. Every number comes from the proved library (engine.rs).
 #![forbid(unsafe_code)]
 
+#[macro_use]
+mod text;
+
 mod digest;
 mod engine;
 mod example;
@@ -21,7 +24,6 @@ mod source;
 mod stop;
 mod svg;
 mod sweep;
-mod text;
 
 use clap::{Args, Parser, Subcommand};
 use fault::Fault;
@@ -32,13 +34,12 @@ use std::{
     process::exit,
 };
 
-/// Sweeps a plan of targets over rolls and lists when each may be looked at.
-///
-/// A sweep is kept in a journal: a power cut costs at most the line being written, and the same command goes on.
 #[derive(Parser)]
 #[command(
     name = "wilfnusk",
     version,
+    about = "Sweeps a plan of targets over rolls and lists when each may be looked at. The sweep is kept in a journal: \
+        a power cut costs at most the line being written, and the same command goes on.",
     after_help = "Start with:\n  wilfnusk example day\n  wilfnusk sweep day/plan.toml --svg windows.svg\n\n\
         Exit status: 0 done, 1 refused (the message has the number of the reason),\n  \
         2 wrong command line, 3 files, 130 stopped by Ctrl-C."
@@ -131,7 +132,7 @@ impl Outputs {
                 Some(path) => {
                     let written = File::create(path).and_then(|f| write(&mut BufWriter::new(f)));
                     written.map_err(|e| files::fault(path, &e))?;
-                    eprintln!("wrote {}", path.display());
+                    tell!("wrote {}", path.display());
                 }
             }
         }
@@ -165,7 +166,7 @@ fn main() {
     if let Err(fault) = run(Cli::parse().command) {
         let text = fault.to_string();
         if !text.is_empty() {
-            eprintln!("wilfnusk: {}", text);
+            tell!("wilfnusk: {}", text);
         }
         exit(fault.status());
     }

@@ -46,7 +46,7 @@ impl Merge {
             }
             digest = same_files(digest, path)?;
             if bytes.len() < HEADER_BYTES as usize {
-                eprintln!("{}: no whole header, and so no lines", path.display());
+                tell!("{}: no whole header, and so no lines", path.display());
                 continue;
             }
             let (header, _) = bytes.split_at(HEADER_BYTES as usize);
@@ -110,7 +110,7 @@ impl Merge {
 fn same_files<'a>(before: Option<(Digest, &'a Path)>, path: &'a Path) -> Result<Option<(Digest, &'a Path)>, Fault> {
     match (Digest::beside(path)?, before) {
         (None, before) => {
-            eprintln!(
+            tell!(
                 "warning: {} is missing: nothing tells whether {} was made from the same targets and positions",
                 Digest::path(path).display(),
                 path.display()

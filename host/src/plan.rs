@@ -47,9 +47,16 @@ impl Plan {
         let configured_roll = values.number("configured_roll")?;
         let places = values.places;
 
-        let beside = |file: &str| path.parent().unwrap_or_else(|| Path::new("")).join(file);
-        let targets_sheet = Sheet::read(&beside(&targets_file), TARGET_COLUMNS)?;
-        let ephemeris_sheet = Sheet::read(&beside(&ephemeris_file), EPHEMERIS_COLUMNS)?;
+        let beside = |key: &str, file: &str| {
+            let path = path.parent().unwrap_or_else(|| Path::new("")).join(file);
+            if path.exists() {
+                return Ok(path);
+            }
+            let read = format!("{} reads \"{}\", and there is no such file", key, file);
+            Err(source.fault(places[key], read, "a CSV file, named from the plan's folder"))
+        };
+        let targets_sheet = Sheet::read(&beside("targets", &targets_file)?, TARGET_COLUMNS)?;
+        let ephemeris_sheet = Sheet::read(&beside("ephemeris", &ephemeris_file)?, EPHEMERIS_COLUMNS)?;
         let (mut names, mut targets) = (Vec::new(), Vec::new());
         for fields in targets_sheet.fields() {
             names.push(fields[0].text().to_owned());
@@ -330,7 +337,9 @@ pub mod tests {
     }
     #[test]
     fn a_missing_file_is_named() {
+        let e = plan("targets = \"T.csv\"\nephemeris = \"e.csv\"\nrolls = 1\ntolerance = 1\n", TARGETS, EPHEMERIS).unwrap_err();
+        assert!(e.to_string().contains("plan.toml, line 1, column 11: targets reads \"T.csv\", and there is no such file; allowed: "));
         let e = Plan::read(Path::new("/nowhere/plan.toml")).unwrap_err();
-        assert_eq!(e.to_string(), "/nowhere/plan.toml: there is no such file");
+        assert_eq!(e.to_string(), "/nowhere/plan.toml: there is no such file or folder");
     }
 }

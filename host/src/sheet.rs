@@ -35,7 +35,7 @@ impl Sheet {
             .collect::<Result<Vec<_>, _>>()
             .map_err(|e| csv_fault(&source, e))?;
         if records.is_empty() {
-            return Err(source.fault(0, "nothing", &allowed));
+            return Err(source.fault(0, "the file is empty", &allowed));
         }
         let header = records.remove(0);
         let mut columns = Vec::new();
@@ -158,7 +158,7 @@ mod tests {
     }
     #[test]
     fn faults_of_the_whole_file() {
-        assert_eq!(fault(""), "t.csv, line 1, column 1: nothing; allowed: a first line that names the columns name,x");
+        assert_eq!(fault(""), "t.csv, line 1, column 1: the file is empty; allowed: a first line that names the columns name,x");
         assert!(fault("name;x\na;1\n").contains("no column `name` in `name;x`"));
         assert!(fault("name,x,X\n").contains("two columns `x`"));
         assert_eq!(

@@ -11,7 +11,7 @@ pub fn listen() {
         }
     };
     if let Err(e) = ctrlc::set_handler(handler) {
-        eprintln!("warning: Ctrl-C will end the program at once ({})", e);
+        tell!("warning: Ctrl-C will end the program at once ({})", e);
     }
 }
 

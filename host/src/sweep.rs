@@ -25,8 +25,8 @@ pub struct Sweep {
     /// Work out these chunks in this order, such as 40..80 or 7,0..5
     #[arg(long, value_name = "A..B", value_delimiter = ',')]
     chunks: Option<Vec<Chunks>>,
-    /// When lines are made to last
-    #[arg(long, value_enum, default_value_t = Sync::Line)]
+    /// Sync each line, or once a second (a power cut may then take several lines)
+    #[arg(long, value_name = "WHEN", value_enum, default_value_t = Sync::Line)]
     sync: Sync,
     /// Wait while another process sweeps into the journal
     #[arg(long)]
@@ -128,12 +128,12 @@ impl Sweep {
             return Err(Fault::Stopped(format!("stopped. {}; the same command goes on", about)));
         }
         if count < plan.chunks() {
-            eprintln!("{}; missing: {}", about, ranges(&has_line, false));
+            tell!("{}; missing: {}", about, ranges(&has_line, false));
             return Ok(());
         }
         let bytes = journal.used();
         let (mask, probes) = engine::collect(plan, bytes).map_err(|r| explain::journal(plan, &journal.path, bytes, r))?;
-        eprintln!("{}; {} rolls were tried", about, grouped(probes));
+        tell!("{}; {} rolls were tried", about, grouped(probes));
         let listing = Listing::of_mask(plan, &mask, probes).map_err(|r| explain::plan(plan, r))?;
         self.outputs.write(&listing)
     }
@@ -148,7 +148,7 @@ fn start(plan: &Plan, journal: &mut Journal) -> Result<(), Fault> {
     }
     journal.shorten(keep)?;
     if keep < found {
-        eprintln!("recovered {}: {} bytes of a write that did not end are gone", journal.path.display(), found - keep);
+        tell!("recovered {}: {} bytes of a write that did not end are gone", journal.path.display(), found - keep);
     }
     // Without a line nothing depends on the digest: it is made this plan's, before the first line can follow.
     if keep <= HEADER_BYTES as usize {

@@ -1,5 +1,14 @@
 //! Small things of output.
 
+/// Says something on standard error; a sweep goes on though nobody listens there.
+#[macro_export]
+macro_rules! tell {
+    ($($words:tt)*) => {{
+        use std::io::Write;
+        let _ = writeln!(std::io::stderr(), $($words)*);
+    }};
+}
+
 /// A number with commas between thousands.
 pub fn grouped(n: impl ToString) -> String {
     let digits = n.to_string();
