@@ -15,7 +15,7 @@ const STEP: i64 = 60_000_000_000;
 impl Case {
     fn new(name: &'static str, plan: Plan, n: u64) -> Case {
         let times = (0..plan.times() as i64).map(|j| FIRST_TIME + STEP * j).collect();
-        Case { name, sweep: Sweep::new(plan, n), times }
+        Case { name, sweep: Sweep::new(plan, n).expect("an accepted plan"), times }
     }
     /// Document 01's example.
     pub fn example() -> Case {

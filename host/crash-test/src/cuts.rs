@@ -168,13 +168,11 @@ fn between_entries(machine: &Machine, order: &[usize]) {
 /// One journal, killed at random moments and bytes, each run in another order of chunks, until it is whole.
 pub fn any_moment(case: &Case, folder: &Path, seeded: &mut Seeded, until: Instant, tally: &mut Tally) {
     let machine = Machine::new(case, folder);
-    // What a start takes without work, and what the whole takes.
-    let begun = Instant::now();
+    // What a start takes.
     whole(&machine, &machine.sweep(None));
-    let all = begun.elapsed();
     let begun = Instant::now();
-    whole(&machine, &machine.sweep(None));
-    let start = begun.elapsed() / 2;
+    machine.sweep(None);
+    let start = begun.elapsed();
     machine.without_journal();
 
     let mut ledger = Ledger::new(&case.sweep);
@@ -183,13 +181,11 @@ pub fn any_moment(case: &Case, folder: &Path, seeded: &mut Seeded, until: Instan
         let order = shuffled(seeded, case.chunks());
         let said = words(&order);
         let before = ledger.journal();
-        if seeded.once_in(4) {
-            let bytes = before.len() + seeded.index(6 * LINE);
-            machine.sweep_to_byte(Some(&said), bytes);
-        } else {
-            let most = start + all.saturating_sub(start) / 300;
-            machine.sweep_for(Some(&said), most.mul_f64(2.0 * seeded.unit()));
-        }
+        match seeded.below(4) {
+            0 => machine.sweep_to_byte(Some(&said), before.len() + seeded.index(4 * LINE)),
+            1 => machine.sweep_for(Some(&said), start.mul_f64(1.2 * seeded.unit())),
+            _ => machine.sweep_beyond(Some(&said), before.len() + seeded.index(2 * LINE), Duration::from_micros(seeded.below(500))),
+        };
         kills += 1;
         let now = machine.journal();
         // A process that ended before it shortened has left the tail; else the tail is gone and whole lines may follow.

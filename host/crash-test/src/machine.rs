@@ -86,6 +86,16 @@ impl<'a> Machine<'a> {
         let _ = child.kill();
         ended(child)
     }
+    /// Sweeps, and is killed this long after the journal has grown beyond this many bytes.
+    pub fn sweep_beyond(&self, order: Option<&str>, bytes: usize, time: Duration) -> Ended {
+        let mut child = self.command(&sweep_words(order)).spawn().unwrap();
+        while fs::metadata(self.path()).map_or(true, |m| m.len() as usize <= bytes) && child.try_wait().unwrap().is_none() {
+            sleep(Duration::from_micros(50));
+        }
+        sleep(time);
+        let _ = child.kill();
+        ended(child)
+    }
     /// The mask that the program collects.
     pub fn mask(&self) -> Vec<u8> {
         let ended = self.run(&["mask", "plan.toml", "--form", "raw"]);

@@ -83,7 +83,7 @@ fn run(folder: &Path, seconds: u64, seed: u64) -> Tally {
         for order in &orders {
             cuts::every_byte(case, order, &at("bytes"), &mut tally);
         }
-        done(format!("every byte: {}, {} orders of {} chunks: {} cuts", case.name, orders.len(), chunks, tally.cuts - before));
+        done(format!("every byte: {}, orders of chunks: {}, cuts: {}", case.name, orders.len(), tally.cuts - before));
     }
     cuts::every_byte_of_the_digest(&example, &at("digest"), &mut tally);
     done("every byte of the digest".into());
@@ -95,7 +95,7 @@ fn run(folder: &Path, seconds: u64, seed: u64) -> Tally {
         done(what);
     }
 
-    let large = Case::drawn("40 targets, 1,000 times, 720 rolls", 5, 40, 1000, 720, 0.2, None);
+    let large = Case::drawn("40 targets, 1,000 times, 3,600 rolls", 5, 40, 1000, 3600, 0.03, None);
     let until = Instant::now() + Duration::from_secs(seconds);
     let half = Instant::now() + Duration::from_secs(seconds) / 2;
     let before = tally.cuts;
