@@ -14,17 +14,12 @@ use std::{env, fs, path::Path};
 const ROOT: u64 = 1; // x, root
 const ARCTANGENT: u64 = 2; // y, z, angle
 const DIFFERENCE: u64 = 3; // a, b, difference
-const PLAN: u64 = 4; // rows, times, tolerance, configured (0 or 1), roll, panel, targets, suns, observers: of the records below it
-const ROLLS: u64 = 5; // mask of the cells that are not Free, named value of each cell
-const BATCH: u64 = 6; // mask
-const AT_ROLL: u64 = 7; // fixed (0 or 1), roll, mask
-const ROW: u64 = 8; // target, mask, severities
-const SWEEP: u64 = 9; // n, mask, probes of each chunk
-const EVERY_ROLL: u64 = 10; // n, mask
-const REGARD: u64 = 11; // time, n, mask of the targets
-const REGARD_AT_ROLL: u64 = 12; // time, roll, mask of the targets
-const WINDOWS: u64 = 13; // samples, mask, times, severities; violation windows, visibility windows: each a count, then six words a window
-const EXPAND: u64 = 14; // windows, samples, first times, last times, times; mask, seconds
+                           // The next three begin with a plan: rows, times, tolerance, configured (0 or 1), roll, panel, targets, suns, observers.
+const ROLLS: u64 = 4; // mask of the cells that are not Free, named values; mask of the batch; roll, mask as Sweep; roll, mask as Fixed; target, mask, severities
+const SWEEP: u64 = 5; // n, mask, probes of each chunk
+const OTHERS: u64 = 6; // n, mask at every roll; time, mask of the targets; roll, mask of the targets at it
+const WINDOWS: u64 = 7; // samples, mask, times, severities; violation windows, visibility windows: each a count, then six words a window
+const EXPAND: u64 = 8; // windows, samples, first times, last times, times; mask, seconds
 
 #[derive(Default)]
 struct File(String);
@@ -74,12 +69,13 @@ fn section_1() -> File {
     f
 }
 
-/// A plan's record, and the original that answers for it.
-fn lend(f: &mut File, p: &Plan) -> Oracle {
+fn words(p: &Plan) -> Vec<u64> {
     let configured = [p.roll_deg.is_some() as u64, bits(p.roll_deg.unwrap_or(0.0))];
     let sizes = [p.rows() as u64, p.times() as u64, bits(p.tolerance_deg)];
-    let lists = [floats(&p.panel_normal), floats(&p.targets), floats(&p.suns), floats(&p.observers)].concat();
-    f.line(PLAN, &[&sizes, &configured, &lists]);
+    [&sizes[..], &configured, &floats(&p.panel_normal), &floats(&p.targets), &floats(&p.suns), &floats(&p.observers)].concat()
+}
+
+fn original(p: &Plan) -> Oracle {
     Oracle::new(p, &(0..p.times() as i64).collect::<Vec<_>>())
 }
 
@@ -93,17 +89,13 @@ fn rolls(f: &mut File, s: &mut Seeded, targets: Targets) {
     let mut p = small(s, targets);
     p.roll_deg = if s.once_in(4) { None } else { Some(roll(s, &p)) };
     for_roll(s, &mut p);
-    let o = lend(f, &p);
-    f.line(ROLLS, &[&mask(&o.not_free()), &floats(&o.named_values())]);
-    f.line(BATCH, &[&mask(&o.in_constraint_batch())]);
-    for fixed in [0, 1] {
-        let at = roll(s, &p);
-        let marks = o.in_constraint_batch_at_roll(if fixed == 0 { Roll::Sweep(at) } else { Roll::Fixed(at) });
-        f.line(AT_ROLL, &[&[fixed, bits(at)], &mask(&marks)]);
-    }
-    let target = s.index(p.rows());
+    let o = original(&p);
+    let (sweep, fixed, target) = (roll(s, &p), roll(s, &p), s.index(p.rows()));
     let (marks, severities) = o.row(target);
-    f.line(ROW, &[&[target as u64], &mask(&marks), &floats(&severities)]);
+    let (at_sweep, at_fixed) = (o.in_constraint_batch_at_roll(Roll::Sweep(sweep)), o.in_constraint_batch_at_roll(Roll::Fixed(fixed)));
+    let cells = [mask(&o.not_free()), floats(&o.named_values()), mask(&o.in_constraint_batch())].concat();
+    let at_rolls = [vec![bits(sweep)], mask(&at_sweep), vec![bits(fixed)], mask(&at_fixed)].concat();
+    f.line(ROLLS, &[&words(&p), &cells, &at_rolls, &[target as u64], &mask(&marks), &floats(&severities)]);
 }
 
 /// Section 3: sweeps.
@@ -111,10 +103,9 @@ fn sweeps(f: &mut File, s: &mut Seeded, targets: Targets) {
     let mut p = small(s, targets);
     let n = samples(s);
     for_sweep(s, &mut p, n);
-    let o = lend(f, &p);
-    let (marks, tried) = o.sweep(n);
+    let (marks, tried) = original(&p).sweep(n);
     let probes: Vec<u64> = tried.chunks(64).map(|chunk| chunk.iter().sum()).collect();
-    f.line(SWEEP, &[&[n], &mask(&marks), &probes]);
+    f.line(SWEEP, &[&words(&p), &[n], &mask(&marks), &probes]);
 }
 
 /// Section 6.
@@ -122,12 +113,9 @@ fn others(f: &mut File, s: &mut Seeded, targets: Targets) {
     let mut p = small(s, targets);
     let n = if s.once_in(10) { 0 } else { samples(s) };
     for_sweep(s, &mut p, n.max(1));
-    let o = lend(f, &p);
-    f.line(EVERY_ROLL, &[&[n], &mask(&o.constrained_at_every_roll(n))]);
-    let time = s.index(p.times());
-    f.line(REGARD, &[&[time as u64, n], &mask(&o.field_of_regard_violated_batch(time, n))]);
-    let at = roll(s, &p);
-    f.line(REGARD_AT_ROLL, &[&[time as u64, bits(at)], &mask(&o.field_of_regard_violated_at_roll(time, at))]);
+    let (o, time, at) = (original(&p), s.index(p.times()), roll(s, &p));
+    let marks = [mask(&o.field_of_regard_violated_batch(time, n)), vec![bits(at)], mask(&o.field_of_regard_violated_at_roll(time, at))];
+    f.line(OTHERS, &[&words(&p), &[n], &mask(&o.constrained_at_every_roll(n)), &[time as u64], &marks.concat()]);
 }
 
 fn listed(list: &[Window]) -> Vec<u64> {
