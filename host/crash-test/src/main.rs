@@ -50,7 +50,7 @@ fn main() {
     let memory = Path::new("/dev/shm");
     let base = if memory.is_dir() { memory.to_owned() } else { env::temp_dir() };
     let folder = base.join(format!("wilfnusk-crash-test-{}", process::id()));
-    println!("cutting the power of {} (seed {})", machine::program().display(), seed);
+    println!("cutting the power of {} in {} (seed {})", machine::program().display(), folder.display(), seed);
     let tally = run(&folder, seconds, seed);
     fs::remove_dir_all(&folder).unwrap();
     println!(
