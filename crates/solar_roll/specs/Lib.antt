@@ -3,3 +3,6 @@ pub mod Vectors
 pub mod Roll
 pub mod Cell
 pub mod Plan
+pub mod Mask
+pub mod Row
+pub mod Field

@@ -1,6 +1,7 @@
 // Solar roll, ported from solar_roll.rs: a cell's optimal roll, the cells that a roll violates, and
 // the plan whose cells they are.
 mod cell;
+mod mask;
 mod plan;
 mod roll;
 mod vectors;
@@ -12,6 +13,7 @@ pub use cell::cell_roll;
 pub use cell::in_force;
 pub use cell::roll_in;
 pub use cell::violated;
+pub use mask::MarkRule;
 pub use plan::SolarRollConfig;
 pub use plan::direction;
 pub use plan::plan_refusal;

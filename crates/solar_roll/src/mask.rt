@@ -1,0 +1,225 @@
+// Masks: a byte a cell, 0 clear or 1 marked, in order of cell number; and the cells' named values.
+use crate::cell::CellRoll;
+use crate::cell::ConfiguredRoll;
+use crate::cell::EvaluationRoll;
+use crate::cell::in_force;
+use crate::cell::roll_in;
+use crate::cell::violated;
+use crate::plan::SolarRollConfig;
+use crate::plan::direction;
+use crate::plan::plan_refusal;
+use crate::plan::row_config;
+use crate::plan::sampling_or_none;
+use crate::plan::triple;
+use crate::roll::Panel;
+use crate::roll::body_axes;
+use crate::roll::panel_of;
+use crate::roll::sun_unit;
+use buffers::Answer;
+use float::rem_euclid;
+ghost use mathlib.Core.Path.{_≡_};
+ghost use Prim.Native.Nat.{ℕ, _+_, _*_, _≤_, _<_};
+ghost use lib.ListN.{length};
+ghost use Rattle.buffers.specs.Ranges.{flag};
+ghost use Rattle.buffers.specs.Lent.{filled};
+ghost use Rattle.buffers.specs.Refusal.{replyOf};
+ghost use Rattle.solar_roll.specs.Roll.{bodyAxes, sunUnit};
+ghost use Rattle.solar_roll.specs.Cell.{rollIn};
+ghost use Rattle.solar_roll.specs.Plan.{planOf, triple, cells, timesOf, headConfigured};
+ghost use Rattle.solar_roll.specs.Mask.{sampleStep, stepDistance, missesSteps, marked, atRoll, atConfigured, atEveryRoll, cellMark, cellsRefusal, cellsReply, maskAfter};
+
+// How many times' Sun units are held at once.
+const BLOCK: usize = 2048;
+
+// What marks a cell: a roll too far from its optimal roll, every multiple of a step too far from it,
+// or nothing.
+pub enum MarkRule {
+    AtRoll(f64),
+    EveryStep(f64),
+    Nothing,
+}
+
+// The even step of n samples.
+fn sample_step(n: u64) -> f64
+    ensures { λ r. ⌜ r ≡ sampleStep n ⌝ }
+{
+    360.0 / (n as f64)
+}
+
+// How far a roll is from the nearest multiple of a step.
+fn step_distance(roll_deg: f64, step: f64) -> f64
+    ensures { λ r. ⌜ r ≡ stepDistance «roll_deg» step ⌝ }
+{
+    let phase = rem_euclid(roll_deg, step);
+    let rest = step - phase;
+    if rest < phase { rest } else { phase }
+}
+
+// Whether every multiple of a step violates the cell.
+fn misses_steps(cell: CellRoll, step: f64, tolerance_deg: f64) -> bool
+    ensures { λ r. ⌜ r ≡ missesSteps cell step «tolerance_deg» ⌝ }
+{
+    match cell {
+        CellRoll::Free => false,
+        CellRoll::At(optimal) => step_distance(optimal, step) > tolerance_deg,
+        CellRoll::Refused(_) => false,
+    }
+}
+
+fn byte(b: bool) -> u8
+    ensures { λ r. ⌜ r ≡ flag b ⌝ }
+{
+    if b { 1 } else { 0 }
+}
+
+// The byte of a cell by a rule. Where nothing is marked, no roll is worked out.
+pub(crate) fn mark_byte(
+    axes: [[f64; 3]; 3],
+    sun_unit: [f64; 3],
+    panel: Panel,
+    rule: MarkRule,
+    tolerance_deg: f64,
+) -> u8
+    ensures { λ r. ⌜ r ≡ flag (marked (rollIn axes «sun_unit» panel) rule «tolerance_deg») ⌝ }
+{
+    match rule {
+        MarkRule::AtRoll(roll) => byte(violated(
+            roll_in(axes, sun_unit, panel),
+            roll,
+            tolerance_deg,
+        )),
+        MarkRule::EveryStep(step) => byte(misses_steps(
+            roll_in(axes, sun_unit, panel),
+            step,
+            tolerance_deg,
+        )),
+        MarkRule::Nothing => 0,
+    }
+}
+
+// A configured roll overrides Sweep, never Fixed.
+fn at_roll(roll: EvaluationRoll, configured: ConfiguredRoll) -> MarkRule
+    ensures { λ r. ⌜ r ≡ atRoll roll configured ⌝ }
+{
+    MarkRule::AtRoll(in_force(roll, configured))
+}
+
+// Without a configured roll nothing is marked.
+fn at_configured(configured: ConfiguredRoll) -> MarkRule
+    ensures { λ r. ⌜ r ≡ atConfigured configured ⌝ }
+{
+    match configured {
+        ConfiguredRoll::None => MarkRule::Nothing,
+        ConfiguredRoll::Some(roll) => MarkRule::AtRoll(roll),
+    }
+}
+
+// A configured roll is looked at before n, and 0 samples mark nothing.
+fn at_every_roll(n: u64, configured: ConfiguredRoll) -> MarkRule
+    ensures { λ r. ⌜ r ≡ atEveryRoll n configured ⌝ }
+{
+    match configured {
+        ConfiguredRoll::None => {
+            if n == 0 {
+                MarkRule::Nothing
+            } else {
+                MarkRule::EveryStep(sample_step(n))
+            }
+        }
+        ConfiguredRoll::Some(roll) => MarkRule::AtRoll(roll),
+    }
+}
+
+// Writes the Sun's units of `count` times, from the time `from` on.
+fn fill_units(suns: &[f64], observers: &[f64], from: usize, count: usize, units: &mut [f64])
+    requires { ⌜ (3 * count ≤ length (now units)) × (from + count < 2097152) ⌝ }
+    ensures { λ _. ⌜ ((t : ℕ) → t < count → triple (now (units .exit)) t ≡ sunUnit (triple (now (suns .entry)) (from + t)) (triple (now (observers .entry)) (from + t))) ⌝ }
+{
+    let mut j = 0;
+    while j < count {
+        let sun = triple(suns, from + j);
+        let observer = triple(observers, from + j);
+        let unit = sun_unit(sun, observer);
+        let k = 3 * j;
+        units[k] = unit[0];
+        units[k + 1] = unit[1];
+        units[k + 2] = unit[2];
+        j += 1;
+    }
+}
+
+// Writes the bytes of `count` cells of a row, whose Sun units lie in `units`.
+fn mark_row(
+    target: [f64; 3],
+    tolerance_deg: f64,
+    panel: Panel,
+    units: &[f64],
+    count: usize,
+    rule: MarkRule,
+    mask: &mut [u8],
+)
+    requires { ⌜ count ≤ length (now mask) ⌝ }
+    ensures { λ _. ⌜ now (mask .exit) ≡ filled count (λ j. flag (marked (rollIn (bodyAxes target) (triple (now (units .entry)) j) panel) rule «tolerance_deg»)) (now (mask .entry)) ⌝ }
+{
+    let axes = body_axes(target);
+    let mut j = 0;
+    while j < count {
+        let unit = triple(units, j);
+        mask[j] = mark_byte(axes, unit, panel, rule, tolerance_deg);
+        j += 1;
+    }
+}
+
+// How many times the block has that starts at the time `from`.
+fn block_length(times: usize, from: usize) -> usize
+    requires { ⌜ from < times ⌝ }
+    ensures { λ r. ⌜ (0 < r) × (r ≤ 2048) × (from + r ≤ times) ⌝ }
+{
+    if times - from < BLOCK {
+        times - from
+    } else {
+        BLOCK
+    }
+}
+
+// Writes the byte of each cell: block by block of times, so that a Sun's unit is worked out once,
+// and in a block row by row, so that a target's axes are.
+fn mark(
+    targets: &[f64],
+    suns: &[f64],
+    observers: &[f64],
+    config: SolarRollConfig,
+    rule: MarkRule,
+    mask: &mut [u8],
+)
+    requires { ⌜ (cells (planOf (now targets) (now suns) (now observers) config) ≤ length (now mask)) × (timesOf (planOf (now targets) (now suns) (now observers) config) ≤ 65536) ⌝ }
+    ensures { λ _. ⌜ now (mask .exit) ≡ filled (cells (planOf (now (targets .entry)) (now (suns .entry)) (now (observers .entry)) config)) (cellMark (planOf (now (targets .entry)) (now (suns .entry)) (now (observers .entry)) config) rule) (now (mask .entry)) ⌝ }
+{
+    let rows = targets.len() / 3;
+    let times = suns.len() / 3;
+    let normal = config.panel_normal;
+    let panel = panel_of(normal);
+    let mut units = [0.0; 6144];
+    let mut from = 0;
+    while from < times {
+        let count = block_length(times, from);
+        fill_units(suns, observers, from, count, &mut units);
+        let mut row = 0;
+        while row < rows {
+            let target = direction(targets, row);
+            let settings = row_config(config, row);
+            let start = row * times + from;
+            mark_row(
+                target,
+                settings.tolerance_deg,
+                panel,
+                &units,
+                count,
+                rule,
+                &mut mask[start..],
+            );
+            row += 1;
+        }
+        from += count;
+    }
+}
