@@ -2,7 +2,7 @@
 use mathlib.Core.Path.{_≡_, refl, sym, ap, ap₂, _∙_, subst}
 use mathlib.Core.List.{List, [], _∷_, _++_, append-assoc, append-nil}
 use Prim.Native.Nat.{ℕ, zero, suc, _+_, _-_, _<_, _≤_}
-use native.Mathlib.Nat.{add-zero, zero-add}
+use native.Mathlib.Nat.{add-zero, zero-add, le-of-eq}
 use native.Mathlib.Omega.{arith}
 use native.Mathlib.Numerals.{add-one}
 use lib.ListN.{length, getD, take, drop, set, length-append, length-drop, take-append-drop, drop-of-length-le, List·getD-append}
@@ -45,6 +45,21 @@ module _ {A : Type 0} (f : ℕ → A) where
 
   pub filled-chained : (n k : ℕ) (l m r : List A) → m ≡ filled n f l → r ≡ filled k f m → n ≤ k → r ≡ filled k f l
   filled-chained n k l m r e g h = g ∙ ap (λ (t : List A). filled k f t) e ∙ filled-more n k l h
+
+  -- an element of the list: in the places that are filled, and beyond
+  pub getD-filled : (n : ℕ) (l : List A) (d : A) (k : ℕ) → k < n → getD (filled n f l) k d ≡ f k
+  unfolding filled
+  getD-filled n l d k h = List·getD-append (tab n f) (drop n l) d k (omega (arith, length-tab n f)) ∙ getD-tab n f d k h
+
+  pub getD-filled-beyond : (n : ℕ) (l : List A) (d : A) (k : ℕ) → n ≤ k → getD (filled n f l) k d ≡ getD l k d
+  unfolding filled
+  getD-filled-beyond n l d k h =
+      let e : length (tab n f) + (k - n) ≡ k = omega (arith, length-tab n f) in
+      let g : n + (k - n) ≡ k = omega arith in
+      ap (λ (i : ℕ). getD (tab n f ++ drop n l) i d) (sym e)
+      ∙ getD-append-add (tab n f) (drop n l) (k - n) d
+      ∙ getD-drop n l (k - n) d
+      ∙ ap (λ (i : ℕ). getD l i d) g
 
   pub take-filled : (n : ℕ) (l : List A) → take n (filled n f l) ≡ tab n f
   unfolding filled
@@ -204,6 +219,9 @@ module _ {A : Type 0} where
       ∙ put-first (s ++ t) l
 
   -- the part from place i to the end, lent, and back with t over its first places
+  pub part-lent : (i : ℕ) (l : List A) → take (length l - i) (drop i l) ≡ drop i l
+  part-lent i l = take-all (length l - i) (drop i l) (le-of-eq (length-drop i l))
+
   pub over-part : (i : ℕ) (t l part : List A) → part ≡ over t (take (length l - i) (drop i l))
       → take i l ++ (part ++ drop (length l - i) (drop i l)) ≡ put i t l
   over-part i t l part e =
@@ -225,3 +243,8 @@ module _ {A : Type 0} (f : ℕ → A) where
       ∙ over-put n (tab n f) t l (sym (length-tab n f)) (omega arith)
       ∙ ap (λ (s : List A). over s l) (ap (λ (s : List A). tab n f ++ s) e ∙ sym (tab-add n w f))
       ∙ sym (filled-over (n + w) l)
+
+  -- a part lent, and back with its first places filled
+  pub filled-part : (i n : ℕ) (l part : List A) → part ≡ filled n f (take (length l - i) (drop i l))
+      → take i l ++ (part ++ drop (length l - i) (drop i l)) ≡ put i (tab n f) l
+  filled-part i n l part e = over-part i (tab n f) l part (e ∙ filled-over n (take (length l - i) (drop i l)))

@@ -2,3 +2,4 @@
 pub mod Ranges
 pub mod Lent
 pub mod Refusal
+pub mod Rows

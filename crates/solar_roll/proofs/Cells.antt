@@ -1,16 +1,16 @@
--- Laws of one cell: the answer from what rows and panels share, an answer that is not refused, a triple past the end. Assumes nothing.
+-- Laws of one cell: the answer from what rows and panels share; an answer that is not refused. Assumes nothing.
 use mathlib.Core.Path.{_≡_, refl}
 use mathlib.Core.Bool.{Bool, true, false, cond}
-use mathlib.Core.List.{List}
-use Prim.Native.Nat.{ℕ, _+_, _*_, _≤_}
-use native.Mathlib.Omega.{arith}
-use lib.ListN.{length, List·getD-eq-default}
-use lib.Ieee.{Float, nan}
+use Prim.Native.Nat.{ℕ}
+use Rattle.buffers.specs.Ranges.{flag}
 use Rattle.buffers.specs.Refusal.{accepted}
-use Rattle.solar_roll.specs.Vectors.{Vector, vector}
+use Rattle.solar_roll.specs.Vectors.{Vector}
 use Rattle.solar_roll.specs.Roll.{bodyAxes, panelOf, rollIsUnconstrained, solarOptimalRollDeg}
 use Rattle.solar_roll.specs.Cell.{optimalRoll, rollIn, cellReply}
-use Rattle.solar_roll.specs.Plan.{triple}
+use Rattle.solar_roll.specs.Plan.{Plan, directionOf, configOf, rowConfig, sunAt, cellOf, headPanel}
+use Rattle.solar_roll.specs.Mask.{marked, markAt}
+use Rattle.solar_roll.specs.declared.roll.Panel.{Panel}
+use Rattle.solar_roll.specs.declared.mask.MarkRule.{MarkRule}
 use Rattle.solar_roll.specs.declared.cell.CellRoll.the-variants.{Free, At}
 
 -- what a row and a panel share makes the same answer
@@ -27,11 +27,8 @@ answered target sun normal = go (rollIsUnconstrained target sun normal)
     go true = refl
     go false = refl
 
--- past the end a triple is NaN
-pub triple-past : (xs : List Float) (i : ℕ) → length xs ≤ i → vector nan nan nan ≡ triple xs i
-unfolding triple
-triple-past xs i h =
-    let a : length xs ≤ 3 * i = omega arith in
-    let b : length xs ≤ 3 * i + 1 = omega arith in
-    let c : length xs ≤ 3 * i + 2 = omega arith in
-    simp (List·getD-eq-default xs nan a, List·getD-eq-default xs nan b, List·getD-eq-default xs nan c)
+-- the byte of row r at time j, from what the row, the time and the panel share
+pub mark-shared : (p : Plan) (rule : MarkRule) (r j : ℕ) (unit : Vector) (panel : Panel) → unit ≡ sunAt p j → panel ≡ panelOf (headPanel p) →
+    flag (marked (rollIn (bodyAxes (directionOf p r)) unit panel) rule (configOf p r .«tolerance_deg»)) ≡ markAt p rule r j
+unfolding markAt cellOf rowConfig headPanel
+mark-shared p rule r j unit panel e g = simp (e, g, roll-shared)

@@ -1,3 +1,4 @@
 -- Laws of specs/.
-pub mod Cells
 pub mod Accepted
+pub mod Cells
+pub mod Triples

@@ -4,6 +4,7 @@ mod cell;
 mod mask;
 mod plan;
 mod roll;
+mod units;
 mod vectors;
 
 pub use cell::CellRoll;

@@ -14,22 +14,22 @@ use crate::plan::triple;
 use crate::roll::Panel;
 use crate::roll::body_axes;
 use crate::roll::panel_of;
-use crate::roll::sun_unit;
+use crate::units::block_length;
+use crate::units::fill_units;
 use buffers::Answer;
 use float::rem_euclid;
 ghost use mathlib.Core.Path.{_≡_};
-ghost use Prim.Native.Nat.{ℕ, _+_, _*_, _≤_, _<_};
+ghost use Prim.Native.Nat.{_+_, _-_, _*_, _≤_};
 ghost use lib.ListN.{length};
 ghost use Rattle.buffers.specs.Ranges.{flag};
 ghost use Rattle.buffers.specs.Lent.{filled};
+ghost use Rattle.buffers.specs.Rows.{Columns};
 ghost use Rattle.buffers.specs.Refusal.{replyOf};
-ghost use Rattle.solar_roll.specs.Roll.{bodyAxes, sunUnit};
+ghost use Rattle.solar_roll.specs.Roll.{bodyAxes};
 ghost use Rattle.solar_roll.specs.Cell.{rollIn};
-ghost use Rattle.solar_roll.specs.Plan.{planOf, triple, cells, timesOf, headConfigured};
+ghost use Rattle.solar_roll.specs.Plan.{count as countOf};
+ghost use Rattle.solar_roll.specs.Plan.{planOf, triple, rowDirection, rowConfig, cells, headConfigured};
 ghost use Rattle.solar_roll.specs.Mask.{sampleStep, stepDistance, missesSteps, marked, atRoll, atConfigured, atEveryRoll, cellMark, cellsRefusal, cellsReply, maskAfter};
-
-// How many times' Sun units are held at once.
-const BLOCK: usize = 2048;
 
 // What marks a cell: a roll too far from its optimal roll, every multiple of a step too far from it,
 // or nothing.
@@ -40,7 +40,7 @@ pub enum MarkRule {
 }
 
 // The even step of n samples.
-fn sample_step(n: u64) -> f64
+fn sample_step(n: u32) -> f64
     ensures { λ r. ⌜ r ≡ sampleStep n ⌝ }
 {
     360.0 / (n as f64)
@@ -66,7 +66,7 @@ fn misses_steps(cell: CellRoll, step: f64, tolerance_deg: f64) -> bool
     }
 }
 
-fn byte(b: bool) -> u8
+pub(crate) fn byte(b: bool) -> u8
     ensures { λ r. ⌜ r ≡ flag b ⌝ }
 {
     if b { 1 } else { 0 }
@@ -98,14 +98,14 @@ pub(crate) fn mark_byte(
 }
 
 // A configured roll overrides Sweep, never Fixed.
-fn at_roll(roll: EvaluationRoll, configured: ConfiguredRoll) -> MarkRule
+pub(crate) fn at_roll(roll: EvaluationRoll, configured: ConfiguredRoll) -> MarkRule
     ensures { λ r. ⌜ r ≡ atRoll roll configured ⌝ }
 {
     MarkRule::AtRoll(in_force(roll, configured))
 }
 
 // Without a configured roll nothing is marked.
-fn at_configured(configured: ConfiguredRoll) -> MarkRule
+pub(crate) fn at_configured(configured: ConfiguredRoll) -> MarkRule
     ensures { λ r. ⌜ r ≡ atConfigured configured ⌝ }
 {
     match configured {
@@ -115,7 +115,8 @@ fn at_configured(configured: ConfiguredRoll) -> MarkRule
 }
 
 // A configured roll is looked at before n, and 0 samples mark nothing.
-fn at_every_roll(n: u64, configured: ConfiguredRoll) -> MarkRule
+pub(crate) fn at_every_roll(n: u64, configured: ConfiguredRoll) -> MarkRule
+    requires { ⌜ n ≤ 3600 ⌝ }
     ensures { λ r. ⌜ r ≡ atEveryRoll n configured ⌝ }
 {
     match configured {
@@ -123,28 +124,10 @@ fn at_every_roll(n: u64, configured: ConfiguredRoll) -> MarkRule
             if n == 0 {
                 MarkRule::Nothing
             } else {
-                MarkRule::EveryStep(sample_step(n))
+                MarkRule::EveryStep(sample_step(n as u32))
             }
         }
         ConfiguredRoll::Some(roll) => MarkRule::AtRoll(roll),
-    }
-}
-
-// Writes the Sun's units of `count` times, from the time `from` on.
-fn fill_units(suns: &[f64], observers: &[f64], from: usize, count: usize, units: &mut [f64])
-    requires { ⌜ (3 * count ≤ length (now units)) × (from + count < 2097152) ⌝ }
-    ensures { λ _. ⌜ ((t : ℕ) → t < count → triple (now (units .exit)) t ≡ sunUnit (triple (now (suns .entry)) (from + t)) (triple (now (observers .entry)) (from + t))) ⌝ }
-{
-    let mut j = 0;
-    while j < count {
-        let sun = triple(suns, from + j);
-        let observer = triple(observers, from + j);
-        let unit = sun_unit(sun, observer);
-        let k = 3 * j;
-        units[k] = unit[0];
-        units[k + 1] = unit[1];
-        units[k + 2] = unit[2];
-        j += 1;
     }
 }
 
@@ -170,15 +153,38 @@ fn mark_row(
     }
 }
 
-// How many times the block has that starts at the time `from`.
-fn block_length(times: usize, from: usize) -> usize
-    requires { ⌜ from < times ⌝ }
-    ensures { λ r. ⌜ (0 < r) × (r ≤ 2048) × (from + r ≤ times) ⌝ }
+// Writes the bytes of every row at `count` times from the time `from` on, whose Sun units lie in
+// `units`.
+fn mark_block(
+    targets: &[f64],
+    config: SolarRollConfig,
+    panel: Panel,
+    units: &[f64],
+    times: usize,
+    from: usize,
+    count: usize,
+    rule: MarkRule,
+    mask: &mut [u8],
+)
+    requires { ⌜ (countOf (now targets) * times ≤ length (now mask)) × (from + count ≤ times) ⌝ }
+    ensures { λ _. ⌜ Columns (countOf (now (targets .entry))) times (countOf (now (targets .entry))) from count (λ r j. flag (marked (rollIn (bodyAxes (rowDirection (now (targets .entry)) r)) (triple (now (units .entry)) (j - from)) panel) rule (rowConfig config r .«tolerance_deg»))) 0 (now (mask .entry)) (now (mask .exit)) ⌝ }
 {
-    if times - from < BLOCK {
-        times - from
-    } else {
-        BLOCK
+    let rows = targets.len() / 3;
+    let mut row = 0;
+    while row < rows {
+        let target = direction(targets, row);
+        let settings = row_config(config, row);
+        let start = row * times + from;
+        mark_row(
+            target,
+            settings.tolerance_deg,
+            panel,
+            units,
+            count,
+            rule,
+            &mut mask[start..],
+        );
+        row += 1;
     }
 }
 
@@ -192,10 +198,9 @@ fn mark(
     rule: MarkRule,
     mask: &mut [u8],
 )
-    requires { ⌜ (cells (planOf (now targets) (now suns) (now observers) config) ≤ length (now mask)) × (timesOf (planOf (now targets) (now suns) (now observers) config) ≤ 65536) ⌝ }
+    requires { ⌜ (cells (planOf (now targets) (now suns) (now observers) config) ≤ length (now mask)) × (countOf (now suns) ≤ 65536) ⌝ }
     ensures { λ _. ⌜ now (mask .exit) ≡ filled (cells (planOf (now (targets .entry)) (now (suns .entry)) (now (observers .entry)) config)) (cellMark (planOf (now (targets .entry)) (now (suns .entry)) (now (observers .entry)) config) rule) (now (mask .entry)) ⌝ }
 {
-    let rows = targets.len() / 3;
     let times = suns.len() / 3;
     let normal = config.panel_normal;
     let panel = panel_of(normal);
@@ -204,22 +209,7 @@ fn mark(
     while from < times {
         let count = block_length(times, from);
         fill_units(suns, observers, from, count, &mut units);
-        let mut row = 0;
-        while row < rows {
-            let target = direction(targets, row);
-            let settings = row_config(config, row);
-            let start = row * times + from;
-            mark_row(
-                target,
-                settings.tolerance_deg,
-                panel,
-                &units,
-                count,
-                rule,
-                &mut mask[start..],
-            );
-            row += 1;
-        }
+        mark_block(targets, config, panel, &units, times, from, count, rule, mask);
         from += count;
     }
 }
