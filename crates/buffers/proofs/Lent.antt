@@ -9,7 +9,7 @@ use lib.ListN.{length, getD, take, drop, set, length-append, length-drop, take-a
 use lib.Seq.{drop-cons, set-at, drop-append-add, drop-drop, take-at, length-take-le, getD-append-add, getD-take, getD-drop, take-add, take-all}
 use Rattle.buffers.specs.Ranges.{tab}
 use Rattle.buffers.specs.Lent.{over, filled, put}
-use Rattle.buffers.proofs.Ranges.{length-tab, getD-tab, tab-next, tab-add}
+use Rattle.buffers.proofs.Ranges.{length-tab, getD-tab, tab-next, tab-add, tab-ext}
 
 -- ---- the first places filled: one store a turn
 
@@ -21,6 +21,10 @@ module _ {A : Type 0} (f : ℕ → A) where
   pub length-filled : (n : ℕ) (l : List A) → n ≤ length l → length (filled n f l) ≡ length l
   unfolding filled
   length-filled n l h = simp (length-append, length-tab, length-drop) (omega arith)
+
+  pub filled-ext : (g : ℕ → A) (n : ℕ) (l : List A) → ((k : ℕ) → k < n → f k ≡ g k) → filled n f l ≡ filled n g l
+  unfolding filled
+  filled-ext g n l h = ap (λ (t : List A). t ++ drop n l) (tab-ext n f g h)
 
   -- a store of the next value
   pub filled-next : (n : ℕ) (l : List A) (v : A) → n < length l → v ≡ f n → set (filled n f l) n v ≡ filled (n + 1) f l

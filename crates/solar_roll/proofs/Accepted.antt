@@ -68,3 +68,11 @@ plan-facts p sampling beyond h =
       targets-small = c5 .0;
       panel-small = c6 .0;
     }
+
+-- nothing was said in the place of 3
+pub no-sampling : (p : Plan) (sampling : ℕ) (beyond : Bool) → planRefusal p sampling beyond ≡ 0 → sampling ≡ 0
+unfolding planRefusal
+no-sampling p sampling beyond h =
+    let c1 = first-clear _ _ _ (lit< tt) h in
+    let c2 = first-clear _ _ _ (lit< tt) (c1 .1) in
+    carried-clear _ _ (c2 .1) .0

@@ -1,4 +1,5 @@
 -- Laws of specs/.
 pub mod Accepted
+pub mod Calls
 pub mod Cells
 pub mod Triples

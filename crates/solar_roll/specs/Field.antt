@@ -6,8 +6,9 @@ use lib.Dec.{leb, ltb}
 use lib.ListN.{length}
 use Rattle.buffers.specs.Lent.{filled}
 use Rattle.buffers.specs.Refusal.{first, carried, Reply, reply, unlessRefused}
-use Rattle.solar_roll.specs.Plan.{Plan, rowsOf, timesOf, planRefusal}
+use Rattle.solar_roll.specs.Plan.{Plan, rowsOf, timesOf, headConfigured, planRefusal}
 use Rattle.solar_roll.specs.Mask.{markAt}
+use Rattle.solar_roll.specs.declared.cell.ConfiguredRoll.{ConfiguredRoll}
 use Rattle.solar_roll.specs.declared.mask.MarkRule.{MarkRule}
 
 -- ---- the calls: the plan's refusals, then 9, the time index not below times, then 7
@@ -25,6 +26,7 @@ fieldRefusal p sampling time room =
 unfoldable pub fieldReply : Plan → ℕ → ℕ → ℕ → Reply ℕ
 fieldReply p sampling time room = reply (fieldRefusal p sampling time room) 0
 
-unfoldable pub fieldAfter : Plan → ℕ → ℕ → MarkRule → List ℕ → List ℕ
+-- what a call leaves in the lent mask, by the rule that it makes of the configured roll
+unfoldable pub fieldAfter : Plan → ℕ → ℕ → (ConfiguredRoll → MarkRule) → List ℕ → List ℕ
 fieldAfter p sampling time rule mask =
-    unlessRefused (fieldRefusal p sampling time (length mask)) (filled (rowsOf p) (λ r. markAt p rule r time) mask) mask
+    unlessRefused (fieldRefusal p sampling time (length mask)) (filled (rowsOf p) (λ r. markAt p (rule (headConfigured p)) r time) mask) mask

@@ -13,7 +13,7 @@ use Rattle.buffers.specs.Refusal.{first, carried, Reply, reply, unlessRefused}
 use Rattle.float.specs.Arithmetic.{fullTurn, remEuclid}
 use Rattle.solar_roll.specs.Roll.{solarOptimalRollDeg}
 use Rattle.solar_roll.specs.Cell.{violates, inForce}
-use Rattle.solar_roll.specs.Plan.{Plan, rowsOf, timesOf, cells, directionOf, configOf, sunAt, cellOf, planRefusal}
+use Rattle.solar_roll.specs.Plan.{Plan, rowsOf, timesOf, cells, directionOf, configOf, sunAt, cellOf, headConfigured, planRefusal}
 use Rattle.solar_roll.specs.declared.cell.CellRoll.{CellRoll}
 use Rattle.solar_roll.specs.declared.cell.CellRoll.the-variants as cell
 use Rattle.solar_roll.specs.declared.cell.ConfiguredRoll.{ConfiguredRoll}
@@ -93,9 +93,10 @@ cellsRefusal p sampling room =
 unfoldable pub cellsReply : Plan → ℕ → ℕ → Reply ℕ
 cellsReply p sampling room = reply (cellsRefusal p sampling room) 0
 
--- what a mask call by a rule leaves in the lent mask
-unfoldable pub maskAfter : Plan → ℕ → MarkRule → List ℕ → List ℕ
-maskAfter p sampling rule mask = unlessRefused (cellsRefusal p sampling (length mask)) (filled (cells p) (cellMark p rule) mask) mask
+-- what a mask call leaves in the lent mask, by the rule that it makes of the configured roll
+unfoldable pub maskAfter : Plan → ℕ → (ConfiguredRoll → MarkRule) → List ℕ → List ℕ
+maskAfter p sampling rule mask =
+    unlessRefused (cellsRefusal p sampling (length mask)) (filled (cells p) (cellMark p (rule (headConfigured p))) mask) mask
 
 -- what the call for named values leaves in the lent list
 unfoldable pub valuesAfter : Plan → List Float → List Float

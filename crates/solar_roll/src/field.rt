@@ -1,9 +1,9 @@
 // Field of regard: the mark of each row at one time.
+use crate::cell::EvaluationRoll;
 use crate::mask::MarkRule;
 use crate::mask::at_every_roll;
 use crate::mask::at_roll;
 use crate::mask::mark_byte;
-use crate::cell::EvaluationRoll;
 use crate::plan::SolarRollConfig;
 use crate::plan::direction;
 use crate::plan::plan_refusal;

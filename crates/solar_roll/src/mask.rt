@@ -28,7 +28,7 @@ ghost use Rattle.buffers.specs.Refusal.{replyOf};
 ghost use Rattle.solar_roll.specs.Roll.{bodyAxes};
 ghost use Rattle.solar_roll.specs.Cell.{rollIn};
 ghost use Rattle.solar_roll.specs.Plan.{count as countOf};
-ghost use Rattle.solar_roll.specs.Plan.{planOf, triple, rowDirection, rowConfig, cells, headConfigured};
+ghost use Rattle.solar_roll.specs.Plan.{planOf, triple, rowDirection, rowConfig, cells, samplingOrNone};
 ghost use Rattle.solar_roll.specs.Mask.{sampleStep, stepDistance, missesSteps, marked, atRoll, atConfigured, atEveryRoll, cellMark, cellsRefusal, cellsReply, maskAfter};
 
 // What marks a cell: a roll too far from its optimal roll, every multiple of a step too far from it,
@@ -209,7 +209,103 @@ fn mark(
     while from < times {
         let count = block_length(times, from);
         fill_units(suns, observers, from, count, &mut units);
-        mark_block(targets, config, panel, &units, times, from, count, rule, mask);
+        mark_block(
+            targets,
+            config,
+            panel,
+            &units,
+            times,
+            from,
+            count,
+            rule,
+            mask,
+        );
         from += count;
     }
+}
+
+// The refusal of a call that writes something of each cell: the plan's, or 7 for too little room.
+pub(crate) fn cells_refusal(
+    targets: &[f64],
+    suns: &[f64],
+    observers: &[f64],
+    config: SolarRollConfig,
+    sampling: u64,
+    room: usize,
+) -> u64
+    ensures { λ r. ⌜ r ≡ cellsRefusal (planOf (now (targets .entry)) (now (suns .entry)) (now (observers .entry)) config) sampling room ⌝ }
+{
+    let refusal = plan_refusal(targets, suns, observers, config, sampling, false);
+    if refusal != 0 {
+        return refusal;
+    }
+    let rows = targets.len() / 3;
+    let times = suns.len() / 3;
+    if room < rows * times { 7 } else { 0 }
+}
+
+// The mask at the configured roll; without one nothing is marked.
+pub fn in_constraint_batch(
+    targets: &[f64],
+    suns: &[f64],
+    observers: &[f64],
+    config: SolarRollConfig,
+    mask: &mut [u8],
+) -> Answer
+    ensures { λ r. ⌜ replyOf r ≡ cellsReply (planOf (now (targets .entry)) (now (suns .entry)) (now (observers .entry)) config) 0 (length (now (mask .entry))) ⌝ }
+    ensures { λ r. ⌜ now (mask .exit) ≡ maskAfter (planOf (now (targets .entry)) (now (suns .entry)) (now (observers .entry)) config) 0 atConfigured (now (mask .entry)) ⌝ }
+{
+    let refusal = cells_refusal(targets, suns, observers, config, 0, mask.len());
+    if refusal != 0 {
+        return Answer::Refused(refusal);
+    }
+    let configured = config.roll_deg;
+    let rule = at_configured(configured);
+    mark(targets, suns, observers, config, rule, mask);
+    Answer::Accepted(0)
+}
+
+// The mask at a roll.
+pub fn in_constraint_batch_at_roll(
+    targets: &[f64],
+    suns: &[f64],
+    observers: &[f64],
+    config: SolarRollConfig,
+    roll: EvaluationRoll,
+    mask: &mut [u8],
+) -> Answer
+    ensures { λ r. ⌜ replyOf r ≡ cellsReply (planOf (now (targets .entry)) (now (suns .entry)) (now (observers .entry)) config) 0 (length (now (mask .entry))) ⌝ }
+    ensures { λ r. ⌜ now (mask .exit) ≡ maskAfter (planOf (now (targets .entry)) (now (suns .entry)) (now (observers .entry)) config) 0 (atRoll roll) (now (mask .entry)) ⌝ }
+{
+    let refusal = cells_refusal(targets, suns, observers, config, 0, mask.len());
+    if refusal != 0 {
+        return Answer::Refused(refusal);
+    }
+    let configured = config.roll_deg;
+    let rule = at_roll(roll, configured);
+    mark(targets, suns, observers, config, rule, mask);
+    Answer::Accepted(0)
+}
+
+// The cells that every one of n even samples violates, by their distance from the nearest sample.
+pub fn in_constraint_batch_constrained_at_every_roll(
+    targets: &[f64],
+    suns: &[f64],
+    observers: &[f64],
+    config: SolarRollConfig,
+    n: u64,
+    mask: &mut [u8],
+) -> Answer
+    ensures { λ r. ⌜ replyOf r ≡ cellsReply (planOf (now (targets .entry)) (now (suns .entry)) (now (observers .entry)) config) (samplingOrNone n) (length (now (mask .entry))) ⌝ }
+    ensures { λ r. ⌜ now (mask .exit) ≡ maskAfter (planOf (now (targets .entry)) (now (suns .entry)) (now (observers .entry)) config) (samplingOrNone n) (atEveryRoll n) (now (mask .entry)) ⌝ }
+{
+    let sampling = sampling_or_none(n);
+    let refusal = cells_refusal(targets, suns, observers, config, sampling, mask.len());
+    if refusal != 0 {
+        return Answer::Refused(refusal);
+    }
+    let configured = config.roll_deg;
+    let rule = at_every_roll(n, configured);
+    mark(targets, suns, observers, config, rule, mask);
+    Answer::Accepted(0)
 }

@@ -35,7 +35,13 @@ fn set_triple(xs: &mut [f64], i: usize, v: [f64; 3])
 }
 
 // Writes the Sun's units of `count` times, from the time `from` on.
-pub(crate) fn fill_units(suns: &[f64], observers: &[f64], from: usize, count: usize, units: &mut [f64])
+pub(crate) fn fill_units(
+    suns: &[f64],
+    observers: &[f64],
+    from: usize,
+    count: usize,
+    units: &mut [f64],
+)
     requires { ⌜ (3 * count ≤ length (now units)) × (from + count ≤ 65536) ⌝ }
     ensures { λ _. ⌜ ((t : ℕ) → t < count → triple (now (units .exit)) t ≡ sunUnit (triple (now (suns .entry)) (from + t)) (triple (now (observers .entry)) (from + t))) ⌝ }
 {

@@ -23,13 +23,7 @@ ghost use Rattle.solar_roll.specs.Plan.{planOf, triple, rowDirection, ce
 ghost use Rattle.solar_roll.specs.Mask.{cellValue, cellsReply, valuesAfter};
 
 // Writes the rolls of `count` cells of a row, whose Sun units lie in `units`.
-fn value_row(
-    target: [f64; 3],
-    panel_angle: f64,
-    units: &[f64],
-    count: usize,
-    values: &mut [f64],
-)
+fn value_row(target: [f64; 3], panel_angle: f64, units: &[f64], count: usize, values: &mut [f64])
     requires { ⌜ count ≤ length (now values) ⌝ }
     ensures { λ _. ⌜ now (values .exit) ≡ filled count (λ j. rollDegIn (bodyAxes target) (triple (now (units .entry)) j) «panel_angle») (now (values .entry)) ⌝ }
 {

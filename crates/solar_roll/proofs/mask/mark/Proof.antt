@@ -60,7 +60,7 @@ loop-less c = omega (arith, c .before .before .before .before .before .before .b
 
 loop-again : tie.Need-loop-again Inv-loop μ-loop
 unfolding sunAt headPanel
-loop-again c = 
+loop-again c =
     let o = c .before .before .before .before .before .before .before .before .before .before in
     let a = Start-of o .args in
     let p = plan o in
@@ -70,15 +70,14 @@ loop-again c =
     let new = c .before .before .mark-block .last .1 .1 .1 .1 .1 .1 .1 .1 .0 in
     let G : ℕ → ℕ → ℕ = λ r j. flag (marked (rollIn (bodyAxes (directionOf p r)) (triple units (j - o .loop .from)) (o .before .panel-of .result)) (a .rule) (configOf p r .«tolerance_deg»)) in
     let e : (r j : ℕ) → r < rowsOf p → o .loop .from ≤ j → j < o .loop .from + n → G r j ≡ F o r j = λ r j h l u.
-        let q : o .loop .from + (j - o .loop .from) ≡ j = omega arith in
-        mark-shared p (a .rule) r j (triple units (j - o .loop .from)) (o .before .panel-of .result)
-        (c .before .before .before .before .before .before .fill-units .ensures (j - o .loop .from) (omega arith) ∙ ap (sunAt p) q)
-        (o .before .panel-of .ensures) in
-    (
+    let q : o .loop .from + (j - o .loop .from) ≡ j = omega arith in
+    mark-shared p r j (bodyAxes (directionOf p r)) (triple units (j - o .loop .from)) (o .before .panel-of .result) refl
+    (c .before .before .before .before .before .before .fill-units .ensures (j - o .loop .from) (omega arith) ∙ ap (sunAt p) q)
+    (o .before .panel-of .ensures) (a .rule) (configOf p r .«tolerance_deg») refl in (
       b .ensures .2,
       search needs,
       columns-add (rowsOf p) (timesOf p) (F o) 0 (o .loop .from) n (now (a .mask)) (o .loop .mask) new (o .loop .inv .2)
-      (columns-ext (rowsOf p) (timesOf p) (o .loop .from) n G 0 (rowsOf p) (F o) (o .loop .mask) new e (c .before .before .mark-block .ensures)),
+          (columns-ext (rowsOf p) (timesOf p) (o .loop .from) n G 0 (rowsOf p) (F o) (o .loop .mask) new e (c .before .before .mark-block .ensures)),
     )
 
 same-length : tie.Need-same-length Inv-loop μ-loop
@@ -86,7 +85,7 @@ same-length c = c .before .loop .inv .2 .same
 
 returns : tie.Need-returns Inv-loop μ-loop
 unfolding cellMark
-returns c = 
+returns c =
     let o = c .before in
     let a = Start-of o .args in
     let p = plan o in

@@ -79,7 +79,7 @@ loop-less : tie.Need-loop-less Inv-loop μ-loop
 loop-less c = omega arith
 
 loop-again : tie.Need-loop-again Inv-loop μ-loop
-loop-again c = 
+loop-again c =
     let i = c .before .before .before .before .before .before in
     let o = i .before in
     let a = Start-of o .args in
@@ -90,20 +90,19 @@ loop-again c =
     let tolerance = c .before .before .before .before .row-config .result .«tolerance_deg» in
     let g : ℕ → ℕ = λ t. flag (marked (rollIn axes (triple (now (a .units)) t) (a .panel)) (a .rule) tolerance) in
     let e : (t : ℕ) → t < a .count → g t ≡ F o r (a .from + t) =
-        λ t l. let q : a .from + t - a .from ≡ t = omega arith in
-        simp (c .before .before .before .before .before .direction .ensures, c .before .before .before .before .row-config .ensures, q) in
-    let w = filled-part g start (a .count) m (c .before .before .mark-row .last .1 .1 .1 .1 .1 .1 .0) (c .before .before .mark-row .ensures) in
-    (
+    λ t l. let q : a .from + t - a .from ≡ t = omega arith in
+    simp (c .before .before .before .before .before .direction .ensures, c .before .before .before .before .row-config .ensures, q) in
+    let w = filled-part g start (a .count) m (c .before .before .mark-row .last .1 .1 .1 .1 .1 .1 .0) (c .before .before .mark-row .ensures) in (
       omega arith,
       subst (λ (l : List ℕ). Columns (rows o) (a .times) (r + 1) (a .from) (a .count) (F o) 0 (now (a .mask)) l) (sym w)
-      (columns-row (rows o) (a .times) (a .from) (a .count) (F o) 0 r g m (i .loop-test .taken) (Start-of o .pre .1) (room o) (now (a .mask)) e (o .loop .inv .1)),
+          (columns-row (rows o) (a .times) (a .from) (a .count) (F o) 0 r g m (i .loop-test .taken) (Start-of o .pre .1) (room o) (now (a .mask)) e (o .loop .inv .1)),
     )
 
 same-length : tie.Need-same-length Inv-loop μ-loop
 same-length c = c .before .loop .inv .1 .same
 
 returns : tie.Need-returns Inv-loop μ-loop
-returns c = 
+returns c =
     let o = c .before in
     let a = Start-of o .args in
     let e : o .loop .row ≡ rows o = omega arith in

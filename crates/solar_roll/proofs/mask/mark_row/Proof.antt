@@ -53,7 +53,7 @@ loop-less : tie.Need-loop-less Inv-loop μ-loop
 loop-less c = omega arith
 
 loop-again : tie.Need-loop-again Inv-loop μ-loop
-loop-again c = 
+loop-again c =
     let o = c .before .before .before in
     let m = now (Start-of o .args .mask) in
     let v : c .mark-byte .result ≡ F o (o .loop .j) = simp (c .mark-byte .ensures, c .before .triple .ensures) in
@@ -64,7 +64,7 @@ same-length : tie.Need-same-length Inv-loop μ-loop
 same-length c = kept (c .before)
 
 returns : tie.Need-returns Inv-loop μ-loop
-returns c = 
+returns c =
     let o = c .before in
     let a = Start-of o .args in
     let e : o .loop .j ≡ a .count = omega arith in

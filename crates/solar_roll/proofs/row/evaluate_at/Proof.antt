@@ -1,54 +1,54 @@
+use Rattle.solar_roll.specs.Cell.{violates}
+use Rattle.solar_roll.specs.Row.{excess}
 use borrow.Author.Needs.{needs}
+use lib.Ieee.{Float, lt, binary64, sub}
+use mathlib.Core.Path.{refl, sym, ap, _∙_}
 use Rattle.solar_roll.proofs.row.evaluate_at.Statement.{statement}
 use Rattle.solar_roll.proofs.row.evaluate_at.Tie as tie
-use Rattle.solar_roll.proofs.row.evaluate_at.Reads as reads
-use Rattle.solar_roll.proofs.row.evaluate_at.Lts as lts
-use Rattle.solar_roll.proofs.roll.circular_diff_deg.Reads as circular-diff-deg-reads
-use Rattle.solar_roll.proofs.row.clear.Reads as clear-reads
 
--- src/row.rt:49:27
 enum-told : tie.Need-enum-told
 enum-told c = search needs
 
--- src/row.rt:49:27
 clear-requires : tie.Need-clear-requires
 clear-requires c κs = search needs
 
--- src/row.rt:50:22
 enum-known-cell : tie.Need-enum-known-cell
 enum-known-cell c = search needs
 
--- src/row.rt:51:17
 circular-diff-deg-requires : tie.Need-circular-diff-deg-requires
 circular-diff-deg-requires c κs = search needs
 
--- src/row.rt:58:17
 clear-requires-2 : tie.Need-clear-requires-2
 clear-requires-2 c κs = search needs
 
--- src/row.rt:61:33
 enum-told-2 : tie.Need-enum-told-2
 enum-told-2 c = search needs
 
--- src/row.rt:61:33
 clear-requires-3 : tie.Need-clear-requires-3
 clear-requires-3 c κs = search needs
 
--- src/row.rt:45:1
 returns : tie.Need-returns
-returns c = ?
+unfolding violates excess
+returns c = simp (c .before .enum-told .given .1, c .clear .ensures .0, c .clear .ensures .1) (refl, refl)
 
--- src/row.rt:45:1
 returns-2 : tie.Need-returns-2
-returns-2 c = ?
+unfolding violates excess
+returns-2 c =
+    let a = c .before .before .before .before .before .args in
+    let d = c .before .circular-diff-deg in
+    let e = ap (lt (a .tolerance-deg)) (sym (d .ensures)) ∙ c .if1 .taken in
+    simp (c .before .before .before .cell .given .1, e) (refl, ap (λ (x : Float). sub binary64 x (a .tolerance-deg)) (d .ensures))
 
--- src/row.rt:45:1
 returns-3 : tie.Need-returns-3
-returns-3 c = ?
+unfolding violates excess
+returns-3 c =
+    let a = c .before .before .before .before .before .before .args in
+    let e = ap (lt (a .tolerance-deg)) (sym (c .before .before .circular-diff-deg .ensures)) ∙ c .before .if1 .left in
+    simp (c .before .before .before .before .cell .given .1, e, c .clear2 .ensures .0, c .clear2 .ensures .1) (refl, refl)
 
--- src/row.rt:45:1
 returns-4 : tie.Need-returns-4
-returns-4 c = ?
+unfolding violates excess
+returns-4 c = simp (c .before .enum-told2 .given .1, c .clear3 .ensures .0, c .clear3 .ensures .1) (refl, refl)
 
 pub evaluate-at-spec : {M : Type 1} → statement M
 evaluate-at-spec =

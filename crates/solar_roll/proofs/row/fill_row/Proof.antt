@@ -1,94 +1,142 @@
+use Prim.Native.Nat.{ℕ, _-_, _*_, _^_, _≤_, _<_}
+use Rattle.buffers.proofs.Lent.{filled-zero, filled-ext, length-filled, filled-next}
+use Rattle.buffers.specs.Lent.{filled}
+use Rattle.buffers.specs.Ranges.{flag}
+use Rattle.solar_roll.proofs.Cells.{mark-shared, severity-shared}
+use Rattle.solar_roll.specs.Cell.{rollIn}
+use Rattle.solar_roll.specs.Mask.{marked, atConfigured, markAt}
+use Rattle.solar_roll.specs.Plan.{Plan, planOf, triple, timesOf, cells, sunAt, headPanel, headConfigured}
+use Rattle.solar_roll.specs.Roll.{sunUnit, bodyAxes}
+use Rattle.solar_roll.specs.Row.{severity, severityAt}
+use Rattle.solar_roll.specs.Vectors.{Vector}
+use Rattle.solar_roll.specs.declared.cell.CellRoll.{CellRoll}
+use Rattle.solar_roll.specs.declared.plan.SolarRollConfig.{SolarRollConfig}
+use borrow.Author.Needs.{needs}
+use denote.Ref.{now}
+use lib.Ieee.{Float}
+use lib.ListN.{length, set}
+use mathlib.Core.List.{List}
+use mathlib.Core.Path.{_≡_, refl, ap, ap₂, _∙_}
+use native.Mathlib.Omega.{arith}
 use Rattle.solar_roll.proofs.row.fill_row.Statement.{statement}
 use Rattle.solar_roll.proofs.row.fill_row.Tie as tie
-use Rattle.solar_roll.proofs.row.fill_row.Reads as reads
-use Rattle.solar_roll.proofs.row.fill_row.Lts as lts
-use Rattle.solar_roll.proofs.plan.direction.Reads as direction-reads
-use Rattle.solar_roll.proofs.plan.row_config.Reads as row-config-reads
-use Rattle.solar_roll.proofs.plan.triple.Reads as triple-reads
-use Rattle.solar_roll.proofs.roll.body_axes.Reads as body-axes-reads
-use Rattle.solar_roll.proofs.roll.panel_of.Reads as panel-of-reads
-use Rattle.solar_roll.proofs.roll.sun_unit.Reads as sun-unit-reads
-use Rattle.solar_roll.proofs.row.evaluate_cell.Reads as evaluate-cell-reads
 
 abbrev Inv-loop : tie.InvT-loop
-Inv-loop targets suns observers row mask₀ severities₀ axes tolerance configured panel times j₀ mask severities j =
-    ?
+Inv-loop targets suns observers row mask₀ severities₀ axes tolerance configured panel times j₀ mask severities j = (j ≤ times) × (mask ≡ filled j (λ t. flag (marked (rollIn axes (sunUnit (triple suns t) (triple observers t)) panel) (atConfigured configured) tolerance)) mask₀) × (severities ≡ filled j (λ t. severity (rollIn axes (sunUnit (triple suns t) (triple observers t)) panel) configured tolerance) severities₀)
 
 abbrev μ-loop : tie.MeasureT-loop
-μ-loop targets suns observers row mask₀ severities₀ axes tolerance configured panel times j₀ mask severities j =
-    ?
+μ-loop targets suns observers row mask₀ severities₀ axes tolerance configured panel times j₀ mask severities j = times - j
 
--- src/row.rt:94:26
+abbrev Start-of : tie.At-loop Inv-loop μ-loop → tie.Start Inv-loop μ-loop
+Start-of o = o .before .before .before .before .before .before .before .before .before .before .before
+
+small : (s : tie.Start Inv-loop μ-loop) → length (now (s .args .severities)) * 8 < 2 ^ 64
+small s = omega arith
+
+-- the plan that the call was lent
+abbrev plan : tie.At-loop Inv-loop μ-loop → Plan
+plan o = let a = Start-of o .args in planOf (now (a .targets)) (now (a .suns)) (now (a .observers)) (a .config)
+
+abbrev cell : tie.At-loop Inv-loop μ-loop → ℕ → CellRoll
+cell o t = let a = Start-of o .args in rollIn (o .before .before .before .before .body-axes .result) (sunUnit (triple (now (a .suns)) t) (triple (now (a .observers)) t)) (o .before .panel-of .result)
+
+abbrev tolerance : tie.At-loop Inv-loop μ-loop → Float
+tolerance o = o .before .before .before .row-config .result .«tolerance_deg»
+
+-- the byte and the severity of each time
+abbrev M : tie.At-loop Inv-loop μ-loop → ℕ → ℕ
+M o t = flag (marked (cell o t) (atConfigured (Start-of o .args .config .«roll_deg»)) (tolerance o))
+
+abbrev S : tie.At-loop Inv-loop μ-loop → ℕ → Float
+S o t = severity (cell o t) (Start-of o .args .config .«roll_deg») (tolerance o)
+
+kept : (o : tie.At-loop Inv-loop μ-loop) → length (o .loop .mask) ≡ length (now (Start-of o .args .mask))
+kept o = ap length (o .loop .inv .1) ∙ length-filled (M o) (o .loop .j) (now (Start-of o .args .mask)) (omega (arith, Start-of o .pre .0))
+
+kept-2 : (o : tie.At-loop Inv-loop μ-loop) → length (o .loop .severities) ≡ length (now (Start-of o .args .severities))
+kept-2 o = ap length (o .loop .inv .2) ∙ length-filled (S o) (o .loop .j) (now (Start-of o .args .severities)) (omega (arith, Start-of o .pre .1))
+
 direction-requires : tie.Need-direction-requires Inv-loop μ-loop
-direction-requires c κs = ?
+direction-requires c κs = search needs
 
--- src/row.rt:94:9
 body-axes-requires : tie.Need-body-axes-requires Inv-loop μ-loop
-body-axes-requires c κs = ?
+body-axes-requires c κs = search needs
 
--- src/row.rt:95:9
 row-config-requires : tie.Need-row-config-requires Inv-loop μ-loop
-row-config-requires c κs = ?
+row-config-requires c κs = search needs
 
--- src/row.rt:99:9
 panel-of-requires : tie.Need-panel-of-requires Inv-loop μ-loop
-panel-of-requires c κs = ?
+panel-of-requires c κs = search needs
 
--- src/row.rt:102:5
 loop-holds : tie.Need-loop-holds Inv-loop μ-loop
-loop-holds c = ?
+loop-holds c = (omega arith, filled-zero _ _, filled-zero _ _)
 
--- src/row.rt:103:29
 triple-requires : tie.Need-triple-requires Inv-loop μ-loop
-triple-requires c κs = ?
+triple-requires c κs = search needs
 
--- src/row.rt:103:46
 triple-requires-2 : tie.Need-triple-requires-2 Inv-loop μ-loop
-triple-requires-2 c κs = ?
+triple-requires-2 c κs = search needs
 
--- src/row.rt:103:13
 sun-unit-requires : tie.Need-sun-unit-requires Inv-loop μ-loop
-sun-unit-requires c κs = ?
+sun-unit-requires c κs = search needs
 
--- src/row.rt:104:13
 evaluate-cell-requires : tie.Need-evaluate-cell-requires Inv-loop μ-loop
-evaluate-cell-requires c κs = ?
+evaluate-cell-requires c κs = search needs
 
--- src/row.rt:105:9
 slice-write-mask : tie.Need-slice-write-mask Inv-loop μ-loop
-slice-write-mask c = ?
+slice-write-mask c = let o = c .before .before .before .before .before in omega (arith, kept o, Start-of o .pre .0)
 
--- src/row.rt:106:9
 mul-severities : tie.Need-mul-severities Inv-loop μ-loop
-mul-severities c = ?
+mul-severities c = let o = c .before .before .before .before .before in omega (arith, small (Start-of o), Start-of o .pre .1)
 
--- src/row.rt:106:9
 slice-write-severities : tie.Need-slice-write-severities Inv-loop μ-loop
-slice-write-severities c = ?
+slice-write-severities c = let o = c .before .before .before .before .before in omega (arith, kept-2 o, Start-of o .pre .1)
 
--- src/row.rt:107:9
 add-j : tie.Need-add-j Inv-loop μ-loop
-add-j c = ?
+add-j c = let o = c .before .before .before .before .before in omega (arith, small (Start-of o), Start-of o .pre .1)
 
--- src/row.rt:102:5
 loop-less : tie.Need-loop-less Inv-loop μ-loop
-loop-less c = ?
+loop-less c = omega arith
 
--- src/row.rt:102:5
 loop-again : tie.Need-loop-again Inv-loop μ-loop
-loop-again c = ?
+loop-again c =
+    let o = c .before .before .before .before .before in
+    let a = Start-of o .args in
+    let j = o .loop .j in
+    let unit = c .before .sun-unit .ensures ∙ ap₂ sunUnit (c .before .before .before .triple .ensures) (c .before .before .triple2 .ensures) in
+    let cells = ap (λ (u : Vector). rollIn (o .before .before .before .before .body-axes .result) u (o .before .panel-of .result)) unit in
+    let v = c .evaluate-cell .ensures .0 ∙ ap (λ (d : CellRoll). flag (marked d (atConfigured (a .config .«roll_deg»)) (tolerance o))) cells in
+    let w = c .evaluate-cell .ensures .1 ∙ ap (λ (d : CellRoll). severity d (a .config .«roll_deg») (tolerance o)) cells in
+    let h : j < length (now (a .mask)) = omega (arith, Start-of o .pre .0) in
+    let g : j < length (now (a .severities)) = omega (arith, Start-of o .pre .1) in (
+      omega arith,
+      ap (λ (l : List ℕ). set l j (c .evaluate-cell .result .mark)) (o .loop .inv .1) ∙ filled-next (M o) j (now (a .mask)) _ h v,
+      ap (λ (l : List Float). set l j (c .evaluate-cell .result .severity)) (o .loop .inv .2) ∙ filled-next (S o) j (now (a .severities)) _ g w,
+    )
 
--- src/row.rt:81:1
 same-length : tie.Need-same-length Inv-loop μ-loop
-same-length c = ?
+same-length c = kept (c .before)
 
--- src/row.rt:81:1
 same-length-2 : tie.Need-same-length-2 Inv-loop μ-loop
-same-length-2 c = ?
+same-length-2 c = kept-2 (c .before)
 
--- src/row.rt:81:1
 returns : tie.Need-returns Inv-loop μ-loop
-returns c = ?
+unfolding sunAt headPanel headConfigured
+returns c =
+    let o = c .before in
+    let a = Start-of o .args in
+    let p = plan o in
+    let e : o .loop .j ≡ timesOf p = omega arith in
+    let axes = o .before .before .before .before .body-axes .ensures ∙ ap bodyAxes (o .before .before .before .before .before .direction .ensures) in
+    let settings = ap (λ (s : SolarRollConfig). s .«tolerance_deg») (o .before .before .before .row-config .ensures) in
+    let panel = o .before .panel-of .ensures in (
+      o .loop .inv .1
+          ∙ ap (λ (n : ℕ). filled n (M o) (now (a .mask))) e
+          ∙ filled-ext (M o) (markAt p (atConfigured (headConfigured p)) (a .row)) (timesOf p) (now (a .mask)) (λ t l. mark-shared p (a .row) t _ _ _ axes refl panel _ _ settings),
+      o .loop .inv .2
+          ∙ ap (λ (n : ℕ). filled n (S o) (now (a .severities))) e
+          ∙ filled-ext (S o) (severityAt p (a .row)) (timesOf p) (now (a .severities)) (λ t l. severity-shared p (a .row) t _ _ _ axes refl panel _ settings),
+    )
 
 pub fill-row-spec : {M : Type 1} → statement M
 fill-row-spec =

@@ -51,7 +51,7 @@ loop-less : tie.Need-loop-less Inv-loop μ-loop
 loop-less c = omega arith
 
 loop-again : tie.Need-loop-again Inv-loop μ-loop
-loop-again c = 
+loop-again c =
     let o = c .before .before .before .before .before .before .before .before in
     let a = Start-of o .args in
     let j = o .loop .j in
@@ -59,14 +59,13 @@ loop-again c =
     let u = c .before .before .before .sun-unit .result in
     let h : 3 * j + 2 < length old = omega (arith, o .loop .inv .1, Start-of o .pre .0) in
     let e : u ≡ sunUnit (triple (now (a .suns)) (a .from + j)) (triple (now (a .observers)) (a .from + j))
-        = simp (c .before .before .before .sun-unit .ensures, c .before .before .before .before .before .triple2 .ensures, c .before .before .before .before .before .before .triple .ensures) in
+    = simp (c .before .before .before .sun-unit .ensures, c .before .before .before .before .before .triple2 .ensures, c .before .before .before .before .before .before .triple .ensures) in
     let w : c .before .before .set-triple .last .0 ≡ set3 old j u = c .before .before .set-triple .ensures in
-    let G : ℕ → Vector = λ t. sunUnit (triple (now (a .suns)) (a .from + t)) (triple (now (a .observers)) (a .from + t)) in
-    (
+    let G : ℕ → Vector = λ t. sunUnit (triple (now (a .suns)) (a .from + t)) (triple (now (a .observers)) (a .from + t)) in (
       omega arith,
       ap length w ∙ length-set3 old j u ∙ o .loop .inv .1,
       subst (λ (l : List Float). (t : ℕ) → t < j + 1 → triple l t ≡ G t) (sym w)
-      (triples-next G old j u h (ap (λ (v : Vector). vector (x v) (y v) (z v)) e ∙ unit-vector _ _) (o .loop .inv .2)),
+          (triples-next G old j u h (ap (λ (v : Vector). vector (x v) (y v) (z v)) e ∙ unit-vector _ _) (o .loop .inv .2)),
     )
 
 same-length : tie.Need-same-length Inv-loop μ-loop

@@ -54,7 +54,7 @@ loop-less : tie.Need-loop-less Inv-loop μ-loop
 loop-less c = omega arith
 
 loop-again : tie.Need-loop-again Inv-loop μ-loop
-loop-again c = 
+loop-again c =
     let o = c .before .before .before in
     let m = now (Start-of o .args .values) in
     let v : c .roll-deg-in .result ≡ F o (o .loop .j) = simp (c .roll-deg-in .ensures, c .before .triple .ensures) in
@@ -65,7 +65,7 @@ same-length : tie.Need-same-length Inv-loop μ-loop
 same-length c = kept (c .before)
 
 returns : tie.Need-returns Inv-loop μ-loop
-returns c = 
+returns c =
     let o = c .before in
     let a = Start-of o .args in
     let e : o .loop .j ≡ a .count = omega arith in
