@@ -6,3 +6,6 @@ pub mod Refusals
 pub mod WindowLists
 pub mod Spread
 pub mod Durations
+pub mod MaskBack
+pub mod Theorems
+pub mod Examples

@@ -9,7 +9,7 @@ use lib.ListN.{length, getD}
 use lib.Dec.{ltb, eqb}
 use lib.IntN.{ℤ}
 use lib.Ieee.{Float}
-use borrow.Author.Tests.{ltb-false, lt-ltb, le-ltb, eqb-true, not-false}
+use borrow.Author.Tests.{ltb-false, lt-ltb, le-ltb, eq-eqb, eqb-true, not-false}
 use Rattle.buffers.specs.Ranges.{any}
 use Rattle.buffers.specs.Refusal.{Conditions, first, Reply, refused, accepted, reply}
 use Rattle.buffers.proofs.Tests.{or-left, or-right}
@@ -114,3 +114,11 @@ module _ (uneven : Bool) (mask : List ℕ) (times : List ℤ) (severities : List
     pub accepts : any beyond times ≡ false → (any noMark mask || any noSeverity severities) ≡ false → short ≡ false → why ≡ 0
     unfolding windowsRefusal first
     accepts t m s = rw (e, le-ltb 65_536 (length mask) h, t, m, s)
+
+-- ---- *Expand*, accepted
+
+pub expand-accepts : (firsts lasts times : List ℤ) (places : ℕ) → length lasts ≡ length firsts → length firsts ≤ 65_536 → length times ≤ 65_536
+    → any beyond firsts ≡ false → any beyond lasts ≡ false → any beyond times ≡ false → length times ≤ places → expandRefusal firsts lasts times places ≡ 0
+unfolding expandRefusal first differ any
+expand-accepts firsts lasts times places e n m a b c h =
+    rw (eq-eqb (length lasts) (length firsts) e, le-ltb 65_536 (length firsts) n, le-ltb 65_536 (length times) m, a, b, c, le-ltb places (length times) h)
