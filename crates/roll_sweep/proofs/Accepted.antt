@@ -1,16 +1,19 @@
 -- What is known of a chunk whose sweep is not refused, and that a chunk of an accepted plan is not. Assumes nothing.
-use mathlib.Core.Path.{_≡_, refl, sym, ap, ap₂, _∙_}
+use mathlib.Core.Path.{_≡_, refl, sym, ap, _∙_}
 use mathlib.Core.Bool.{Bool, true, false, cond, _||_, _&&_}
-use Prim.Native.Nat.{ℕ, zero, suc, _+_, _-_, _*_, _/_, _≤_, _<_, min}
+use Prim.Native.Nat.{ℕ, zero, suc, _+_, _-_, _*_, _≤_, _<_, min}
 use native.Mathlib.Omega.{arith}
 use lib.Dec.{leb, ltb, lit<}
 use borrow.Author.Tests.{ltb-false, leb-true, leb-false, le-ltb, lt-leb}
-use Rattle.buffers.specs.Refusal.{first, carried}
-use Rattle.buffers.proofs.Refusal.{first-none, first-skip, first-clear, carried-skip, carried-clear}
+use Rattle.buffers.specs.Refusal.{accepted, reply}
+use Rattle.buffers.proofs.Refusal.{reply-none, first-none, first-skip, first-clear, carried-skip, carried-clear}
 use Rattle.buffers.proofs.Tests.{and-left, and-right, or-left, or-right}
 use Rattle.solar_roll.specs.Plan.{Plan, rowsOf, timesOf, tooMany, samplingOf, PlanFacts}
 use Rattle.roll_sweep.specs.Sweep.{chunks, cellsIn}
-use Rattle.roll_sweep.specs.Chunk.{chunkRefusal}
+use Rattle.roll_sweep.specs.Chunk.{chunkRefusal, chunkReply}
+use Rattle.roll_sweep.specs.declared.chunk.Swept.{Swept}
+use Rattle.roll_sweep.specs.declared.chunk.ChunkAnswer.{ChunkAnswer}
+use Rattle.roll_sweep.specs.declared.chunk.ChunkAnswer.the-variants.{Accepted, Refused}
 
 pub record ChunkFacts (rows times samples c : ℕ) : Type 0 where
   pub few-rows : rows ≤ 65536
@@ -81,3 +84,18 @@ chunk-accepted p samples c f s h =
     ∙ carried-skip _ _ s
     ∙ first-skip _ _ _ (lt-leb _ _ h)
     ∙ first-none
+
+-- ---- the answer of a chunk that is not refused
+
+pub answer-swept : (a : ChunkAnswer) (k : ℕ) (x s : Swept) → chunkReply a ≡ reply k x → k ≡ 0 → a ≡ Accepted s → s ≡ x
+unfolding chunkReply
+answer-swept a k x s h e q =
+    let z : chunkReply (Accepted s) ≡ accepted x = sym (ap chunkReply q) ∙ h ∙ reply-none k x e in
+    cc
+
+pub answer-never : (a : ChunkAnswer) (k j : ℕ) (x : Swept) → chunkReply a ≡ reply k x → k ≡ 0 → a ≡ Refused j → ⊥
+unfolding chunkReply
+answer-never a k j x h e q =
+    let z : chunkReply (Refused j) ≡ accepted x = sym (ap chunkReply q) ∙ h ∙ reply-none k x e in
+    let o : _≡_ {A = ℕ} 0 1 = cc in
+    omega arith

@@ -3,6 +3,7 @@ pub mod Words
 pub mod Tried
 pub mod Chunks
 pub mod Rows
+pub mod Even
 pub mod Swept
 pub mod Cells
 pub mod Accepted

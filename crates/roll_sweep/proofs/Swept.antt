@@ -3,12 +3,11 @@
 use mathlib.Core.Path.{_≡_, refl, sym, ap, ap₂, _∙_}
 use mathlib.Core.Bool.{Bool, true, false}
 use Prim.Native.Nat.{ℕ, zero, suc, _+_, _-_, _*_, _%_, _^_, _≤_, _<_}
-use native.Mathlib.Nat.{add-zero, add-comm, one-mul, le-trans, mul-le-mul-left}
-use native.Mathlib.Numerals.{add-one}
+use native.Mathlib.Nat.{add-comm}
 use native.Mathlib.Omega.{arith}
 use lib.Bits.{bitOr, or-shifted-r}
 use lib.Count.{ones}
-use lib.Pow.{pow-add, pow-mono, shl-exact}
+use lib.Pow.{shl-exact}
 use Rattle.buffers.specs.Ranges.{flag, sum, allBelow}
 use Rattle.buffers.proofs.Ranges.{sum-next, sum-add, sum-ext, sum-mono, sum-same, all-iff, all-stop, all-ext}
 use Rattle.roll_sweep.specs.Sweep.{Sweep, cells, tried, marked, cellProbes, cellsIn, word, chunkMask, chunkProbes}

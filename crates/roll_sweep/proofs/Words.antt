@@ -1,8 +1,8 @@
 -- Laws of a number whose bit k says p k: its size, one bit, and how many bits are set. Assumes nothing.
 use mathlib.Core.Path.{_≡_, refl, sym, ap, ap₂, _∙_, subst}
 use mathlib.Core.Bool.{Bool, true, false}
-use Prim.Native.Nat.{ℕ, zero, suc, _+_, _-_, _*_, _/_, _%_, _^_, _≤_, _<_}
-use native.Mathlib.Nat.{add-comm, add-assoc, add-zero, add-suc, mul-comm, mul-assoc, add-mul, pow-suc, add-mul-mod-self-left, not-suc-le-zero}
+use Prim.Native.Nat.{ℕ, zero, suc, _+_, _-_, _*_, _/_, _%_, _^_, _<_}
+use native.Mathlib.Nat.{add-comm, add-zero, add-suc, mul-comm, mul-assoc, pow-suc, add-mul-mod-self-left, not-suc-le-zero}
 use native.Mathlib.Numerals.{add-one}
 use native.Mathlib.Omega.{arith}
 use lib.Pow.{pow-add, high, field}

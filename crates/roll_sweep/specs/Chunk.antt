@@ -19,8 +19,8 @@ unfolding violatesAt
 cellViolated p rolls i k = violatesAt p (i / timesOf p) (i % timesOf p) (getD rolls k nan)
 
 -- the sweep of a plan over the rolls, with the plan's refusal and its header
-abbrev pub sweepOf : Plan → List Float → (Bool → ℕ) → List ℕ → Sweep
-sweepOf p rolls refusal header =
+abbrev pub sweepOver : Plan → List Float → (Bool → ℕ) → List ℕ → Sweep
+sweepOver p rolls refusal header =
     record { refusal = refusal; rows = rowsOf p; times = timesOf p; samples = length rolls; violates = cellViolated p rolls; header = header }
 
 -- ---- the answer of a chunk

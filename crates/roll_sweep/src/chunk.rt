@@ -24,8 +24,8 @@ ghost use Rattle.buffers.specs.Ranges.{tab};
 ghost use Rattle.buffers.specs.Refusal.{reply};
 ghost use Rattle.solar_roll.specs.Roll.{sunUnit};
 ghost use Rattle.solar_roll.specs.Cell.{rollIn, violates, inForce};
-ghost use Rattle.solar_roll.specs.Plan.{planOf, rowsOf, timesOf, triple, count};
-ghost use Rattle.roll_sweep.specs.Chunk.{cellViolated, sweepOf, sweptBy, sweptOf, chunkRefusal, chunkReply};
+ghost use Rattle.solar_roll.specs.Plan.{planOf, triple, count};
+ghost use Rattle.roll_sweep.specs.Chunk.{cellViolated, sweepOver, sweptBy, sweptOf, chunkRefusal, chunkReply};
 
 // What the sweep of cells gives: bit k of the mask is cell k, set where every sample violates it;
 // probes is how many samples were tried.
@@ -189,7 +189,7 @@ pub fn sweep_chunk(
     rolls: &[f64],
     chunk: u64,
 ) -> ChunkAnswer
-    ensures { λ r. ⌜ ((refusal : Bool → ℕ) (header : List ℕ) → chunkReply r ≡ reply (chunkRefusal (count (now (targets .entry))) (count (now (suns .entry))) (length (now (rolls .entry))) chunk) (sweptOf (sweepOf (planOf (now (targets .entry)) (now (suns .entry)) (now (observers .entry)) config) (now (rolls .entry)) refusal header) chunk)) ⌝ }
+    ensures { λ r. ⌜ ((refusal : Bool → ℕ) (header : List ℕ) → chunkReply r ≡ reply (chunkRefusal (count (now (targets .entry))) (count (now (suns .entry))) (length (now (rolls .entry))) chunk) (sweptOf (sweepOver (planOf (now (targets .entry)) (now (suns .entry)) (now (observers .entry)) config) (now (rolls .entry)) refusal header) chunk)) ⌝ }
 {
     let rows = targets.len() / 3;
     let times = suns.len() / 3;

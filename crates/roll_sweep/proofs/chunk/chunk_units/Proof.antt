@@ -1,23 +1,19 @@
-use Prim.Native.Nat.{ℕ, _+_, _-_, _*_, _/_, _%_, _≤_, _<_}
-use mathlib.Core.Path.{_≡_, refl, sym, ap, ap₂, _∙_}
+use Prim.Native.Nat.{ℕ, _+_, _-_, _%_, _≤_, _<_}
+use mathlib.Core.Path.{_≡_, refl, sym, ap, _∙_}
 use mathlib.Core.List.{List, []}
-use native.Mathlib.Nat.{mod-lt, add-mod-right}
+use native.Mathlib.Nat.{add-mod-right}
 use native.Mathlib.Omega.{arith}
 use borrow.Author.Needs.{needs}
 use lib.ListN.{length, getD, set, take, length-set}
 use lib.Ieee.{Float}
 use Rattle.buffers.specs.Lent.{filled}
-use Rattle.buffers.proofs.Lent.{filled-zero, filled-next, length-filled, take-filled}
+use Rattle.buffers.proofs.Lent.{filled-zero, filled-next, take-filled}
 use Rattle.solar_roll.specs.Vectors.{Vector}
 use Rattle.solar_roll.specs.Roll.{sunUnit}
 use Rattle.solar_roll.specs.Plan.{triple, count}
 use Rattle.roll_sweep.proofs.Cells.{entry}
 use Rattle.roll_sweep.proofs.chunk.chunk_units.Statement.{statement}
 use Rattle.roll_sweep.proofs.chunk.chunk_units.Tie as tie
-use Rattle.roll_sweep.proofs.chunk.chunk_units.Reads as reads
-use Rattle.roll_sweep.proofs.chunk.chunk_units.Lts as lts
-use Rattle.solar_roll.proofs.triple.Reads as triple-reads
-use Rattle.solar_roll.proofs.sun_unit.Reads as sun-unit-reads
 
 -- the Sun's unit at cell number first + k
 abbrev unit-at : List Float → List Float → ℕ → ℕ → Vector

@@ -1,13 +1,10 @@
-use Prim.Native.Nat.{ℕ, _+_, _-_, _*_, _^_, _≤_, _<_}
-use mathlib.Core.Path.{_≡_, refl}
+use Prim.Native.Nat.{_-_, _^_, _≤_, _<_}
 use native.Mathlib.Nat.{mul-le-mul}
 use native.Mathlib.Omega.{arith}
 use borrow.Author.Needs.{needs}
-use lib.Count.{ones, ones-le}
+use lib.Count.{ones-le}
 use Rattle.roll_sweep.proofs.chunk.repeated.Statement.{statement}
 use Rattle.roll_sweep.proofs.chunk.repeated.Tie as tie
-use Rattle.roll_sweep.proofs.chunk.repeated.Reads as reads
-use Rattle.roll_sweep.proofs.chunk.repeated.Lts as lts
 
 sub-again : tie.Need-sub-again
 sub-again c = search needs

@@ -1,29 +1,21 @@
-use Prim.Native.Nat.{ℕ, _+_, _-_, _*_, _/_, _%_, _^_, _≤_, _<_, min}
-use mathlib.Core.Path.{_≡_, refl, sym, ap, _∙_}
+use Prim.Native.Nat.{ℕ, _+_, _-_, _*_, _^_, _<_}
+use mathlib.Core.Path.{_≡_, sym, ap, _∙_}
 use native.Mathlib.Omega.{arith}
 use borrow.Author.Needs.{needs}
 use lib.ListN.{length, take}
 use mathlib.Core.List.{List}
 use lib.Ieee.{Float}
 use lib.Seq.{length-take-le}
-use Rattle.buffers.specs.Refusal.{reply, refused, accepted}
+use Rattle.buffers.specs.Refusal.{accepted}
 use Rattle.buffers.proofs.Refusal.{reply-none, reply-some}
-use Rattle.solar_roll.specs.Plan.{planOf, rowsOf, timesOf, count}
-use Rattle.roll_sweep.specs.Sweep.{cells, chunks, cellsIn}
-use Rattle.roll_sweep.specs.Chunk.{cellViolated, sweepOf, sweptBy, sweptOf, chunkRefusal, chunkReply}
+use Rattle.solar_roll.specs.Plan.{planOf, count}
+use Rattle.roll_sweep.specs.Chunk.{cellViolated, sweepOver, sweptBy, chunkReply}
 use Rattle.roll_sweep.proofs.Accepted.{ChunkFacts, chunk-facts, Held, held, first-below}
 use Rattle.roll_sweep.proofs.Swept.{swept-chunk, swept-same, one-each}
 use Rattle.roll_sweep.proofs.Cells.{configured-same}
 use Rattle.roll_sweep.proofs.chunk.sweep_chunk.Statement.{statement}
 use Rattle.roll_sweep.proofs.chunk.sweep_chunk.Tie as tie
-use Rattle.roll_sweep.proofs.chunk.sweep_chunk.Reads as reads
-use Rattle.roll_sweep.proofs.chunk.sweep_chunk.Lts as lts
-use Rattle.roll_sweep.proofs.chunk.chunk_refusal.Reads as chunk-refusal-reads
-use Rattle.roll_sweep.proofs.chunk.repeated.Reads as repeated-reads
-use Rattle.roll_sweep.proofs.chunk.smaller.Reads as smaller-reads
-use Rattle.roll_sweep.proofs.chunk.sweep_cells.Reads as sweep-cells-reads
 
--- src/chunk.rt:196:9
 chunk-refusal-requires : tie.Need-chunk-refusal-requires
 chunk-refusal-requires c κs = search needs
 
@@ -50,76 +42,63 @@ one-swept c =
     ∙ ap (λ (n : ℕ). sweptBy (c .before .before .before .before .smaller .result) n (λ k. cellViolated (planOf (a .targets .now) (a .suns .now) (a .observers .now) (a .config)) (take 1 (a .rolls .now)) (64 * a .chunk + k)))
     (one-roll (c .before .before .before .before .before))
 
--- src/chunk.rt:198:9
 returns : tie.Need-returns
 unfolding chunkReply
 returns c f h = rw (← c .before .chunk-refusal .ensures) (sym (reply-some _ _ (omega arith)))
 
--- src/chunk.rt:200:17
 mul-first : tie.Need-mul-first
 mul-first c =
     let f = facts c in
     let l : 64 * c .before .before .before .before .before .before .args .chunk < 2 ^ 64 = omega (arith, first-below f) in
     record { fits = l }
 
--- src/chunk.rt:201:29
 mul-smaller : tie.Need-mul-smaller
 mul-smaller c =
     let f = facts c in
     record { fits = omega arith }
 
--- src/chunk.rt:201:29
 sub-smaller : tie.Need-sub-smaller
 sub-smaller c =
     omega (arith, first-below (facts c))
 
--- src/chunk.rt:201:9
 smaller-requires : tie.Need-smaller-requires
 smaller-requires c κs = search needs
 
--- src/chunk.rt:204:55
 enum-told : tie.Need-enum-told
 enum-told c = search needs
 
--- src/chunk.rt:204:55
 sweep-cells-requires : tie.Need-sweep-cells-requires
 sweep-cells-requires c κs =
     let f = facts (c .before .before .before) in
     let h = cells-held (c .before .before) in
     (h .few, f .most, h .positive, f .few-times, h .within)
 
--- src/chunk.rt:208:17
 enum-told-2 : tie.Need-enum-told-2
 enum-told-2 c = search needs
 
--- src/chunk.rt:214:17
 slice-aggregate-sweep-cells : tie.Need-slice-aggregate-sweep-cells
 slice-aggregate-sweep-cells c = sym (one-roll (c .before .before .before .before))
 
--- src/chunk.rt:209:17
 sweep-cells-requires-2 : tie.Need-sweep-cells-requires-2
 sweep-cells-requires-2 c κs =
     let f = facts (c .before .before .before .before) in
     let h = cells-held (c .before .before .before) in
     (h .few, omega (arith, one-roll (c .before .before .before .before)), h .positive, f .few-times, h .within)
 
--- src/chunk.rt:218:35
 repeated-requires : tie.Need-repeated-requires
 repeated-requires c κs =
     let f = facts (c .before .before .before .before .before) in
     let h = cells-held (c .before .before .before .before) in
     (f .one, f .most, one-each (c .before .before .before .before .smaller .result) _ (c .sweep-cells2 .result) (h .few) (one-swept c))
 
--- src/chunk.rt:184:1
 returns-2 : tie.Need-returns-2
 unfolding chunkReply
 returns-2 c f h =
     let a = c .before .before .before .before .before .before .before .before .before .before .args in
     let p = planOf (a .targets .now) (a .suns .now) (a .observers .now) (a .config) in
     sym (reply-none _ _ (sym (c .before .before .before .before .before .chunk-refusal .ensures) ∙ c .before .before .before .before .if1 .left)
-    ∙ ap accepted (sym (c .sweep-cells .ensures ∙ swept-chunk (sweepOf p (a .rolls .now) f h) (a .chunk) _ (cells-held (c .before .before .before) .whole))))
+    ∙ ap accepted (sym (c .sweep-cells .ensures ∙ swept-chunk (sweepOver p (a .rolls .now) f h) (a .chunk) _ (cells-held (c .before .before .before) .whole))))
 
--- src/chunk.rt:184:1
 returns-3 : tie.Need-returns-3
 unfolding chunkReply
 returns-3 c f h =
@@ -132,7 +111,7 @@ returns-3 c f h =
     (λ k s. configured-same p _ r (take 1 r) (64 * a .chunk + k) s 0 (c .before .before .before .enum-told2 .given .1))
     (one-swept (c .before)) (c .repeated .ensures .0) (c .repeated .ensures .1) in
     sym (reply-none _ _ (sym (c .before .before .before .before .before .before .before .chunk-refusal .ensures) ∙ c .before .before .before .before .before .before .if1 .left)
-    ∙ ap accepted (sym (all ∙ swept-chunk (sweepOf p r f h) (a .chunk) _ (cells-held (c .before .before .before .before .before) .whole))))
+    ∙ ap accepted (sym (all ∙ swept-chunk (sweepOver p r f h) (a .chunk) _ (cells-held (c .before .before .before .before .before) .whole))))
 
 pub sweep-chunk-spec : {M : Type 1} → statement M
 sweep-chunk-spec =

@@ -1,6 +1,6 @@
-use Prim.Native.Nat.{ℕ, _+_, _-_, _*_, _^_, _≤_, _<_}
-use mathlib.Core.Path.{_≡_, refl, sym, ap, _∙_}
-use mathlib.Core.Bool.{Bool, true, false}
+use Prim.Native.Nat.{ℕ, _+_, _-_, _≤_, _<_}
+use mathlib.Core.Path.{_≡_, refl, sym, _∙_}
+use mathlib.Core.Bool.{Bool, true}
 use mathlib.Core.List.{List, []}
 use native.Mathlib.Nat.{mul-le-mul}
 use native.Mathlib.Omega.{arith}
@@ -19,11 +19,6 @@ use Rattle.solar_roll.specs.declared.cell.EvaluationRoll.the-variants.{Sweep}
 use Rattle.roll_sweep.proofs.Swept.{Upto, upto-zero, upto-whole, upto-le, upto-clear, upto-marked}
 use Rattle.roll_sweep.proofs.chunk.sweep_row.Statement.{statement}
 use Rattle.roll_sweep.proofs.chunk.sweep_row.Tie as tie
-use Rattle.roll_sweep.proofs.chunk.sweep_row.Reads as reads
-use Rattle.roll_sweep.proofs.chunk.sweep_row.Lts as lts
-use Rattle.solar_roll.proofs.in_force.Reads as in-force-reads
-use Rattle.solar_roll.proofs.roll_in.Reads as roll-in-reads
-use Rattle.solar_roll.proofs.violated.Reads as violated-reads
 
 -- sample s violates the row's cell k
 abbrev row-violated : Axes → List Vector → Panel → ConfiguredRoll → Float → List Float → ℕ → ℕ → Bool

@@ -1,17 +1,13 @@
-use Prim.Native.Nat.{ℕ, _+_, _-_, _≤_, _<_, min}
-use mathlib.Core.Path.{_≡_, refl, sym, ap, _∙_}
+use Prim.Native.Nat.{_-_, _≤_, _<_, min}
+use mathlib.Core.Path.{_≡_, refl, _∙_}
 use native.Mathlib.Omega.{arith}
 use borrow.Author.Needs.{needs}
 use lib.ListN.{length, length-set}
-use lib.Ieee.{ofBits}
 use Rattle.buffers.specs.Lent.{filled}
-use Rattle.buffers.proofs.Lent.{filled-zero, filled-next, length-filled}
+use Rattle.buffers.proofs.Lent.{filled-zero, filled-next}
 use Rattle.roll_sweep.specs.Rolls.{evenRoll}
 use Rattle.roll_sweep.proofs.rolls.even_rolls.Statement.{statement}
 use Rattle.roll_sweep.proofs.rolls.even_rolls.Tie as tie
-use Rattle.roll_sweep.proofs.rolls.even_rolls.Reads as reads
-use Rattle.roll_sweep.proofs.rolls.even_rolls.Lts as lts
-use Rattle.roll_sweep.proofs.rolls.places.Reads as places-reads
 
 abbrev Inv-loop : tie.InvT-loop
 Inv-loop n table₀ step k₀ k-end table k =
