@@ -4,4 +4,6 @@
 // turns the answer into one number; its contract says so by the definition that the call's own contract cites.
 mod answers;
 mod arithmetic;
+mod journals;
+mod plans;
 mod rolls;

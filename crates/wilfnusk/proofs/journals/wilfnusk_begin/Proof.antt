@@ -1,0 +1,22 @@
+use borrow.Author.Needs.{needs}
+use Rattle.wilfnusk.proofs.journals.wilfnusk_begin.Statement.{statement}
+use Rattle.wilfnusk.proofs.journals.wilfnusk_begin.Tie as tie
+
+settings-requires : tie.Need-settings-requires
+settings-requires c κs = search needs
+
+begin-requires : tie.Need-begin-requires
+begin-requires c κs = search needs
+
+int64-requires : tie.Need-int64-requires
+int64-requires c κs = search needs
+
+same-length : tie.Need-same-length
+same-length c = search needs
+
+returns : tie.Need-returns
+returns c = (simp (c .int64 .ensures, c .before .before .before .begin .ensures .0, c .before .before .before .before .before .settings .ensures), simp (c .before .before .before .begin .ensures .1, c .before .before .before .before .before .settings .ensures))
+
+pub wilfnusk-begin-spec : {M : Type 1} → statement M
+wilfnusk-begin-spec =
+    tie.close (tie.spec settings-requires begin-requires int64-requires same-length returns)

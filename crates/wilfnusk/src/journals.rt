@@ -1,0 +1,74 @@
+// Begin, work, recover and collect.
+use crate::answers::int64;
+use crate::plans::settings;
+ghost use mathlib.Core.Path.{_≡_};
+ghost use Rattle.journal.specs.Calls.{beginReply, beginBytes, recoverReply, collectReply, collectMask};
+ghost use Rattle.journal.specs.Plan.{lentSweep};
+ghost use Rattle.wilfnusk.specs.Answers.{int64};
+ghost use Rattle.wilfnusk.specs.Plans.{settings};
+
+#[no_mangle]
+pub extern "C" fn wilfnusk_begin(
+    targets: &[f64],
+    suns: &[f64],
+    observers: &[f64],
+    tolerance_deg: f64,
+    has_roll: u64,
+    roll_deg: f64,
+    panel_x: f64,
+    panel_y: f64,
+    panel_z: f64,
+    n: u64,
+    journal: &mut [u8],
+    used: u64,
+) -> u64
+    ensures { λ r. ⌜ r ≡ int64 (beginReply (lentSweep (now (targets .entry)) (now (suns .entry)) (now (observers .entry)) (settings «tolerance_deg» «has_roll» «roll_deg» «panel_x» «panel_y» «panel_z») n) (now (journal .entry)) used) ⌝ }
+    ensures { λ r. ⌜ now (journal .exit) ≡ beginBytes (lentSweep (now (targets .entry)) (now (suns .entry)) (now (observers .entry)) (settings «tolerance_deg» «has_roll» «roll_deg» «panel_x» «panel_y» «panel_z») n) (now (journal .entry)) used ⌝ }
+{
+    let config = settings(tolerance_deg, has_roll, roll_deg, panel_x, panel_y, panel_z);
+    int64(journal::begin(targets, suns, observers, config, n, journal, used))
+}
+
+#[no_mangle]
+pub extern "C" fn wilfnusk_recover(
+    targets: &[f64],
+    suns: &[f64],
+    observers: &[f64],
+    tolerance_deg: f64,
+    has_roll: u64,
+    roll_deg: f64,
+    panel_x: f64,
+    panel_y: f64,
+    panel_z: f64,
+    n: u64,
+    journal: &[u8],
+    used: u64,
+) -> u64
+    ensures { λ r. ⌜ r ≡ int64 (recoverReply (lentSweep (now (targets .entry)) (now (suns .entry)) (now (observers .entry)) (settings «tolerance_deg» «has_roll» «roll_deg» «panel_x» «panel_y» «panel_z») n) (now (journal .entry)) used) ⌝ }
+{
+    let config = settings(tolerance_deg, has_roll, roll_deg, panel_x, panel_y, panel_z);
+    int64(journal::recover(targets, suns, observers, config, n, journal, used))
+}
+
+#[no_mangle]
+pub extern "C" fn wilfnusk_collect(
+    targets: &[f64],
+    suns: &[f64],
+    observers: &[f64],
+    tolerance_deg: f64,
+    has_roll: u64,
+    roll_deg: f64,
+    panel_x: f64,
+    panel_y: f64,
+    panel_z: f64,
+    n: u64,
+    journal: &[u8],
+    used: u64,
+    mask: &mut [u8],
+) -> u64
+    ensures { λ r. ⌜ r ≡ int64 (collectReply (lentSweep (now (targets .entry)) (now (suns .entry)) (now (observers .entry)) (settings «tolerance_deg» «has_roll» «roll_deg» «panel_x» «panel_y» «panel_z») n) (now (journal .entry)) used (now (mask .entry))) ⌝ }
+    ensures { λ r. ⌜ now (mask .exit) ≡ collectMask (lentSweep (now (targets .entry)) (now (suns .entry)) (now (observers .entry)) (settings «tolerance_deg» «has_roll» «roll_deg» «panel_x» «panel_y» «panel_z») n) (now (journal .entry)) used (now (mask .entry)) ⌝ }
+{
+    let config = settings(tolerance_deg, has_roll, roll_deg, panel_x, panel_y, panel_z);
+    int64(journal::collect(targets, suns, observers, config, n, journal, used, mask))
+}
