@@ -10,8 +10,8 @@ use borrow.Author.Tests.{lt-ltb, le-ltb, le-leb, lt-leb, eq-eqb, ne-eqb}
 use Rattle.buffers.specs.Lent.{filled, put}
 use Rattle.buffers.specs.Refusal.{Conditions, first, carried, Reply, refused, accepted, reply, unlessRefused}
 use Rattle.buffers.proofs.Refusal.{first-none, first-here, first-skip, carried-here, carried-skip, reply-none, reply-some, written-none, written-some}
-use Rattle.roll_sweep.specs.Sweep.{Sweep, cells, chunks}
-use Rattle.journal.specs.Lines.{lineOf, hasChunk, hasChunks, heldProbes}
+use Rattle.roll_sweep.specs.Sweep.{Sweep, cells, chunks, chunkMask, chunkProbes}
+use Rattle.journal.specs.Lines.{lineText, lineOf, hasChunk, hasChunks, heldProbes}
 use Rattle.journal.specs.Right.{wholeLines, torn, right}
 use Rattle.journal.specs.Calls.{planFirst, wrong, beginShort, workShort, collectShort, beginRefusal, beginReply, beginBytes, workRefusal, workReply, workBytes, kept, recoverRefusal, recoverReply, collectRefusal, collectReply, heldBit, collectMask}
 
@@ -48,6 +48,57 @@ module _ (s : Sweep) (b : List ℕ) (u : ℕ) where
     sym (reply-none (beginRefusal s b u) 107 e),
     w ∙ sym (written-none (beginRefusal s b u) (put 0 (s .header) b) b e),
   )
+
+  -- ---- work
+
+  module _ (c : ℕ) where
+    pub work-plan : (k : ℕ) → k ≡ s .refusal (ltb (length b) u) → 0 < k → workRefusal s c b u ≡ k
+    unfolding workRefusal
+    work-plan k e h = simp (sym e, ne-eqb k 0 (λ z. omega arith))
+
+    module _ (p : s .refusal (ltb (length b) u) ≡ 0) where
+      pub work-9 : chunks (cells s) ≤ c → workRefusal s c b u ≡ 9
+      unfolding workRefusal
+      work-9 h = simp (p, le-leb (chunks (cells s)) c h)
+
+      module _ (g : c < chunks (cells s)) where
+        pub work-11 : wrong s b u ≡ true → workRefusal s c b u ≡ 11
+        unfolding workRefusal
+        work-11 w = simp (p, lt-leb (chunks (cells s)) c g, w)
+
+        module _ (w : wrong s b u ≡ false) where
+          pub work-12 : torn u ≡ true → workRefusal s c b u ≡ 12
+          unfolding workRefusal
+          work-12 t = simp (p, lt-leb (chunks (cells s)) c g, w, t)
+
+          module _ (t : torn u ≡ false) where
+            pub work-10 : hasChunk b (wholeLines u) c ≡ true → workRefusal s c b u ≡ 10
+            unfolding workRefusal
+            work-10 a = simp (p, lt-leb (chunks (cells s)) c g, w, t, a)
+
+            module _ (a : hasChunk b (wholeLines u) c ≡ false) where
+              pub work-7 : length b < u + 33 → workRefusal s c b u ≡ 7
+              unfolding workRefusal
+              work-7 h = simp (p, lt-leb (chunks (cells s)) c g, w, t, a, lt-ltb (length b) (u + 33) h)
+
+              pub work-0 : u + 33 ≤ length b → workRefusal s c b u ≡ 0
+              unfolding workRefusal
+              work-0 h = simp (p, lt-leb (chunks (cells s)) c g, w, t, a, le-ltb (length b) (u + 33) h)
+
+    pub work-refused : (k : ℕ) → 0 < k → workRefusal s c b u ≡ k → (refused k ≡ workReply s c b u) × (b ≡ workBytes s c b u)
+    unfolding workReply workBytes
+    work-refused k h e = (
+      sym (ap (λ (n : ℕ). reply n (u + 33)) e ∙ reply-some k (u + 33) h),
+      sym (ap (λ (n : ℕ). unlessRefused n (put u (lineOf s c) b) b) e ∙ written-some k (put u (lineOf s c) b) b h),
+    )
+
+    pub work-accepted : (m q : ℕ) (o : List ℕ) → m ≡ chunkMask s c → q ≡ chunkProbes s c → o ≡ put u (lineText c m q) b → workRefusal s c b u ≡ 0
+        → (accepted (u + 33) ≡ workReply s c b u) × (o ≡ workBytes s c b u)
+    unfolding workReply workBytes lineOf
+    work-accepted m q o f g w e = (
+      sym (reply-none (workRefusal s c b u) (u + 33) e),
+      w ∙ ap₂ (λ (x y : ℕ). put u (lineText c x y) b) f g ∙ sym (written-none (workRefusal s c b u) (put u (lineOf s c) b) b e),
+    )
 
   -- ---- recover
 

@@ -1,16 +1,19 @@
 // Begin, work, recover and collect. Each tries document 01's refusals in their order, and writes nothing until all have passed.
 ghost use mathlib.Core.Path.{_≡_};
 ghost use mathlib.Core.Bool.{true};
-ghost use Prim.Native.Nat.{_*_, _≤_};
+ghost use Prim.Native.Nat.{_*_, _≤_, _<_};
 ghost use lib.ListN.{length, replicate};
 ghost use Rattle.buffers.specs.Refusal.{replyOf};
+ghost use Rattle.solar_roll.specs.Plan.{count};
+ghost use Rattle.roll_sweep.specs.Sweep.{chunks, chunkMask, chunkProbes};
 ghost use Rattle.journal.specs.Lines.{heldProbes};
 ghost use Rattle.journal.specs.Right.{wholeLines, right};
 ghost use Rattle.journal.specs.Header.{settingsHeader};
-ghost use Rattle.journal.specs.Calls.{beginReply, beginBytes, recoverReply, collectReply, collectMask};
+ghost use Rattle.journal.specs.Calls.{beginReply, beginBytes, workReply, workBytes, recoverReply, collectReply, collectMask};
 ghost use Rattle.journal.specs.Pass.{checkedOf, Tables};
 ghost use Rattle.journal.specs.Plan.{lentSweep};
 use crate::header::write_header;
+use crate::line::append_line;
 use crate::mask::all_seen;
 use crate::mask::write_cells;
 use crate::pass::Checked;
@@ -74,6 +77,55 @@ pub fn begin(
         config,
     );
     Answer::Accepted(107)
+}
+
+pub struct Swept {
+    pub mask: u64,
+    pub probes: u64,
+}
+
+// Sweeps a chunk of an accepted plan at n even steps.
+fn sweep_even(targets: &[f64], suns: &[f64], observers: &[f64], config: SolarRollConfig, n: u64, chunk: u64) -> Swept
+    requires { ⌜ (count (now targets) ≤ 65536) × (count (now suns) ≤ 65536) × (count (now targets) * count (now suns) ≤ 1048576) × (1 ≤ n) × (n ≤ 3600) × (chunk < chunks (count (now targets) * count (now suns))) ⌝ }
+    ensures { λ r. ⌜ (r .mask ≡ chunkMask (lentSweep (now (targets .entry)) (now (suns .entry)) (now (observers .entry)) config n) chunk)
+        × (r .probes ≡ chunkProbes (lentSweep (now (targets .entry)) (now (suns .entry)) (now (observers .entry)) config n) chunk) ⌝ }
+{
+    Swept { mask: 0, probes: 0 }
+}
+
+// Sweeps a chunk, appends its line, and gives the used length.
+pub fn work(targets: &[f64], suns: &[f64], observers: &[f64], config: SolarRollConfig, n: u64, chunk: u64, journal: &mut [u8], used: u64) -> Answer
+    ensures { λ r. ⌜ (replyOf r ≡ workReply (lentSweep (now (targets .entry)) (now (suns .entry)) (now (observers .entry)) config n) chunk (now (journal .entry)) used)
+        × (now (journal .exit) ≡ workBytes (lentSweep (now (targets .entry)) (now (suns .entry)) (now (observers .entry)) config n) chunk (now (journal .entry)) used) ⌝ }
+{
+    let room = journal.len() as u64;
+    let refusal = plan_refusal(targets, suns, observers, config, sampling(n), room < used);
+    if refusal != 0 {
+        return Answer::Refused(refusal);
+    }
+    let rows = (targets.len() / 3) as u64;
+    let times = (suns.len() / 3) as u64;
+    if (rows * times + 63) / 64 <= chunk {
+        return Answer::Refused(9);
+    }
+    let mut seen = [0u8; 16384];
+    let mut masks = [0u64; 16384];
+    let Checked::Right(_) = check_for(rows, times, n, config, journal, used as usize, &mut seen, &mut masks) else {
+        return Answer::Refused(11);
+    };
+    if is_torn(used as usize) {
+        return Answer::Refused(12);
+    }
+    let c = chunk as usize;
+    if seen[c] != 0 {
+        return Answer::Refused(10);
+    }
+    if room - used < 33 {
+        return Answer::Refused(7);
+    }
+    let swept = sweep_even(targets, suns, observers, config, n, chunk);
+    append_line(journal, used as usize, chunk, swept.mask, swept.probes);
+    Answer::Accepted(used + 33)
 }
 
 // Gives the used length that is left after a power failure.

@@ -9,3 +9,4 @@ mod pass;
 pub use calls::begin;
 pub use calls::collect;
 pub use calls::recover;
+pub use calls::work;
