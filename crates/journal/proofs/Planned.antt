@@ -7,22 +7,28 @@ use native.Mathlib.Omega.{arith}
 use lib.Dec.{ltb, leb, lit<}
 use lib.ListN.{length}
 use lib.Ieee.{Float, binary64, toBits}
-use borrow.Author.Tests.{leb-true, ltb-false}
-use Rattle.buffers.specs.Refusal.{first, carried}
+use borrow.Author.Tests.{le-leb, ltb-false}
+use Rattle.buffers.specs.Refusal.{first, carried, reply}
 use Rattle.buffers.proofs.Refusal.{first-clear, carried-clear}
 use Rattle.buffers.specs.Lent.{over, put}
 use Rattle.buffers.proofs.Lent.{put-first}
-use Rattle.buffers.proofs.Ranges.{length-tab}
 use Rattle.buffers.proofs.Tests.{or-right, and-left, and-right}
 use Rattle.solar_roll.specs.Vectors.{Vector, x, y, z}
 use Rattle.solar_roll.specs.declared.cell.ConfiguredRoll.{ConfiguredRoll}
 use Rattle.solar_roll.specs.Plan.{Plan, rowsOf, timesOf, headTolerance, headConfigured, headPanel, unlikeLengths, samplingOf, planRefusal, PlanFacts}
 use Rattle.solar_roll.proofs.Accepted.{plan-facts}
-use Rattle.roll_sweep.specs.Sweep.{Sweep, cells}
+use Rattle.roll_sweep.specs.Sweep.{Sweep, cells, chunks}
+use Rattle.roll_sweep.specs.Rolls.{evenRolls}
+use Rattle.roll_sweep.specs.Chunk.{sweepOver, sweptOf, chunkRefusal, chunkReply}
+use Rattle.roll_sweep.specs.declared.chunk.Swept.{Swept}
+use Rattle.roll_sweep.specs.declared.chunk.ChunkAnswer.{ChunkAnswer}
+use Rattle.roll_sweep.specs.declared.chunk.ChunkAnswer.the-variants.{Accepted, Refused}
+use Rattle.roll_sweep.proofs.Even.{length-even}
+use Rattle.roll_sweep.proofs.Accepted.{sampled, chunk-accepted, answer-swept, answer-never}
 use Rattle.journal.specs.Right.{right}
 use Rattle.journal.specs.Header.{hasRoll, rollBits, settingsHeader, headerOf}
 use Rattle.journal.specs.Calls.{wrong}
-use Rattle.journal.specs.Plan.{evenRolls, sweepOf}
+use Rattle.journal.specs.Plan.{sweepOf}
 use Rattle.journal.proofs.Write.{length-header}
 
 -- what is known once the plan has passed
@@ -31,14 +37,6 @@ pub record Passed (p : Plan) (n room u : ℕ) : Type 0 where
   pub one : 1 ≤ n
   pub most : n ≤ 3600
   pub used : u ≤ room
-
-sampled : (n : ℕ) → samplingOf n ≡ 0 → (1 ≤ n) × (n ≤ 3600)
-unfolding samplingOf
-sampled n e = let h = both (leb 1 n && leb n 3600) e in (leb-true 1 n (and-left (leb 1 n) (leb n 3600) h), leb-true n 3600 (and-right (leb 1 n) (leb n 3600) h))
-  where
-    both : (t : Bool) → _≡_ {A = ℕ} (cond t 0 3) 0 → t ≡ true
-    both true z = refl
-    both false z = absurd (omega arith)
 
 -- a header has 107 bytes, so it fills as many
 pub length-settings : (targets times n : ℕ) (tolerance : Float) (configured : ConfiguredRoll) (panel : Vector) → length (settingsHeader targets times n tolerance configured panel) ≡ 107
@@ -49,8 +47,8 @@ length-settings targets times n tolerance configured panel =
 
 module _ (p : Plan) (n : ℕ) where
   pub samples-n : sweepOf p n .samples ≡ n
-  unfolding sweepOf evenRolls
-  samples-n = length-tab n _
+  unfolding sweepOf
+  samples-n = length-even n
 
   -- the refusal that the plan's call gave, k, is the sweep's
   pub refusal-said : (m k : ℕ) (beyond : Bool) → m ≡ samplingOf n → k ≡ planRefusal p m beyond → k ≡ sweepOf p n .refusal beyond
@@ -88,3 +86,26 @@ module _ (p : Plan) (n : ℕ) where
       → wrong (sweepOf p n) b u ≡ not t
   unfolding wrong sweepOf headerOf
   wrong-planned b u t e = ap not (ap (λ (x : ℕ). right (rowsOf p * timesOf p) x (headerOf p n) b u) samples-n ∙ e)
+
+-- ---- the sweep of a chunk of an accepted plan, at n even rolls, is not refused, and gives what the plan's sweep has
+
+sampling-passed : (n : ℕ) → 1 ≤ n → n ≤ 3600 → samplingOf n ≡ 0
+unfolding samplingOf
+sampling-passed n h l = simp (le-leb 1 n h, le-leb n 3600 l)
+
+module _ (p : Plan) (n c : ℕ) (f : PlanFacts p) (one : 1 ≤ n) (most : n ≤ 3600) (exists : c < chunks (rowsOf p * timesOf p))
+    (rolls : List Float) (even : rolls ≡ evenRolls n) (a : ChunkAnswer)
+    (told : (refusal : Bool → ℕ) (header : List ℕ)
+    → chunkReply a ≡ reply (chunkRefusal (rowsOf p) (timesOf p) (length rolls) c) (sweptOf (sweepOver p rolls refusal header) c)) where
+  not-refused : chunkRefusal (rowsOf p) (timesOf p) (length rolls) c ≡ 0
+  not-refused =
+      chunk-accepted p (length rolls) c f (ap samplingOf (ap length even ∙ length-even n) ∙ sampling-passed n one most) exists
+
+  pub even-swept : (s : Swept) → a ≡ Accepted s → s ≡ sweptOf (sweepOf p n) c
+  unfolding sweepOf
+  even-swept s e =
+      answer-swept a _ _ s (told (planRefusal p (samplingOf n)) (headerOf p n)) not-refused e
+      ∙ ap (λ (r : List Float). sweptOf (sweepOver p r (planRefusal p (samplingOf n)) (headerOf p n)) c) even
+
+  pub even-never : (j : ℕ) → a ≡ Refused j → ⊥
+  even-never j e = answer-never a _ j _ (told (planRefusal p (samplingOf n)) (headerOf p n)) not-refused e

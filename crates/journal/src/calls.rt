@@ -4,8 +4,9 @@ ghost use mathlib.Core.Bool.{true};
 ghost use Prim.Native.Nat.{_*_, _≤_, _<_};
 ghost use lib.ListN.{length, replicate};
 ghost use Rattle.buffers.specs.Refusal.{replyOf};
-ghost use Rattle.solar_roll.specs.Plan.{count};
-ghost use Rattle.roll_sweep.specs.Sweep.{chunks, chunkMask, chunkProbes};
+ghost use Rattle.solar_roll.specs.Plan.{planOf, count, PlanFacts};
+ghost use Rattle.roll_sweep.specs.Sweep.{chunks};
+ghost use Rattle.roll_sweep.specs.Chunk.{sweptOf};
 ghost use Rattle.journal.specs.Lines.{heldProbes};
 ghost use Rattle.journal.specs.Right.{wholeLines, right};
 ghost use Rattle.journal.specs.Header.{settingsHeader};
@@ -21,6 +22,10 @@ use crate::pass::check_journal;
 use crate::pass::is_torn;
 use crate::pass::kept_length;
 use buffers::Answer;
+use roll_sweep::ChunkAnswer;
+use roll_sweep::Swept;
+use roll_sweep::even_rolls;
+use roll_sweep::sweep_chunk;
 use solar_roll::SolarRollConfig;
 use solar_roll::plan_refusal;
 use solar_roll::sampling;
@@ -79,22 +84,39 @@ pub fn begin(
     Answer::Accepted(107)
 }
 
-pub struct Swept {
-    pub mask: u64,
-    pub probes: u64,
-}
-
 // Sweeps a chunk of an accepted plan at n even steps.
-fn sweep_even(targets: &[f64], suns: &[f64], observers: &[f64], config: SolarRollConfig, n: u64, chunk: u64) -> Swept
-    requires { ⌜ (count (now targets) ≤ 65536) × (count (now suns) ≤ 65536) × (count (now targets) * count (now suns) ≤ 1048576) × (1 ≤ n) × (n ≤ 3600) × (chunk < chunks (count (now targets) * count (now suns))) ⌝ }
-    ensures { λ r. ⌜ (r .mask ≡ chunkMask (lentSweep (now (targets .entry)) (now (suns .entry)) (now (observers .entry)) config n) chunk)
-        × (r .probes ≡ chunkProbes (lentSweep (now (targets .entry)) (now (suns .entry)) (now (observers .entry)) config n) chunk) ⌝ }
+fn sweep_even(
+    targets: &[f64],
+    suns: &[f64],
+    observers: &[f64],
+    config: SolarRollConfig,
+    n: u64,
+    chunk: u64,
+) -> Swept
+    requires { ⌜ PlanFacts (planOf (now targets) (now suns) (now observers) config) × (1 ≤ n) × (n ≤ 3600) × (chunk < chunks (count (now targets) * count (now suns))) ⌝ }
+    ensures { λ r. ⌜ r ≡ sweptOf (lentSweep (now (targets .entry)) (now (suns .entry)) (now (observers .entry)) config n) chunk ⌝ }
 {
-    Swept { mask: 0, probes: 0 }
+    let mut rolls = [0.0; 3600];
+    even_rolls(n as u32, &mut rolls);
+    let end = n as usize;
+    match sweep_chunk(targets, suns, observers, config, &rolls[..end], chunk) {
+        ChunkAnswer::Accepted(swept) => swept,
+        // Never: what it refuses has been refused.
+        ChunkAnswer::Refused(_) => Swept { mask: 0, probes: 0 },
+    }
 }
 
 // Sweeps a chunk, appends its line, and gives the used length.
-pub fn work(targets: &[f64], suns: &[f64], observers: &[f64], config: SolarRollConfig, n: u64, chunk: u64, journal: &mut [u8], used: u64) -> Answer
+pub fn work(
+    targets: &[f64],
+    suns: &[f64],
+    observers: &[f64],
+    config: SolarRollConfig,
+    n: u64,
+    chunk: u64,
+    journal: &mut [u8],
+    used: u64,
+) -> Answer
     ensures { λ r. ⌜ (replyOf r ≡ workReply (lentSweep (now (targets .entry)) (now (suns .entry)) (now (observers .entry)) config n) chunk (now (journal .entry)) used)
         × (now (journal .exit) ≡ workBytes (lentSweep (now (targets .entry)) (now (suns .entry)) (now (observers .entry)) config n) chunk (now (journal .entry)) used) ⌝ }
 {
@@ -110,7 +132,16 @@ pub fn work(targets: &[f64], suns: &[f64], observers: &[f64], config: SolarRollC
     }
     let mut seen = [0u8; 16384];
     let mut masks = [0u64; 16384];
-    let Checked::Right(_) = check_for(rows, times, n, config, journal, used as usize, &mut seen, &mut masks) else {
+    let Checked::Right(_) = check_for(
+        rows,
+        times,
+        n,
+        config,
+        journal,
+        used as usize,
+        &mut seen,
+        &mut masks,
+    ) else {
         return Answer::Refused(11);
     };
     if is_torn(used as usize) {

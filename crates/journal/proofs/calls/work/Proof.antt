@@ -14,6 +14,7 @@ use Rattle.journal.specs.Lines.{hasChunk}
 use Rattle.journal.specs.Right.{wholeLines, torn}
 use Rattle.journal.specs.Calls.{wrong}
 use Rattle.roll_sweep.specs.Sweep.{cells, chunks}
+use Rattle.roll_sweep.specs.declared.chunk.Swept.{Swept}
 use Prim.Native.Nat.{_+_}
 use mathlib.Core.Bool.{true, false}
 use mathlib.Core.Path.{refl}
@@ -271,7 +272,7 @@ sweep-even-requires c κs =
     let z : s .refusal (ltb (length b) (a .used)) ≡ 0 = sym e ∙ c .before .before .before .before .before .before .before .before .before .before .before .before .before .if1 .left in
     let q = passed p (a .n) (length b) (a .used) z in
     let g : a .chunk < chunks (cells s) = c .before .before .before .before .before .before .before .before .before .before .before .before .if2 .left in
-    (q .facts .few-rows, q .facts .few-times, q .facts .few-cells, q .one, q .most, g)
+    (q .facts, q .one, q .most, g)
 
 -- src/calls.rt:127:5
 append-line-requires : tie.Need-append-line-requires
@@ -306,7 +307,7 @@ returns-7 c =
     let i : a .chunk < 16384 = omega (arith, g, q .facts .few-cells) in
     let v : hasChunk b (wholeLines (a .used)) (a .chunk) ≡ false = unseen b _ _ (wholeLines (a .used)) (a .chunk) tables i (c .before .before .before .before .before .before .if4 .left) in
     let swept = c .before .before .before .before .sweep-even in
-    work-accepted s b (a .used) (a .chunk) (swept .result .mask) (swept .result .probes) _ (swept .ensures .0) (swept .ensures .1) (c .before .before .append-line .ensures)
+    work-accepted s b (a .used) (a .chunk) (swept .result .mask) (swept .result .probes) _ (ap (λ (x : Swept). x .mask) (swept .ensures)) (ap (λ (x : Swept). x .probes) (swept .ensures)) (c .before .before .append-line .ensures)
     (work-0 s b (a .used) (a .chunk) z g w m v (omega (arith, c .before .before .before .before .before .if5 .left, q .used)))
 
 pub work-spec : {M : Type 1} → statement M
