@@ -1,7 +1,7 @@
 -- What is known of a chunk whose sweep is not refused, and that a chunk of an accepted plan is not. Assumes nothing.
 use mathlib.Core.Path.{_≡_, refl, sym, ap, _∙_}
 use mathlib.Core.Bool.{Bool, true, false, cond, _||_, _&&_}
-use Prim.Native.Nat.{ℕ, zero, suc, _+_, _-_, _*_, _≤_, _<_, min}
+use Prim.Native.Nat.{ℕ, zero, suc, _+_, _-_, _*_, _≤_, _<_}
 use native.Mathlib.Omega.{arith}
 use lib.Dec.{leb, ltb, lit<}
 use borrow.Author.Tests.{ltb-false, leb-true, leb-false, le-ltb, lt-leb}
@@ -66,7 +66,7 @@ pub record Held (rows times c w : ℕ) : Type 0 where
   pub within : 64 * c + w ≤ 1048576
   pub whole : w ≡ cellsIn (rows * times) c
 
-pub held : (rows times samples c w : ℕ) → ChunkFacts rows times samples c → w ≡ min 64 (rows * times - 64 * c) → Held rows times c w
+pub held : (rows times samples c w : ℕ) → ChunkFacts rows times samples c → w ≡ cellsIn (rows * times) c → Held rows times c w
 unfolding cellsIn
 held rows times samples c w f e =
     let h = first-below f in

@@ -1,6 +1,6 @@
 -- Rows of a mask: cell number = row · times + time, so a row's part of the mask is its cells' marks, in time order, and the mask
 -- is the rows' parts one after the other. Assumes nothing.
-use mathlib.Core.Path.{_≡_, refl, ap, ap₂, _∙_}
+use mathlib.Core.Path.{_≡_, ap, _∙_}
 use mathlib.Core.List.{List, [], _++_}
 use Prim.Native.Nat.{ℕ, zero, suc, _+_, _*_, _≤_, _<_}
 use native.Mathlib.Nat.{mul-le-mul-right, zero-mul, suc-mul}

@@ -6,7 +6,7 @@ use lib.Dec.{leb}
 use lib.ListN.{length, getD}
 use lib.Ieee.{Float, nan}
 use Rattle.buffers.specs.Ranges.{sum, allBelow}
-use Rattle.buffers.specs.Refusal.{first, carried, Reply, refused, accepted}
+use Rattle.buffers.specs.Refusal.{first, carried, Reply, refused, accepted, reply}
 use Rattle.solar_roll.specs.Plan.{Plan, rowsOf, timesOf, violatesAt, tooMany, samplingOf}
 use Rattle.roll_sweep.specs.Sweep.{Sweep, tried, chunks, word, chunkMask, chunkProbes}
 use Rattle.roll_sweep.specs.declared.chunk.Swept.{Swept}
@@ -41,6 +41,10 @@ chunkRefusal rows times samples c =
     ∷ carried (samplingOf samples)
     ∷ (leb (chunks (rows * times)) c, 9)
     ∷ [])
+
+-- what the sweep of chunk c answers
+abbrev pub sweptReply : Sweep → ℕ → Reply Swept
+sweptReply s c = reply (chunkRefusal (s .rows) (s .times) (s .samples) c) (sweptOf s c)
 
 -- the number and the value of each case of the answer
 unfoldable pub chunkReply : ChunkAnswer → Reply Swept

@@ -21,11 +21,11 @@ ghost use lib.Count.{ones};
 ghost use lib.ListN.{length, getD, take};
 ghost use lib.Ieee.{nan};
 ghost use Rattle.buffers.specs.Ranges.{tab};
-ghost use Rattle.buffers.specs.Refusal.{reply};
 ghost use Rattle.solar_roll.specs.Roll.{sunUnit};
 ghost use Rattle.solar_roll.specs.Cell.{rollIn, violates, inForce};
 ghost use Rattle.solar_roll.specs.Plan.{planOf, triple, count};
-ghost use Rattle.roll_sweep.specs.Chunk.{cellViolated, sweepOver, sweptBy, sweptOf, chunkRefusal, chunkReply};
+ghost use Rattle.roll_sweep.specs.Sweep.{cellsIn};
+ghost use Rattle.roll_sweep.specs.Chunk.{cellViolated, sweepOver, sweptBy, chunkRefusal, chunkReply, sweptReply};
 
 // What the sweep of cells gives: bit k of the mask is cell k, set where every sample violates it;
 // probes is how many samples were tried.
@@ -37,6 +37,17 @@ pub struct Swept {
 pub enum ChunkAnswer {
     Accepted(Swept),
     Refused(u64),
+}
+
+// How many of the cells a chunk holds.
+pub fn cells_in(cells: u64, chunk: u64) -> u64
+    ensures { λ r. ⌜ r ≡ cellsIn cells chunk ⌝ }
+{
+    if cells / 64 < chunk {
+        return 0;
+    }
+    let left = cells - 64 * chunk;
+    if left < 64 { left } else { 64 }
 }
 
 fn smaller(a: usize, b: usize) -> usize
@@ -189,7 +200,7 @@ pub fn sweep_chunk(
     rolls: &[f64],
     chunk: u64,
 ) -> ChunkAnswer
-    ensures { λ r. ⌜ ((refusal : Bool → ℕ) (header : List ℕ) → chunkReply r ≡ reply (chunkRefusal (count (now (targets .entry))) (count (now (suns .entry))) (length (now (rolls .entry))) chunk) (sweptOf (sweepOver (planOf (now (targets .entry)) (now (suns .entry)) (now (observers .entry)) config) (now (rolls .entry)) refusal header) chunk)) ⌝ }
+    ensures { λ r. ⌜ ((refusal : Bool → ℕ) (header : List ℕ) → chunkReply r ≡ sweptReply (sweepOver (planOf (now (targets .entry)) (now (suns .entry)) (now (observers .entry)) config) (now (rolls .entry)) refusal header) chunk) ⌝ }
 {
     let rows = targets.len() / 3;
     let times = suns.len() / 3;
@@ -198,7 +209,7 @@ pub fn sweep_chunk(
         return ChunkAnswer::Refused(refusal);
     }
     let first = 64 * chunk as usize;
-    let cells = smaller(64, rows * times - first);
+    let cells = cells_in((rows * times) as u64, chunk) as usize;
     let configured = config.roll_deg;
     match configured {
         ConfiguredRoll::None => ChunkAnswer::Accepted(sweep_cells(

@@ -4,5 +4,6 @@ mod rolls;
 
 pub use chunk::ChunkAnswer;
 pub use chunk::Swept;
+pub use chunk::cells_in;
 pub use chunk::sweep_chunk;
 pub use rolls::even_rolls;

@@ -1,9 +1,9 @@
 use Prim.Native.Nat.{ℕ, _+_, _-_, _*_, _^_, _<_}
 use mathlib.Core.Path.{_≡_, sym, ap, _∙_}
+use mathlib.Core.List.{List}
 use native.Mathlib.Omega.{arith}
 use borrow.Author.Needs.{needs}
 use lib.ListN.{length, take}
-use mathlib.Core.List.{List}
 use lib.Ieee.{Float}
 use lib.Seq.{length-take-le}
 use Rattle.buffers.specs.Refusal.{accepted}
@@ -24,10 +24,10 @@ facts : (c : tie.Else1) →
     ChunkFacts (count (a .targets .now)) (count (a .suns .now)) (length (a .rolls .now)) (a .chunk)
 facts c = chunk-facts _ _ _ _ (sym (c .before .chunk-refusal .ensures) ∙ c .if1 .left)
 
-cells-held : (c : tie.After-smaller) →
+cells-held : (c : tie.After-cells-in) →
     let a = c .before .before .before .before .before .before .before .args in
-    Held (count (a .targets .now)) (count (a .suns .now)) (a .chunk) (c .smaller .result)
-cells-held c = held _ _ _ _ _ (facts (c .before)) (c .smaller .ensures)
+    Held (count (a .targets .now)) (count (a .suns .now)) (a .chunk) (c .cells-in .result)
+cells-held c = held _ _ _ _ _ (facts (c .before)) (c .cells-in .ensures)
 
 -- the part of one roll
 one-roll : (c : tie.Else1) → length (take 1 (c .before .before .before .before .before .before .args .rolls .now)) ≡ 1
@@ -35,11 +35,11 @@ one-roll c = length-take-le 1 (c .before .before .before .before .before .before
 
 one-swept : (c : tie.After-sweep-cells2) →
     let a = c .before .before .before .before .before .before .before .before .before .before .before .args in
-    c .sweep-cells2 .result ≡ sweptBy (c .before .before .before .before .smaller .result) 1 (λ k. cellViolated (planOf (a .targets .now) (a .suns .now) (a .observers .now) (a .config)) (take 1 (a .rolls .now)) (64 * a .chunk + k))
+    c .sweep-cells2 .result ≡ sweptBy (c .before .before .before .before .cells-in .result) 1 (λ k. cellViolated (planOf (a .targets .now) (a .suns .now) (a .observers .now) (a .config)) (take 1 (a .rolls .now)) (64 * a .chunk + k))
 one-swept c =
     let a = c .before .before .before .before .before .before .before .before .before .before .before .args in
     c .sweep-cells2 .ensures
-    ∙ ap (λ (n : ℕ). sweptBy (c .before .before .before .before .smaller .result) n (λ k. cellViolated (planOf (a .targets .now) (a .suns .now) (a .observers .now) (a .config)) (take 1 (a .rolls .now)) (64 * a .chunk + k)))
+    ∙ ap (λ (n : ℕ). sweptBy (c .before .before .before .before .cells-in .result) n (λ k. cellViolated (planOf (a .targets .now) (a .suns .now) (a .observers .now) (a .config)) (take 1 (a .rolls .now)) (64 * a .chunk + k)))
     (one-roll (c .before .before .before .before .before))
 
 returns : tie.Need-returns
@@ -52,17 +52,13 @@ mul-first c =
     let l : 64 * c .before .before .before .before .before .before .args .chunk < 2 ^ 64 = omega (arith, first-below f) in
     record { fits = l }
 
-mul-smaller : tie.Need-mul-smaller
-mul-smaller c =
+mul-cells-in : tie.Need-mul-cells-in
+mul-cells-in c =
     let f = facts c in
     record { fits = omega arith }
 
-sub-smaller : tie.Need-sub-smaller
-sub-smaller c =
-    omega (arith, first-below (facts c))
-
-smaller-requires : tie.Need-smaller-requires
-smaller-requires c κs = search needs
+cells-in-requires : tie.Need-cells-in-requires
+cells-in-requires c κs = search needs
 
 enum-told : tie.Need-enum-told
 enum-told c = search needs
@@ -89,7 +85,7 @@ repeated-requires : tie.Need-repeated-requires
 repeated-requires c κs =
     let f = facts (c .before .before .before .before .before) in
     let h = cells-held (c .before .before .before .before) in
-    (f .one, f .most, one-each (c .before .before .before .before .smaller .result) _ (c .sweep-cells2 .result) (h .few) (one-swept c))
+    (f .one, f .most, one-each (c .before .before .before .before .cells-in .result) _ (c .sweep-cells2 .result) (h .few) (one-swept c))
 
 returns-2 : tie.Need-returns-2
 unfolding chunkReply
@@ -106,7 +102,7 @@ returns-3 c f h =
     let p = planOf (a .targets .now) (a .suns .now) (a .observers .now) (a .config) in
     let r : List Float = a .rolls .now in
     let e = facts (c .before .before .before .before .before .before) in
-    let all = swept-same (c .before .before .before .before .before .smaller .result) (length r) (λ k. cellViolated p r (64 * a .chunk + k)) (λ k. cellViolated p (take 1 r) (64 * a .chunk + k))
+    let all = swept-same (c .before .before .before .before .before .cells-in .result) (length r) (λ k. cellViolated p r (64 * a .chunk + k)) (λ k. cellViolated p (take 1 r) (64 * a .chunk + k))
     (c .before .sweep-cells2 .result) (c .repeated .result) (e .one)
     (λ k s. configured-same p _ r (take 1 r) (64 * a .chunk + k) s 0 (c .before .before .before .enum-told2 .given .1))
     (one-swept (c .before)) (c .repeated .ensures .0) (c .repeated .ensures .1) in
@@ -120,9 +116,8 @@ sweep-chunk-spec =
     chunk-refusal-requires
     returns
     mul-first
-    mul-smaller
-    sub-smaller
-    smaller-requires
+    mul-cells-in
+    cells-in-requires
     enum-told
     sweep-cells-requires
     enum-told-2
