@@ -29,3 +29,13 @@ cellWritten (accepted Free) before = before
 cellWritten (accepted (At roll)) before = roll
 cellWritten (accepted (Refused k)) before = before
 cellWritten (refused k) before = before
+
+-- of a call that writes one number: its answer is 0
+unfoldable pub numberAnswer : Reply Float → Reply ℕ
+numberAnswer (accepted x) = accepted 0
+numberAnswer (refused k) = refused k
+
+-- of a call that writes one number: what is lent for it afterwards
+unfoldable pub numberWritten : Reply Float → Float → Float
+numberWritten (accepted x) before = x
+numberWritten (refused k) before = before

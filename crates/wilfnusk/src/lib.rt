@@ -5,5 +5,6 @@
 mod answers;
 mod arithmetic;
 mod journals;
+mod listings;
 mod plans;
 mod rolls;

@@ -1,0 +1,88 @@
+// Windows of a row, their expansion and their seconds.
+use crate::answers::int64;
+use crate::answers::minus;
+use windows::Duration;
+use windows::total_violation_duration;
+ghost use mathlib.Core.Path.{_≡_};
+ghost use lib.ListN.{length};
+ghost use lib.Ieee.{binary64, ofInt};
+ghost use Rattle.buffers.specs.Lent.{over};
+ghost use Rattle.buffers.specs.Refusal.{reply, unlessRefused};
+ghost use Rattle.windows.specs.Expand.{spans, expanded, expandRefusal};
+ghost use Rattle.windows.specs.Refusal.{lengths, violationRefusal, visibilityRefusal};
+ghost use Rattle.windows.specs.Seconds.{totalSeconds, durationRefusal};
+ghost use Rattle.windows.specs.Windows.{violationWindows, visibilityWindows, columns, written};
+ghost use Rattle.wilfnusk.specs.Answers.{int64, numberAnswer, numberWritten};
+
+#[no_mangle]
+pub extern "C" fn wilfnusk_violation_windows(
+    mask: &[u8],
+    times: &[i64],
+    severities: &[f64],
+    first: &mut [u64],
+    last: &mut [u64],
+    first_time: &mut [i64],
+    last_time: &mut [i64],
+    severity: &mut [f64],
+    is_last: &mut [u8],
+) -> u64
+    ensures { λ r. ⌜ r ≡ int64 (reply (violationRefusal (now (mask .entry)) (now (times .entry)) (now (severities .entry)) (lengths (columns (now (first .entry)) (now (last .entry)) (now («first_time» .entry)) (now («last_time» .entry)) (now (severity .entry)) (now («is_last» .entry))))) (length (violationWindows (now (mask .entry)) (now (times .entry)) (now (severities .entry))))) ⌝ }
+    ensures { λ _. ⌜ columns (now (first .exit)) (now (last .exit)) (now («first_time» .exit)) (now («last_time» .exit)) (now (severity .exit)) (now («is_last» .exit))
+        ≡ unlessRefused (violationRefusal (now (mask .entry)) (now (times .entry)) (now (severities .entry)) (lengths (columns (now (first .entry)) (now (last .entry)) (now («first_time» .entry)) (now («last_time» .entry)) (now (severity .entry)) (now («is_last» .entry)))))
+        (written (violationWindows (now (mask .entry)) (now (times .entry)) (now (severities .entry))) (columns (now (first .entry)) (now (last .entry)) (now («first_time» .entry)) (now («last_time» .entry)) (now (severity .entry)) (now («is_last» .entry))))
+        (columns (now (first .entry)) (now (last .entry)) (now («first_time» .entry)) (now («last_time» .entry)) (now (severity .entry)) (now («is_last» .entry))) ⌝ }
+{
+    int64(windows::violation_windows(mask, times, severities, first, last, first_time, last_time, severity, is_last))
+}
+
+#[no_mangle]
+pub extern "C" fn wilfnusk_visibility_windows(
+    mask: &[u8],
+    times: &[i64],
+    first: &mut [u64],
+    last: &mut [u64],
+    first_time: &mut [i64],
+    last_time: &mut [i64],
+    severity: &mut [f64],
+    is_last: &mut [u8],
+) -> u64
+    ensures { λ r. ⌜ r ≡ int64 (reply (visibilityRefusal (now (mask .entry)) (now (times .entry)) (lengths (columns (now (first .entry)) (now (last .entry)) (now («first_time» .entry)) (now («last_time» .entry)) (now (severity .entry)) (now («is_last» .entry))))) (length (visibilityWindows (now (mask .entry)) (now (times .entry))))) ⌝ }
+    ensures { λ _. ⌜ columns (now (first .exit)) (now (last .exit)) (now («first_time» .exit)) (now («last_time» .exit)) (now (severity .exit)) (now («is_last» .exit))
+        ≡ unlessRefused (visibilityRefusal (now (mask .entry)) (now (times .entry)) (lengths (columns (now (first .entry)) (now (last .entry)) (now («first_time» .entry)) (now («last_time» .entry)) (now (severity .entry)) (now («is_last» .entry)))))
+        (written (visibilityWindows (now (mask .entry)) (now (times .entry))) (columns (now (first .entry)) (now (last .entry)) (now («first_time» .entry)) (now («last_time» .entry)) (now (severity .entry)) (now («is_last» .entry))))
+        (columns (now (first .entry)) (now (last .entry)) (now («first_time» .entry)) (now («last_time» .entry)) (now (severity .entry)) (now («is_last» .entry))) ⌝ }
+{
+    int64(windows::visibility_windows(mask, times, first, last, first_time, last_time, severity, is_last))
+}
+
+#[no_mangle]
+pub extern "C" fn wilfnusk_expand(
+    first_time: &[i64],
+    last_time: &[i64],
+    times: &[i64],
+    mask: &mut [u8],
+) -> u64
+    ensures { λ r. ⌜ r ≡ int64 (reply (expandRefusal (now («first_time» .entry)) (now («last_time» .entry)) (now (times .entry)) (length (now (mask .entry)))) 0) ⌝ }
+    ensures { λ _. ⌜ now (mask .exit) ≡ unlessRefused (expandRefusal (now («first_time» .entry)) (now («last_time» .entry)) (now (times .entry)) (length (now (mask .entry))))
+        (over (expanded (now (times .entry)) (spans (now («first_time» .entry)) (now («last_time» .entry)))) (now (mask .entry))) (now (mask .entry)) ⌝ }
+{
+    int64(windows::expand(first_time, last_time, times, mask))
+}
+
+#[no_mangle]
+pub extern "C" fn wilfnusk_total_violation_duration(
+    first_time: &[i64],
+    last_time: &[i64],
+    seconds: &mut f64,
+) -> u64
+    ensures { λ r. ⌜ (r ≡ int64 (numberAnswer (reply (durationRefusal (now («first_time» .entry)) (now («last_time» .entry))) (ofInt binary64 (totalSeconds (now («first_time» .entry)) (now («last_time» .entry)))))))
+        × (now (seconds .exit) ≡ numberWritten (reply (durationRefusal (now («first_time» .entry)) (now («last_time» .entry))) (ofInt binary64 (totalSeconds (now («first_time» .entry)) (now («last_time» .entry))))) (now (seconds .entry))) ⌝ }
+{
+    match total_violation_duration(first_time, last_time) {
+        Duration::Seconds(total) => {
+            *seconds = total;
+            0
+        }
+        Duration::Refused(k) => minus(k),
+    }
+}
