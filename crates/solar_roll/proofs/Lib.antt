@@ -1,5 +1,3 @@
 -- Laws of specs/.
 pub mod Accepted
-pub mod Calls
 pub mod Cells
-pub mod Triples

@@ -1,13 +1,8 @@
 // Solar roll, ported from solar_roll.rs: a cell's optimal roll, the cells that a roll violates, and
 // the plan whose cells they are.
 mod cell;
-mod field;
-mod mask;
 mod plan;
 mod roll;
-mod row;
-mod units;
-mod values;
 mod vectors;
 
 pub use cell::CellRoll;
@@ -17,12 +12,6 @@ pub use cell::cell_roll;
 pub use cell::in_force;
 pub use cell::roll_in;
 pub use cell::violated;
-pub use field::field_of_regard_violated_at_roll;
-pub use field::field_of_regard_violated_batch;
-pub use mask::MarkRule;
-pub use mask::in_constraint_batch;
-pub use mask::in_constraint_batch_at_roll;
-pub use mask::in_constraint_batch_constrained_at_every_roll;
 pub use plan::SolarRollConfig;
 pub use plan::direction;
 pub use plan::plan_refusal;
@@ -38,5 +27,3 @@ pub use roll::roll_deg_in;
 pub use roll::roll_is_unconstrained;
 pub use roll::solar_optimal_roll_deg;
 pub use roll::sun_unit;
-pub use row::evaluate;
-pub use values::named_values;

@@ -1,4 +1,4 @@
-use Rattle.solar_roll.proofs.Triples.{triple-past}
+use Rattle.solar_roll.proofs.Cells.{triple-past}
 use Rattle.solar_roll.specs.Plan.{triple}
 use borrow.Author.Needs.{needs}
 use lib.Ieee.{div, ofBits}

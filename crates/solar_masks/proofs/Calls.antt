@@ -1,0 +1,58 @@
+-- What a call knows once its refusal is 0: the plan's facts, and room enough. Assumes nothing.
+use mathlib.Core.Path.{_≡_, refl, sym, ap, _∙_}
+use mathlib.Core.Bool.{Bool, true, false, cond, _&&_, _||_}
+use Prim.Native.Nat.{ℕ, _≤_, _<_}
+use native.Mathlib.Omega.{arith}
+use lib.Dec.{leb, ltb, lit<}
+use borrow.Author.Tests.{ltb-false, leb-false, leb-true, lt-leb}
+use Rattle.buffers.proofs.Refusal.{first-clear, carried-clear}
+use Rattle.buffers.proofs.Tests.{or-left, or-right}
+use Rattle.solar_roll.specs.Plan.{Plan, rowsOf, timesOf, cells, samplingOrNone, planRefusal, PlanFacts}
+use Rattle.solar_masks.specs.Mask.{cellsShort, cellsRefusal}
+use Rattle.solar_masks.specs.Row.{rowShort, rowRefusal}
+use Rattle.solar_masks.specs.Field.{fieldShort, fieldRefusal}
+use Rattle.solar_roll.proofs.Accepted.{plan-facts, no-sampling}
+
+-- 3 was not said
+pub few-samples : (n : ℕ) → samplingOrNone n ≡ 0 → n ≤ 3600
+unfolding samplingOrNone
+few-samples n h = go (leb n 3600) refl h
+  where
+    go : (b : Bool) → leb n 3600 ≡ b → _≡_ {A = ℕ} (cond b 0 3) 0 → n ≤ 3600
+    go true e z = leb-true n 3600 e
+    go false e z = absurd (omega arith)
+
+module _ (p : Plan) (sampling room : ℕ) (h : cellsRefusal p sampling room ≡ 0) where
+  pub cells-plan : planRefusal p sampling false ≡ 0
+  unfolding cellsRefusal
+  cells-plan = carried-clear _ _ h .0
+
+  pub cells-facts : PlanFacts p
+  cells-facts = plan-facts p sampling false cells-plan
+
+  pub cells-room : cells p ≤ room
+  unfolding cellsRefusal cellsShort
+  cells-room = ltb-false _ _ (first-clear _ _ _ (lit< tt) (carried-clear _ _ h .1) .0)
+
+  pub cells-sampling : sampling ≡ 0
+  cells-sampling = no-sampling p sampling false cells-plan
+
+module _ (p : Plan) (sampling time room : ℕ) (h : fieldRefusal p sampling time room ≡ 0) where
+  pub field-sampling : sampling ≡ 0
+  unfolding fieldRefusal
+  field-sampling = no-sampling p sampling false (carried-clear _ _ h .0)
+
+  pub field-room : rowsOf p ≤ room
+  unfolding fieldRefusal fieldShort
+  field-room = ltb-false _ _ (first-clear _ _ _ (lit< tt) (first-clear _ _ _ (lit< tt) (carried-clear _ _ h .1) .1) .0)
+
+module _ (p : Plan) (r mask severities : ℕ) (h : rowRefusal p r mask severities ≡ 0) where
+  enough : (ltb mask (timesOf p) || ltb severities (timesOf p)) ≡ false
+  unfolding rowRefusal rowShort
+  enough = first-clear _ _ _ (lit< tt) (first-clear _ _ _ (lit< tt) (carried-clear _ _ h .1) .1) .0
+
+  pub row-room : (timesOf p ≤ mask) × (timesOf p ≤ severities)
+  row-room =
+      let a : Bool = ltb mask (timesOf p) in
+      let b : Bool = ltb severities (timesOf p) in
+      (ltb-false _ _ (or-left a b enough), ltb-false _ _ (or-right a b enough))

@@ -1,0 +1,34 @@
+-- What a row (its axes), a time (the Sun's unit) and the panel share makes the byte, the severity and the named value of a cell. Assumes nothing.
+use mathlib.Core.Path.{_≡_, ap₂}
+use Prim.Native.Nat.{ℕ}
+use lib.Ieee.{Float}
+use Rattle.buffers.specs.Ranges.{flag}
+use Rattle.solar_roll.specs.Vectors.{Vector}
+use Rattle.solar_roll.specs.Roll.{Axes, bodyAxes, rollDegIn, panelOf, solarOptimalRollDeg}
+use Rattle.solar_roll.specs.Cell.{rollIn}
+use Rattle.solar_roll.specs.Plan.{Plan, directionOf, configOf, rowConfig, sunAt, cellOf, headPanel, headConfigured}
+use Rattle.solar_roll.specs.declared.roll.Panel.{Panel}
+use Rattle.solar_roll.specs.declared.cell.CellRoll.{CellRoll}
+use Rattle.solar_roll.proofs.Cells.{cell-shared}
+use Rattle.solar_masks.specs.Mask.{marked, markAt, valueAt}
+use Rattle.solar_masks.specs.Row.{severity, severityAt}
+use Rattle.solar_masks.specs.declared.mask.MarkRule.{MarkRule}
+
+module _ (p : Plan) (r j : ℕ) (axes : Axes) (unit : Vector) (panel : Panel)
+    (row : axes ≡ bodyAxes (directionOf p r)) (time : unit ≡ sunAt p j) (whole : panel ≡ panelOf (headPanel p)) where
+  same : rollIn axes unit panel ≡ cellOf p r j
+  same = cell-shared p r j axes unit panel row time whole
+
+  pub mark-shared : (rule : MarkRule) (tolerance : Float) → tolerance ≡ configOf p r .«tolerance_deg» →
+      flag (marked (rollIn axes unit panel) rule tolerance) ≡ markAt p rule r j
+  unfolding markAt
+  mark-shared rule tolerance e = ap₂ (λ (c : CellRoll) (t : Float). flag (marked c rule t)) same e
+
+  pub severity-shared : (tolerance : Float) → tolerance ≡ configOf p r .«tolerance_deg» →
+      severity (rollIn axes unit panel) (headConfigured p) tolerance ≡ severityAt p r j
+  unfolding severityAt
+  severity-shared tolerance e = ap₂ (λ (c : CellRoll) (t : Float). severity c (headConfigured p) t) same e
+
+  pub value-shared : rollDegIn axes unit (panel .angle) ≡ valueAt p r j
+  unfolding valueAt solarOptimalRollDeg panelOf rowConfig headPanel
+  value-shared = simp (row, time, whole)

@@ -1,0 +1,69 @@
+use Prim.Native.Nat.{ℕ}
+use Rattle.buffers.proofs.Refusal.{answer-refused, answer-accepted, list-refused, list-accepted}
+use Rattle.buffers.specs.Lent.{filled}
+use Rattle.solar_masks.proofs.Calls.{few-samples, cells-facts, cells-room, cells-sampling}
+use Rattle.solar_masks.specs.Mask.{cellMark, cellsRefusal, cellsReply, maskAfter}
+use Rattle.solar_roll.specs.Plan.{Plan, planOf, cells, headConfigured, samplingOrNone}
+use Rattle.solar_masks.specs.declared.mask.MarkRule.{MarkRule}
+use borrow.Author.Needs.{needs}
+use denote.Ref.{now}
+use lib.ListN.{length}
+use mathlib.Core.Path.{_≡_, sym, ap, _∙_}
+use Rattle.solar_masks.proofs.mask.in_constraint_batch_constrained_at_every_roll.Statement.{statement}
+use Rattle.solar_masks.proofs.mask.in_constraint_batch_constrained_at_every_roll.Tie as tie
+
+abbrev Start-of : tie.After-cells-refusal → tie.Start
+Start-of c = c .before .before .before .before .before .before
+
+-- the plan that the call was lent
+abbrev plan : tie.After-cells-refusal → Plan
+plan c = let a = Start-of c .args in planOf (now (a .targets)) (now (a .suns)) (now (a .observers)) (a .config)
+
+refusal : (c : tie.After-cells-refusal) → c .cells-refusal .result ≡ cellsRefusal (plan c) (samplingOrNone (Start-of c .args .n)) (length (now (Start-of c .args .mask)))
+refusal c = c .cells-refusal .ensures ∙ ap (λ (s : ℕ). cellsRefusal (plan c) s (length (now (Start-of c .args .mask)))) (c .before .sampling-or-none .ensures)
+
+sampling-or-none-requires : tie.Need-sampling-or-none-requires
+sampling-or-none-requires c κs = search needs
+
+cells-refusal-requires : tie.Need-cells-refusal-requires
+cells-refusal-requires c κs = search needs
+
+returns : tie.Need-returns
+unfolding cellsReply maskAfter
+returns c =
+    let k = c .before .cells-refusal .result in
+    (answer-refused k _ 0 (refusal (c .before)) (c .if1 .taken), list-refused k _ _ _ (refusal (c .before)) (c .if1 .taken))
+
+at-every-roll-requires : tie.Need-at-every-roll-requires
+at-every-roll-requires c κs = few-samples _ (cells-sampling (plan (c .before)) _ _ (sym (refusal (c .before)) ∙ c .if1 .left))
+
+mark-requires : tie.Need-mark-requires
+mark-requires c κs =
+    let i = c .before .before in
+    let z = sym (refusal (i .before)) ∙ i .if1 .left in
+    (cells-room (plan (i .before)) _ _ z, cells-facts (plan (i .before)) _ _ z .few-times)
+
+same-length : tie.Need-same-length
+same-length c = search needs
+
+returns-2 : tie.Need-returns-2
+unfolding cellsReply maskAfter headConfigured
+returns-2 c =
+    let i = c .before .before .before .before .before in
+    let k = i .before .cells-refusal .result in
+    let p = plan (i .before) in
+    let m = now (Start-of (i .before) .args .mask) in
+    let w = c .before .before .mark .ensures ∙ ap (λ (rule : MarkRule). filled (cells p) (cellMark p rule) m) (c .before .before .before .before .at-every-roll .ensures) in
+    (answer-accepted k _ 0 (refusal (i .before)) (i .if1 .left), list-accepted k _ _ _ _ (refusal (i .before)) (i .if1 .left) w)
+
+pub in-constraint-batch-constrained-at-every-roll-spec : {M : Type 1} → statement M
+in-constraint-batch-constrained-at-every-roll-spec =
+    tie.close
+    (tie.spec
+    sampling-or-none-requires
+    cells-refusal-requires
+    returns
+    at-every-roll-requires
+    mark-requires
+    same-length
+    returns-2)

@@ -1,0 +1,47 @@
+use Rattle.buffers.proofs.Refusal.{answer-refused, answer-accepted, list-refused, list-accepted}
+use Rattle.solar_masks.proofs.Calls.{cells-facts, cells-room}
+use Rattle.solar_masks.specs.Mask.{cellsReply, valuesAfter}
+use Rattle.solar_roll.specs.Plan.{Plan, planOf}
+use borrow.Author.Needs.{needs}
+use denote.Ref.{now}
+use mathlib.Core.Path.{sym, _∙_}
+use Rattle.solar_masks.proofs.values.named_values.Statement.{statement}
+use Rattle.solar_masks.proofs.values.named_values.Tie as tie
+
+abbrev Start-of : tie.After-cells-refusal → tie.Start
+Start-of c = c .before .before .before .before .before
+
+-- the plan that the call was lent
+abbrev plan : tie.After-cells-refusal → Plan
+plan c = let a = Start-of c .args in planOf (now (a .targets)) (now (a .suns)) (now (a .observers)) (a .config)
+
+cells-refusal-requires : tie.Need-cells-refusal-requires
+cells-refusal-requires c κs = search needs
+
+returns : tie.Need-returns
+unfolding cellsReply valuesAfter
+returns c =
+    let k = c .before .cells-refusal .result in
+    let e = c .before .cells-refusal .ensures in
+    (answer-refused k _ 0 e (c .if1 .taken), list-refused k _ _ _ e (c .if1 .taken))
+
+write-values-requires : tie.Need-write-values-requires
+write-values-requires c κs =
+    let i = c .before in
+    let z = sym (i .before .cells-refusal .ensures) ∙ i .if1 .left in
+    (cells-room (plan (i .before)) _ _ z, cells-facts (plan (i .before)) _ _ z .few-times)
+
+same-length : tie.Need-same-length
+same-length c = search needs
+
+returns-2 : tie.Need-returns-2
+unfolding cellsReply valuesAfter
+returns-2 c =
+    let i = c .before .before .before .before in
+    let k = i .before .cells-refusal .result in
+    let e = i .before .cells-refusal .ensures in
+    (answer-accepted k _ 0 e (i .if1 .left), list-accepted k _ _ _ _ e (i .if1 .left) (c .before .before .write-values .ensures))
+
+pub named-values-spec : {M : Type 1} → statement M
+named-values-spec =
+    tie.close (tie.spec cells-refusal-requires returns write-values-requires same-length returns-2)

@@ -1,0 +1,115 @@
+use Prim.Native.Nat.{ℕ, _+_, _-_, _≤_, _<_}
+use Rattle.buffers.proofs.Rows.{columns-ext, columns-zero, columns-add, columns-all}
+use Rattle.buffers.specs.Rows.{Columns}
+use Rattle.float.specs.Arithmetic.{zero·0}
+use Rattle.solar_masks.proofs.Shared.{value-shared}
+use Rattle.solar_masks.specs.Mask.{valueAt, cellValue}
+use Rattle.solar_roll.specs.Plan.{Plan, planOf, count, triple, rowsOf, timesOf, rowDirection, directionOf, sunAt, headPanel}
+use Rattle.solar_roll.specs.Roll.{sunUnit, bodyAxes, rollDegIn}
+use Rattle.solar_roll.specs.Vectors.{Vector}
+use borrow.Author.Needs.{needs}
+use denote.Ref.{now}
+use lib.Ieee.{Float}
+use lib.ListN.{length}
+use mathlib.Core.Path.{_≡_, refl, ap, _∙_, subst}
+use native.Mathlib.Omega.{arith}
+use Rattle.solar_masks.proofs.values.write_values.Statement.{statement}
+use Rattle.solar_masks.proofs.values.write_values.Tie as tie
+
+abbrev Inv-loop : tie.InvT-loop
+Inv-loop targets suns observers values₀ times angle units₀ from₀ values units from = (from ≤ times) × (length units ≡ 6144) × Columns (count targets) times (count targets) 0 from (λ r j. rollDegIn (bodyAxes (rowDirection targets r)) (sunUnit (triple suns j) (triple observers j)) angle) zero·0 values₀ values
+
+abbrev μ-loop : tie.MeasureT-loop
+μ-loop targets suns observers values₀ times angle units₀ from₀ values units from = times - from
+
+abbrev Start-of : tie.At-loop Inv-loop μ-loop → tie.Start Inv-loop μ-loop
+Start-of o = o .before .before .before .before .before .before .before
+
+-- the plan that the call was lent
+abbrev plan : tie.At-loop Inv-loop μ-loop → Plan
+plan o = let a = Start-of o .args in planOf (now (a .targets)) (now (a .suns)) (now (a .observers)) (a .config)
+
+abbrev F : tie.At-loop Inv-loop μ-loop → ℕ → ℕ → Float
+F o r j = rollDegIn (bodyAxes (directionOf (plan o) r)) (sunUnit (triple (plan o .suns) j) (triple (plan o .observers) j)) (o .before .panel-of .result .angle)
+
+panel-of-requires : tie.Need-panel-of-requires Inv-loop μ-loop
+panel-of-requires c κs = search needs
+
+loop-holds : tie.Need-loop-holds Inv-loop μ-loop
+loop-holds c = (omega arith, refl, columns-zero _ _ _ _ _ _)
+
+block-length-requires : tie.Need-block-length-requires Inv-loop μ-loop
+block-length-requires c κs = search needs
+
+slice-aggregate-fill-units : tie.Need-slice-aggregate-fill-units Inv-loop μ-loop
+slice-aggregate-fill-units c = search needs
+
+fill-units-requires : tie.Need-fill-units-requires Inv-loop μ-loop
+fill-units-requires c κs = (omega (arith, c .before .before .before .loop .inv .1, c .before .block-length .ensures .1), omega (arith, c .before .block-length .ensures .2, Start-of (c .before .before .before) .pre .1))
+
+slice-aggregate-value-block : tie.Need-slice-aggregate-value-block Inv-loop μ-loop
+slice-aggregate-value-block c = search needs
+
+value-block-requires : tie.Need-value-block-requires Inv-loop μ-loop
+value-block-requires c κs = let o = c .before .before .before .before .before .before .before in (omega (arith, o .loop .inv .2 .same, Start-of o .pre .0), c .before .before .before .before .before .block-length .ensures .2)
+
+add-from : tie.Need-add-from Inv-loop μ-loop
+add-from c = omega (arith, c .before .before .before .before .before .before .before .before .block-length .ensures .2, Start-of (c .before .before .before .before .before .before .before .before .before .before) .pre .1)
+
+loop-less : tie.Need-loop-less Inv-loop μ-loop
+loop-less c = omega (arith, c .before .before .before .before .before .before .before .before .block-length .ensures .0, c .before .before .before .before .before .before .before .before .block-length .ensures .2)
+
+loop-again : tie.Need-loop-again Inv-loop μ-loop
+loop-again c =
+    let o = c .before .before .before .before .before .before .before .before .before .before in
+    let a = Start-of o .args in
+    let p = plan o in
+    let b = c .before .before .before .before .before .before .before .before .block-length in
+    let n = b .result in
+    let units = c .before .before .before .before .before .before .fill-units .last .1 .1 .1 .1 .0 in
+    let new = c .before .before .value-block .last .1 .1 .1 .1 .1 .1 .0 in
+    let G : ℕ → ℕ → Float = λ r j. rollDegIn (bodyAxes (directionOf p r)) (triple units (j - o .loop .from)) (o .before .panel-of .result .angle) in
+    let e : (r j : ℕ) → r < rowsOf p → o .loop .from ≤ j → j < o .loop .from + n → G r j ≡ F o r j = λ r j h l u.
+    let q : o .loop .from + (j - o .loop .from) ≡ j = omega arith in
+    ap (λ (unit : Vector). rollDegIn (bodyAxes (directionOf p r)) unit (o .before .panel-of .result .angle))
+    (c .before .before .before .before .before .before .fill-units .ensures (j - o .loop .from) (omega arith)
+    ∙ ap (λ (t : ℕ). sunUnit (triple (p .suns) t) (triple (p .observers) t)) q) in (
+      b .ensures .2,
+      search needs,
+      columns-add (rowsOf p) (timesOf p) (F o) zero·0 (o .loop .from) n (now (a .values)) (o .loop .values) new (o .loop .inv .2)
+          (columns-ext (rowsOf p) (timesOf p) (o .loop .from) n G zero·0 (rowsOf p) (F o) (o .loop .values) new e (c .before .before .value-block .ensures)),
+    )
+
+same-length : tie.Need-same-length Inv-loop μ-loop
+same-length c = c .before .loop .inv .2 .same
+
+returns : tie.Need-returns Inv-loop μ-loop
+unfolding cellValue sunAt headPanel
+returns c =
+    let o = c .before in
+    let a = Start-of o .args in
+    let p = plan o in
+    let e : o .loop .from ≡ timesOf p = omega arith in
+    columns-all (rowsOf p) (timesOf p) (valueAt p) zero·0 (now (a .values)) (o .loop .values) (Start-of o .pre .0)
+    (columns-ext (rowsOf p) (timesOf p) 0 (timesOf p) (F o) zero·0 (rowsOf p) (valueAt p) (now (a .values)) (o .loop .values)
+    (λ r j h l u. value-shared p r j _ _ _ refl refl (o .before .panel-of .ensures))
+    (subst (λ (n : ℕ). Columns (rowsOf p) (timesOf p) (rowsOf p) 0 n (F o) zero·0 (now (a .values)) (o .loop .values)) e (o .loop .inv .2)))
+
+pub write-values-spec : {M : Type 1} → statement M
+write-values-spec =
+    tie.close
+    (tie.spec
+    Inv-loop
+    μ-loop
+    panel-of-requires
+    loop-holds
+    block-length-requires
+    slice-aggregate-fill-units
+    fill-units-requires
+    slice-aggregate-value-block
+    value-block-requires
+    add-from
+    loop-less
+    loop-again
+    same-length
+    returns)

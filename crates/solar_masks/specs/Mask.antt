@@ -1,0 +1,103 @@
+-- Masks: a byte a cell, 0 clear or 1 marked, in order of cell number. Which rule each call marks by (sections 2 and 6), and *Masks, named values*
+-- of the refusals. Definitions only. Assumes nothing.
+use mathlib.Core.Bool.{Bool, true, false, cond}
+use mathlib.Core.List.{List, [], _∷_}
+use Prim.Native.Nat.{ℕ, _/_, _%_}
+use lib.Dec.{eqb, ltb}
+use lib.IntN.{pos}
+use lib.ListN.{length}
+use lib.Ieee.{Float, binary64, sub, div, lt, ofInt}
+use Rattle.buffers.specs.Ranges.{flag}
+use Rattle.buffers.specs.Lent.{filled}
+use Rattle.buffers.specs.Refusal.{first, carried, Reply, reply, unlessRefused}
+use Rattle.float.specs.Arithmetic.{fullTurn, remEuclid}
+use Rattle.solar_roll.specs.Roll.{solarOptimalRollDeg}
+use Rattle.solar_roll.specs.Cell.{violates, inForce}
+use Rattle.solar_roll.specs.Plan.{Plan, rowsOf, timesOf, cells, directionOf, configOf, sunAt, cellOf, headConfigured, planRefusal}
+use Rattle.solar_roll.specs.declared.cell.CellRoll.{CellRoll}
+use Rattle.solar_roll.specs.declared.cell.CellRoll.the-variants as cell
+use Rattle.solar_roll.specs.declared.cell.ConfiguredRoll.{ConfiguredRoll}
+use Rattle.solar_roll.specs.declared.cell.ConfiguredRoll.the-variants.{None, Some}
+use Rattle.solar_roll.specs.declared.cell.EvaluationRoll.{EvaluationRoll}
+use Rattle.solar_masks.specs.declared.mask.MarkRule.{MarkRule}
+use Rattle.solar_masks.specs.declared.mask.MarkRule.the-variants.{AtRoll, EveryStep, Nothing}
+
+-- ---- section 6: every multiple of a step violates
+
+-- step = 360 / n
+unfoldable pub sampleStep : ℕ → Float
+sampleStep n = div binary64 fullTurn (ofInt binary64 (pos n))
+
+-- the smaller of phase and step - phase, where phase = roll rem step
+unfoldable pub stepDistance : Float → Float → Float
+stepDistance roll step =
+    let phase = remEuclid roll step in
+    let rest = sub binary64 step phase in
+    cond (lt rest phase) rest phase
+
+-- not Free, and that distance > tolerance
+unfoldable pub missesSteps : CellRoll → Float → Float → Bool
+missesSteps (cell.Free) step tolerance = false
+missesSteps (cell.At optimal) step tolerance = lt tolerance (stepDistance optimal step)
+missesSteps (cell.Refused k) step tolerance = false
+
+-- ---- the rules
+
+unfoldable pub marked : CellRoll → MarkRule → Float → Bool
+marked c (AtRoll roll) tolerance = violates c roll tolerance
+marked c (EveryStep step) tolerance = missesSteps c step tolerance
+marked c Nothing tolerance = false
+
+-- at a roll: a configured roll overrides Sweep, never Fixed
+unfoldable pub atRoll : EvaluationRoll → ConfiguredRoll → MarkRule
+atRoll roll configured = AtRoll (inForce roll configured)
+
+-- at the configured roll; without one nothing is marked
+unfoldable pub atConfigured : ConfiguredRoll → MarkRule
+atConfigured None = Nothing
+atConfigured (Some roll) = AtRoll roll
+
+-- at every roll: a configured roll is looked at before n, and n = 0 marks nothing
+unfoldable pub atEveryRoll : ℕ → ConfiguredRoll → MarkRule
+atEveryRoll n None = cond (eqb n 0) Nothing (EveryStep (sampleStep n))
+atEveryRoll n (Some roll) = AtRoll roll
+
+-- ---- the bytes
+
+-- the byte of row r at time j
+unfoldable pub markAt : Plan → MarkRule → ℕ → ℕ → ℕ
+markAt p rule r j = flag (marked (cellOf p r j) rule (configOf p r .«tolerance_deg»))
+
+-- the byte of the cell of number k
+unfoldable pub cellMark : Plan → MarkRule → ℕ → ℕ
+cellMark p rule k = markAt p rule (k / timesOf p) (k % timesOf p)
+
+-- the named value of row r at time j: the optimal roll, of Free cells too
+unfoldable pub valueAt : Plan → ℕ → ℕ → Float
+valueAt p r j = solarOptimalRollDeg (directionOf p r) (sunAt p j) (configOf p r .«panel_normal»)
+
+unfoldable pub cellValue : Plan → ℕ → Float
+cellValue p k = valueAt p (k / timesOf p) (k % timesOf p)
+
+-- ---- the calls: the plan's refusals, then 7, a lent output shorter than needed
+
+unfoldable pub cellsShort : Plan → ℕ → Bool
+cellsShort p room = ltb room (cells p)
+
+unfoldable pub cellsRefusal : Plan → ℕ → ℕ → ℕ
+cellsRefusal p sampling room =
+    first (carried (planRefusal p sampling false)
+    ∷ (cellsShort p room, 7)
+    ∷ [])
+
+unfoldable pub cellsReply : Plan → ℕ → ℕ → Reply ℕ
+cellsReply p sampling room = reply (cellsRefusal p sampling room) 0
+
+-- what a mask call leaves in the lent mask, by the rule that it makes of the configured roll
+unfoldable pub maskAfter : Plan → ℕ → (ConfiguredRoll → MarkRule) → List ℕ → List ℕ
+maskAfter p sampling rule mask =
+    unlessRefused (cellsRefusal p sampling (length mask)) (filled (cells p) (cellMark p (rule (headConfigured p))) mask) mask
+
+-- what the call for named values leaves in the lent list
+unfoldable pub valuesAfter : Plan → List Float → List Float
+valuesAfter p values = unlessRefused (cellsRefusal p 0 (length values)) (filled (cells p) (cellValue p) values) values

@@ -1,0 +1,55 @@
+-- *One row*: `evaluate` for a row, its mask and its severities (section 5) at the configured roll, all zero without one. Definitions only.
+-- Assumes nothing.
+use mathlib.Core.Bool.{Bool, true, false, cond, _||_}
+use mathlib.Core.List.{List, [], _∷_}
+use Prim.Native.Nat.{ℕ}
+use lib.Dec.{leb, ltb}
+use lib.ListN.{length}
+use lib.Ieee.{Float, binary64, sub, lt}
+use Rattle.buffers.specs.Lent.{filled}
+use Rattle.buffers.specs.Refusal.{first, carried, Reply, reply, unlessRefused}
+use Rattle.float.specs.Arithmetic.{zero·0}
+use Rattle.solar_roll.specs.Roll.{circularDiffDeg}
+use Rattle.solar_roll.specs.Plan.{Plan, rowsOf, timesOf, configOf, cellOf, headConfigured, planRefusal}
+use Rattle.solar_masks.specs.Mask.{atConfigured, markAt}
+use Rattle.solar_roll.specs.declared.cell.CellRoll.{CellRoll}
+use Rattle.solar_roll.specs.declared.cell.CellRoll.the-variants.{Free, At, Refused}
+use Rattle.solar_roll.specs.declared.cell.ConfiguredRoll.{ConfiguredRoll}
+use Rattle.solar_roll.specs.declared.cell.ConfiguredRoll.the-variants.{None, Some}
+
+-- the severity: difference - tolerance where violated, else zero
+unfoldable pub excess : CellRoll → Float → Float → Float
+excess Free roll tolerance = zero·0
+excess (At optimal) roll tolerance = let d = circularDiffDeg roll optimal in cond (lt tolerance d) (sub binary64 d tolerance) zero·0
+excess (Refused k) roll tolerance = zero·0
+
+unfoldable pub severity : CellRoll → ConfiguredRoll → Float → Float
+severity c None tolerance = zero·0
+severity c (Some roll) tolerance = excess c roll tolerance
+
+-- of row r at time j
+unfoldable pub severityAt : Plan → ℕ → ℕ → Float
+severityAt p r j = severity (cellOf p r j) (headConfigured p) (configOf p r .«tolerance_deg»)
+
+-- ---- the call: the plan's refusals, then 9, no such row, then 7, of the two lent lists' lengths
+
+unfoldable pub rowShort : Plan → ℕ → ℕ → Bool
+rowShort p mask severities = ltb mask (timesOf p) || ltb severities (timesOf p)
+
+unfoldable pub rowRefusal : Plan → ℕ → ℕ → ℕ → ℕ
+rowRefusal p r mask severities =
+    first (carried (planRefusal p 0 false)
+    ∷ (leb (rowsOf p) r, 9)
+    ∷ (rowShort p mask severities, 7)
+    ∷ [])
+
+unfoldable pub rowReply : Plan → ℕ → ℕ → ℕ → Reply ℕ
+rowReply p r mask severities = reply (rowRefusal p r mask severities) 0
+
+unfoldable pub rowMaskAfter : Plan → ℕ → List ℕ → List Float → List ℕ
+rowMaskAfter p r mask severities =
+    unlessRefused (rowRefusal p r (length mask) (length severities)) (filled (timesOf p) (markAt p (atConfigured (headConfigured p)) r) mask) mask
+
+unfoldable pub severitiesAfter : Plan → ℕ → List ℕ → List Float → List Float
+severitiesAfter p r mask severities =
+    unlessRefused (rowRefusal p r (length mask) (length severities)) (filled (timesOf p) (severityAt p r) severities) severities

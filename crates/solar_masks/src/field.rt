@@ -1,0 +1,123 @@
+// Field of regard: the mark of each row at one time.
+use crate::mask::MarkRule;
+use crate::mask::at_every_roll;
+use crate::mask::at_roll;
+use crate::mask::mark_byte;
+use buffers::Answer;
+use solar_roll::EvaluationRoll;
+use solar_roll::Panel;
+use solar_roll::SolarRollConfig;
+use solar_roll::body_axes;
+use solar_roll::direction;
+use solar_roll::panel_of;
+use solar_roll::plan_refusal;
+use solar_roll::row_config;
+use solar_roll::sampling_or_none;
+use solar_roll::sun_unit;
+use solar_roll::triple;
+ghost use mathlib.Core.Path.{_≡_};
+ghost use Prim.Native.Nat.{_≤_};
+ghost use lib.ListN.{length};
+ghost use Rattle.buffers.specs.Lent.{filled};
+ghost use Rattle.buffers.specs.Refusal.{replyOf};
+ghost use Rattle.solar_roll.specs.Plan.{planOf, rowsOf, samplingOrNone};
+ghost use Rattle.solar_masks.specs.Mask.{atRoll, atEveryRoll, markAt};
+ghost use Rattle.solar_masks.specs.Field.{fieldRefusal, fieldReply, fieldAfter};
+ghost use Rattle.solar_roll.specs.declared.cell.EvaluationRoll.the-variants.{Sweep};
+
+// Writes the byte of each row at a time.
+fn mark_column(
+    targets: &[f64],
+    suns: &[f64],
+    observers: &[f64],
+    config: SolarRollConfig,
+    time: usize,
+    rule: MarkRule,
+    mask: &mut [u8],
+)
+    requires { ⌜ rowsOf (planOf (now targets) (now suns) (now observers) config) ≤ length (now mask) ⌝ }
+    ensures { λ _. ⌜ now (mask .exit) ≡ filled (rowsOf (planOf (now (targets .entry)) (now (suns .entry)) (now (observers .entry)) config)) (λ r. markAt (planOf (now (targets .entry)) (now (suns .entry)) (now (observers .entry)) config) rule r time) (now (mask .entry)) ⌝ }
+{
+    let normal = config.panel_normal;
+    let panel = panel_of(normal);
+    let unit = sun_unit(triple(suns, time), triple(observers, time));
+    let rows = targets.len() / 3;
+    let mut row = 0;
+    while row < rows {
+        let axes = body_axes(direction(targets, row));
+        let settings = row_config(config, row);
+        mask[row] = mark_byte(axes, unit, panel, rule, settings.tolerance_deg);
+        row += 1;
+    }
+}
+
+// The plan's refusal, or 9 for no such time, or 7 for too little room.
+fn field_refusal(
+    targets: &[f64],
+    suns: &[f64],
+    observers: &[f64],
+    config: SolarRollConfig,
+    sampling: u64,
+    time: u64,
+    room: usize,
+) -> u64
+    ensures { λ r. ⌜ r ≡ fieldRefusal (planOf (now (targets .entry)) (now (suns .entry)) (now (observers .entry)) config) sampling time room ⌝ }
+{
+    let refusal = plan_refusal(targets, suns, observers, config, sampling, false);
+    if refusal != 0 {
+        return refusal;
+    }
+    let rows = targets.len() / 3;
+    let times = suns.len() / 3;
+    if (times as u64) <= time {
+        return 9;
+    }
+    if room < rows { 7 } else { 0 }
+}
+
+// The rows that every one of n even samples violates at a time.
+pub fn field_of_regard_violated_batch(
+    targets: &[f64],
+    suns: &[f64],
+    observers: &[f64],
+    config: SolarRollConfig,
+    time: u64,
+    n: u64,
+    mask: &mut [u8],
+) -> Answer
+    ensures { λ r. ⌜ replyOf r ≡ fieldReply (planOf (now (targets .entry)) (now (suns .entry)) (now (observers .entry)) config) (samplingOrNone n) time (length (now (mask .entry))) ⌝ }
+    ensures { λ r. ⌜ now (mask .exit) ≡ fieldAfter (planOf (now (targets .entry)) (now (suns .entry)) (now (observers .entry)) config) (samplingOrNone n) time (atEveryRoll n) (now (mask .entry)) ⌝ }
+{
+    let sampling = sampling_or_none(n);
+    let refusal = field_refusal(targets, suns, observers, config, sampling, time, mask.len());
+    if refusal != 0 {
+        return Answer::Refused(refusal);
+    }
+    let configured = config.roll_deg;
+    let rule = at_every_roll(n, configured);
+    mark_column(targets, suns, observers, config, time as usize, rule, mask);
+    Answer::Accepted(0)
+}
+
+// The rows violated at a time, at the configured roll, else at the roll that is handed in.
+pub fn field_of_regard_violated_at_roll(
+    targets: &[f64],
+    suns: &[f64],
+    observers: &[f64],
+    config: SolarRollConfig,
+    time: u64,
+    roll_deg: f64,
+    mask: &mut [u8],
+) -> Answer
+    ensures { λ r. ⌜ replyOf r ≡ fieldReply (planOf (now (targets .entry)) (now (suns .entry)) (now (observers .entry)) config) 0 time (length (now (mask .entry))) ⌝ }
+    ensures { λ r. ⌜ now (mask .exit) ≡ fieldAfter (planOf (now (targets .entry)) (now (suns .entry)) (now (observers .entry)) config) 0 time (atRoll (Sweep «roll_deg»)) (now (mask .entry)) ⌝ }
+{
+    let refusal = field_refusal(targets, suns, observers, config, 0, time, mask.len());
+    if refusal != 0 {
+        return Answer::Refused(refusal);
+    }
+    let configured = config.roll_deg;
+    let rule = at_roll(EvaluationRoll::Sweep(roll_deg), configured);
+    mark_column(targets, suns, observers, config, time as usize, rule, mask);
+    Answer::Accepted(0)
+}

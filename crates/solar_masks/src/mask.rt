@@ -1,0 +1,311 @@
+// Masks: a byte a cell, 0 clear or 1 marked, in order of cell number; and the cells' named values.
+use crate::units::block_length;
+use crate::units::fill_units;
+use buffers::Answer;
+use float::rem_euclid;
+use solar_roll::CellRoll;
+use solar_roll::ConfiguredRoll;
+use solar_roll::EvaluationRoll;
+use solar_roll::Panel;
+use solar_roll::SolarRollConfig;
+use solar_roll::body_axes;
+use solar_roll::direction;
+use solar_roll::in_force;
+use solar_roll::panel_of;
+use solar_roll::plan_refusal;
+use solar_roll::roll_in;
+use solar_roll::row_config;
+use solar_roll::sampling_or_none;
+use solar_roll::triple;
+use solar_roll::violated;
+ghost use mathlib.Core.Path.{_≡_};
+ghost use Prim.Native.Nat.{_+_, _-_, _*_, _≤_};
+ghost use lib.ListN.{length};
+ghost use Rattle.buffers.specs.Ranges.{flag};
+ghost use Rattle.buffers.specs.Lent.{filled};
+ghost use Rattle.buffers.specs.Rows.{Columns};
+ghost use Rattle.buffers.specs.Refusal.{replyOf};
+ghost use Rattle.solar_roll.specs.Roll.{bodyAxes};
+ghost use Rattle.solar_roll.specs.Cell.{rollIn};
+ghost use Rattle.solar_roll.specs.Plan.{count as countOf};
+ghost use Rattle.solar_roll.specs.Plan.{planOf, triple, rowDirection, rowConfig, cells, samplingOrNone};
+ghost use Rattle.solar_masks.specs.Mask.{sampleStep, stepDistance, missesSteps, marked, atRoll, atConfigured, atEveryRoll, cellMark, cellsRefusal, cellsReply, maskAfter};
+
+// What marks a cell: a roll too far from its optimal roll, every multiple of a step too far from it,
+// or nothing.
+pub enum MarkRule {
+    AtRoll(f64),
+    EveryStep(f64),
+    Nothing,
+}
+
+// The even step of n samples.
+fn sample_step(n: u32) -> f64
+    ensures { λ r. ⌜ r ≡ sampleStep n ⌝ }
+{
+    360.0 / (n as f64)
+}
+
+// How far a roll is from the nearest multiple of a step.
+fn step_distance(roll_deg: f64, step: f64) -> f64
+    ensures { λ r. ⌜ r ≡ stepDistance «roll_deg» step ⌝ }
+{
+    let phase = rem_euclid(roll_deg, step);
+    let rest = step - phase;
+    if rest < phase { rest } else { phase }
+}
+
+// Whether every multiple of a step violates the cell.
+fn misses_steps(cell: CellRoll, step: f64, tolerance_deg: f64) -> bool
+    ensures { λ r. ⌜ r ≡ missesSteps cell step «tolerance_deg» ⌝ }
+{
+    match cell {
+        CellRoll::Free => false,
+        CellRoll::At(optimal) => step_distance(optimal, step) > tolerance_deg,
+        CellRoll::Refused(_) => false,
+    }
+}
+
+pub(crate) fn byte(b: bool) -> u8
+    ensures { λ r. ⌜ r ≡ flag b ⌝ }
+{
+    if b { 1 } else { 0 }
+}
+
+// The byte of a cell by a rule. Where nothing is marked, no roll is worked out.
+pub(crate) fn mark_byte(
+    axes: [[f64; 3]; 3],
+    sun_unit: [f64; 3],
+    panel: Panel,
+    rule: MarkRule,
+    tolerance_deg: f64,
+) -> u8
+    ensures { λ r. ⌜ r ≡ flag (marked (rollIn axes «sun_unit» panel) rule «tolerance_deg») ⌝ }
+{
+    match rule {
+        MarkRule::AtRoll(roll) => byte(violated(
+            roll_in(axes, sun_unit, panel),
+            roll,
+            tolerance_deg,
+        )),
+        MarkRule::EveryStep(step) => byte(misses_steps(
+            roll_in(axes, sun_unit, panel),
+            step,
+            tolerance_deg,
+        )),
+        MarkRule::Nothing => 0,
+    }
+}
+
+// A configured roll overrides Sweep, never Fixed.
+pub(crate) fn at_roll(roll: EvaluationRoll, configured: ConfiguredRoll) -> MarkRule
+    ensures { λ r. ⌜ r ≡ atRoll roll configured ⌝ }
+{
+    MarkRule::AtRoll(in_force(roll, configured))
+}
+
+// Without a configured roll nothing is marked.
+pub(crate) fn at_configured(configured: ConfiguredRoll) -> MarkRule
+    ensures { λ r. ⌜ r ≡ atConfigured configured ⌝ }
+{
+    match configured {
+        ConfiguredRoll::None => MarkRule::Nothing,
+        ConfiguredRoll::Some(roll) => MarkRule::AtRoll(roll),
+    }
+}
+
+// A configured roll is looked at before n, and 0 samples mark nothing.
+pub(crate) fn at_every_roll(n: u64, configured: ConfiguredRoll) -> MarkRule
+    requires { ⌜ n ≤ 3600 ⌝ }
+    ensures { λ r. ⌜ r ≡ atEveryRoll n configured ⌝ }
+{
+    match configured {
+        ConfiguredRoll::None => {
+            if n == 0 {
+                MarkRule::Nothing
+            } else {
+                MarkRule::EveryStep(sample_step(n as u32))
+            }
+        }
+        ConfiguredRoll::Some(roll) => MarkRule::AtRoll(roll),
+    }
+}
+
+// Writes the bytes of `count` cells of a row, whose Sun units lie in `units`.
+fn mark_row(
+    target: [f64; 3],
+    tolerance_deg: f64,
+    panel: Panel,
+    units: &[f64],
+    count: usize,
+    rule: MarkRule,
+    mask: &mut [u8],
+)
+    requires { ⌜ count ≤ length (now mask) ⌝ }
+    ensures { λ _. ⌜ now (mask .exit) ≡ filled count (λ j. flag (marked (rollIn (bodyAxes target) (triple (now (units .entry)) j) panel) rule «tolerance_deg»)) (now (mask .entry)) ⌝ }
+{
+    let axes = body_axes(target);
+    let mut j = 0;
+    while j < count {
+        let unit = triple(units, j);
+        mask[j] = mark_byte(axes, unit, panel, rule, tolerance_deg);
+        j += 1;
+    }
+}
+
+// Writes the bytes of every row at `count` times from the time `from` on, whose Sun units lie in
+// `units`.
+fn mark_block(
+    targets: &[f64],
+    config: SolarRollConfig,
+    panel: Panel,
+    units: &[f64],
+    times: usize,
+    from: usize,
+    count: usize,
+    rule: MarkRule,
+    mask: &mut [u8],
+)
+    requires { ⌜ (countOf (now targets) * times ≤ length (now mask)) × (from + count ≤ times) ⌝ }
+    ensures { λ _. ⌜ Columns (countOf (now (targets .entry))) times (countOf (now (targets .entry))) from count (λ r j. flag (marked (rollIn (bodyAxes (rowDirection (now (targets .entry)) r)) (triple (now (units .entry)) (j - from)) panel) rule (rowConfig config r .«tolerance_deg»))) 0 (now (mask .entry)) (now (mask .exit)) ⌝ }
+{
+    let rows = targets.len() / 3;
+    let mut row = 0;
+    while row < rows {
+        let target = direction(targets, row);
+        let settings = row_config(config, row);
+        let start = row * times + from;
+        mark_row(
+            target,
+            settings.tolerance_deg,
+            panel,
+            units,
+            count,
+            rule,
+            &mut mask[start..],
+        );
+        row += 1;
+    }
+}
+
+// Writes the byte of each cell: block by block of times, so that a Sun's unit is worked out once,
+// and in a block row by row, so that a target's axes are.
+fn mark(
+    targets: &[f64],
+    suns: &[f64],
+    observers: &[f64],
+    config: SolarRollConfig,
+    rule: MarkRule,
+    mask: &mut [u8],
+)
+    requires { ⌜ (cells (planOf (now targets) (now suns) (now observers) config) ≤ length (now mask)) × (countOf (now suns) ≤ 65536) ⌝ }
+    ensures { λ _. ⌜ now (mask .exit) ≡ filled (cells (planOf (now (targets .entry)) (now (suns .entry)) (now (observers .entry)) config)) (cellMark (planOf (now (targets .entry)) (now (suns .entry)) (now (observers .entry)) config) rule) (now (mask .entry)) ⌝ }
+{
+    let times = suns.len() / 3;
+    let normal = config.panel_normal;
+    let panel = panel_of(normal);
+    let mut units = [0.0; 6144];
+    let mut from = 0;
+    while from < times {
+        let count = block_length(times, from);
+        fill_units(suns, observers, from, count, &mut units);
+        mark_block(
+            targets,
+            config,
+            panel,
+            &units,
+            times,
+            from,
+            count,
+            rule,
+            mask,
+        );
+        from += count;
+    }
+}
+
+// The refusal of a call that writes something of each cell: the plan's, or 7 for too little room.
+pub(crate) fn cells_refusal(
+    targets: &[f64],
+    suns: &[f64],
+    observers: &[f64],
+    config: SolarRollConfig,
+    sampling: u64,
+    room: usize,
+) -> u64
+    ensures { λ r. ⌜ r ≡ cellsRefusal (planOf (now (targets .entry)) (now (suns .entry)) (now (observers .entry)) config) sampling room ⌝ }
+{
+    let refusal = plan_refusal(targets, suns, observers, config, sampling, false);
+    if refusal != 0 {
+        return refusal;
+    }
+    let rows = targets.len() / 3;
+    let times = suns.len() / 3;
+    if room < rows * times { 7 } else { 0 }
+}
+
+// The mask at the configured roll; without one nothing is marked.
+pub fn in_constraint_batch(
+    targets: &[f64],
+    suns: &[f64],
+    observers: &[f64],
+    config: SolarRollConfig,
+    mask: &mut [u8],
+) -> Answer
+    ensures { λ r. ⌜ replyOf r ≡ cellsReply (planOf (now (targets .entry)) (now (suns .entry)) (now (observers .entry)) config) 0 (length (now (mask .entry))) ⌝ }
+    ensures { λ r. ⌜ now (mask .exit) ≡ maskAfter (planOf (now (targets .entry)) (now (suns .entry)) (now (observers .entry)) config) 0 atConfigured (now (mask .entry)) ⌝ }
+{
+    let refusal = cells_refusal(targets, suns, observers, config, 0, mask.len());
+    if refusal != 0 {
+        return Answer::Refused(refusal);
+    }
+    let configured = config.roll_deg;
+    let rule = at_configured(configured);
+    mark(targets, suns, observers, config, rule, mask);
+    Answer::Accepted(0)
+}
+
+// The mask at a roll.
+pub fn in_constraint_batch_at_roll(
+    targets: &[f64],
+    suns: &[f64],
+    observers: &[f64],
+    config: SolarRollConfig,
+    roll: EvaluationRoll,
+    mask: &mut [u8],
+) -> Answer
+    ensures { λ r. ⌜ replyOf r ≡ cellsReply (planOf (now (targets .entry)) (now (suns .entry)) (now (observers .entry)) config) 0 (length (now (mask .entry))) ⌝ }
+    ensures { λ r. ⌜ now (mask .exit) ≡ maskAfter (planOf (now (targets .entry)) (now (suns .entry)) (now (observers .entry)) config) 0 (atRoll roll) (now (mask .entry)) ⌝ }
+{
+    let refusal = cells_refusal(targets, suns, observers, config, 0, mask.len());
+    if refusal != 0 {
+        return Answer::Refused(refusal);
+    }
+    let configured = config.roll_deg;
+    let rule = at_roll(roll, configured);
+    mark(targets, suns, observers, config, rule, mask);
+    Answer::Accepted(0)
+}
+
+// The cells that every one of n even samples violates, by their distance from the nearest sample.
+pub fn in_constraint_batch_constrained_at_every_roll(
+    targets: &[f64],
+    suns: &[f64],
+    observers: &[f64],
+    config: SolarRollConfig,
+    n: u64,
+    mask: &mut [u8],
+) -> Answer
+    ensures { λ r. ⌜ replyOf r ≡ cellsReply (planOf (now (targets .entry)) (now (suns .entry)) (now (observers .entry)) config) (samplingOrNone n) (length (now (mask .entry))) ⌝ }
+    ensures { λ r. ⌜ now (mask .exit) ≡ maskAfter (planOf (now (targets .entry)) (now (suns .entry)) (now (observers .entry)) config) (samplingOrNone n) (atEveryRoll n) (now (mask .entry)) ⌝ }
+{
+    let sampling = sampling_or_none(n);
+    let refusal = cells_refusal(targets, suns, observers, config, sampling, mask.len());
+    if refusal != 0 {
+        return Answer::Refused(refusal);
+    }
+    let configured = config.roll_deg;
+    let rule = at_every_roll(n, configured);
+    mark(targets, suns, observers, config, rule, mask);
+    Answer::Accepted(0)
+}

@@ -1,0 +1,105 @@
+// Named values: the optimal roll of each cell, of free cells too.
+use crate::mask::cells_refusal;
+use crate::units::block_length;
+use crate::units::fill_units;
+use buffers::Answer;
+use solar_roll::Panel;
+use solar_roll::SolarRollConfig;
+use solar_roll::body_axes;
+use solar_roll::direction;
+use solar_roll::panel_of;
+use solar_roll::roll_deg_in;
+use solar_roll::triple;
+ghost use mathlib.Core.Path.{_≡_};
+ghost use Prim.Native.Nat.{_+_, _-_, _*_, _≤_};
+ghost use lib.ListN.{length};
+ghost use Rattle.float.specs.Arithmetic.{zero·0};
+ghost use Rattle.buffers.specs.Lent.{filled};
+ghost use Rattle.buffers.specs.Rows.{Columns};
+ghost use Rattle.buffers.specs.Refusal.{replyOf};
+ghost use Rattle.solar_roll.specs.Roll.{bodyAxes, rollDegIn};
+ghost use Rattle.solar_roll.specs.Plan.{count as countOf};
+ghost use Rattle.solar_roll.specs.Plan.{planOf, triple, rowDirection, cells};
+ghost use Rattle.solar_masks.specs.Mask.{cellValue, cellsReply, valuesAfter};
+
+// Writes the rolls of `count` cells of a row, whose Sun units lie in `units`.
+fn value_row(target: [f64; 3], panel_angle: f64, units: &[f64], count: usize, values: &mut [f64])
+    requires { ⌜ count ≤ length (now values) ⌝ }
+    ensures { λ _. ⌜ now (values .exit) ≡ filled count (λ j. rollDegIn (bodyAxes target) (triple (now (units .entry)) j) «panel_angle») (now (values .entry)) ⌝ }
+{
+    let axes = body_axes(target);
+    let mut j = 0;
+    while j < count {
+        let unit = triple(units, j);
+        values[j] = roll_deg_in(axes, unit, panel_angle);
+        j += 1;
+    }
+}
+
+// Writes the rolls of every row at `count` times from the time `from` on, whose Sun units lie in
+// `units`.
+fn value_block(
+    targets: &[f64],
+    panel_angle: f64,
+    units: &[f64],
+    times: usize,
+    from: usize,
+    count: usize,
+    values: &mut [f64],
+)
+    requires { ⌜ (countOf (now targets) * times ≤ length (now values)) × (from + count ≤ times) ⌝ }
+    ensures { λ _. ⌜ Columns (countOf (now (targets .entry))) times (countOf (now (targets .entry))) from count (λ r j. rollDegIn (bodyAxes (rowDirection (now (targets .entry)) r)) (triple (now (units .entry)) (j - from)) «panel_angle») zero·0 (now (values .entry)) (now (values .exit)) ⌝ }
+{
+    let rows = targets.len() / 3;
+    let mut row = 0;
+    while row < rows {
+        let target = direction(targets, row);
+        let start = row * times + from;
+        value_row(target, panel_angle, units, count, &mut values[start..]);
+        row += 1;
+    }
+}
+
+// Writes the roll of each cell, in the order in which `mark` goes.
+fn write_values(
+    targets: &[f64],
+    suns: &[f64],
+    observers: &[f64],
+    config: SolarRollConfig,
+    values: &mut [f64],
+)
+    requires { ⌜ (cells (planOf (now targets) (now suns) (now observers) config) ≤ length (now values)) × (countOf (now suns) ≤ 65536) ⌝ }
+    ensures { λ _. ⌜ now (values .exit) ≡ filled (cells (planOf (now (targets .entry)) (now (suns .entry)) (now (observers .entry)) config)) (cellValue (planOf (now (targets .entry)) (now (suns .entry)) (now (observers .entry)) config)) (now (values .entry)) ⌝ }
+{
+    let times = suns.len() / 3;
+    let normal = config.panel_normal;
+    let panel = panel_of(normal);
+    let angle = panel.angle;
+    let mut units = [0.0; 6144];
+    let mut from = 0;
+    while from < times {
+        let count = block_length(times, from);
+        fill_units(suns, observers, from, count, &mut units);
+        value_block(targets, angle, &units, times, from, count, values);
+        from += count;
+    }
+}
+
+// The optimal roll of each cell.
+pub fn named_values(
+    targets: &[f64],
+    suns: &[f64],
+    observers: &[f64],
+    config: SolarRollConfig,
+    values: &mut [f64],
+) -> Answer
+    ensures { λ r. ⌜ replyOf r ≡ cellsReply (planOf (now (targets .entry)) (now (suns .entry)) (now (observers .entry)) config) 0 (length (now (values .entry))) ⌝ }
+    ensures { λ r. ⌜ now (values .exit) ≡ valuesAfter (planOf (now (targets .entry)) (now (suns .entry)) (now (observers .entry)) config) (now (values .entry)) ⌝ }
+{
+    let refusal = cells_refusal(targets, suns, observers, config, 0, values.len());
+    if refusal != 0 {
+        return Answer::Refused(refusal);
+    }
+    write_values(targets, suns, observers, config, values);
+    Answer::Accepted(0)
+}
