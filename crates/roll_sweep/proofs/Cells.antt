@@ -25,41 +25,41 @@ use Rattle.roll_sweep.proofs.Swept.{swept-ext}
 pub entry : {A : Type 0} (w : ℕ) (f : ℕ → A) (l : List A) (d : A) (k : ℕ) → take w l ≡ tab w f → k < w → getD l k d ≡ f k
 entry w f l d k e h = sym (getD-take w l k d h) ∙ ap (λ (t : List _). getD t k d) e ∙ getD-tab w f d k h
 
+-- sample k violates a cell of row r at a time of this Sun's unit, by what the plan, its rows and its times share
+abbrev pub in-row : Plan → List Float → ℕ → Vector → ℕ → Bool
+in-row p rolls r unit k =
+    violates (rollIn (bodyAxes (directionOf p r)) unit (panelOf (p .config .«panel_normal»)))
+    (inForce (Sweep (getD rolls k nan)) (p .config .«roll_deg»))
+    (configOf p r .«tolerance_deg»)
+
 -- row r at time j is the cell i
-pub cell-violated : (p : Plan) (rolls : List Float) (r j i k : ℕ) → i ≡ r * timesOf p + j → j < timesOf p
-    → cellViolated p rolls i k
-    ≡ violates (rollIn (bodyAxes (directionOf p r)) (sunAt p (i % timesOf p)) (panelOf (p .config .«panel_normal»)))
-    (inForce (Sweep (getD rolls k nan)) (p .config .«roll_deg»)) (configOf p r .«tolerance_deg»)
+pub cell-violated : (p : Plan) (rolls : List Float) (r j i k : ℕ) → i ≡ r * timesOf p + j → j < timesOf p → cellViolated p rolls i k ≡ in-row p rolls r (sunAt p (i % timesOf p)) k
 unfolding cellViolated violatesAt cellOf rowConfig headConfigured
 cell-violated p rolls r j i k e h =
     let row : i / timesOf p ≡ r = ap (λ (n : ℕ). n / timesOf p) e ∙ cell-row (timesOf p) r j h in
     rw (row, roll-shared)
 
--- cells k to e of those from number first on lie in one row: what is swept of the row's axes, the Sun's units, the panel and the settings
--- are the plan's cells
+-- cells k to e of those from number first on, where they lie in one row
 pub row-swept : (p : Plan) (rolls : List Float) (units : List Vector) (first cells k e : ℕ) → 0 < timesOf p
     → take cells units ≡ tab cells (λ j. sunAt p ((first + j) % timesOf p)) → k ≤ e → e ≤ cells → e ≤ k + (timesOf p - (first + k) % timesOf p)
-    → let row : ℕ = (first + k) / timesOf p in
-    let part : List Vector = take (e - k) (drop k units) in
-    sweptBy (length part) (length rolls)
-    (λ j s. violates (rollIn (bodyAxes (directionOf p row)) (getD part j []) (panelOf (p .config .«panel_normal»))) (inForce (Sweep (getD rolls s nan)) (p .config .«roll_deg»)) (configOf p row .«tolerance_deg»))
+    → let part : List Vector = take (e - k) (drop k units) in
+    sweptBy (length part) (length rolls) (λ j. in-row p rolls ((first + k) / timesOf p) (getD part j []))
     ≡ sweptBy (e - k) (length rolls) (λ j. cellViolated p rolls (first + (k + j)))
 row-swept p rolls units first cells k e pos u a b c =
     let times : ℕ = timesOf p in
     let row : ℕ = (first + k) / times in
     let time : ℕ = (first + k) % times in
-    let room : cells ≤ length units = omega (arith, length-take cells units, ap length u, length-tab cells (λ j. sunAt p ((first + j) % timesOf p))) in
     let part : List Vector = take (e - k) (drop k units) in
-    let w : length part ≡ e - k = length-take-le (e - k) (drop k units) (omega (arith, length-drop k units)) in
-    let v : ℕ → ℕ → Bool = λ j s. violates (rollIn (bodyAxes (directionOf p row)) (getD part j []) (panelOf (p .config .«panel_normal»))) (inForce (Sweep (getD rolls s nan)) (p .config .«roll_deg»)) (configOf p row .«tolerance_deg») in
-    ap (λ (n : ℕ). sweptBy n (length rolls) v) w
-    ∙ swept-ext (e - k) (length rolls) v (λ j. cellViolated p rolls (first + (k + j)))
+    let room : cells ≤ length units = omega (arith, length-take cells units, ap length u, length-tab cells (λ j. sunAt p ((first + j) % times))) in
+    let size : length part ≡ e - k = length-take-le (e - k) (drop k units) (omega (arith, length-drop k units)) in
+    ap (λ (n : ℕ). sweptBy n (length rolls) (λ j. in-row p rolls row (getD part j []))) size
+    ∙ swept-ext (e - k) (length rolls) (λ j. in-row p rolls row (getD part j [])) (λ j. cellViolated p rolls (first + (k + j)))
     (λ j s h g.
     let i : ℕ = first + (k + j) in
     let at : i ≡ row * times + (time + j) = omega (arith, div-add-mod' (first + k) times) in
-    let unit : getD part j [] ≡ sunAt p (i % times) = getD-take (e - k) (drop k units) j [] h ∙ getD-drop k units j [] ∙ entry cells (λ m. sunAt p ((first + m) % times)) units [] (k + j) u (omega arith) in
-    ap (λ (x : Vector). violates (rollIn (bodyAxes (directionOf p row)) x (panelOf (p .config .«panel_normal»))) (inForce (Sweep (getD rolls s nan)) (p .config .«roll_deg»)) (configOf p row .«tolerance_deg»)) unit
-    ∙ sym (cell-violated p rolls row (time + j) i s at (omega (arith, mod-lt (first + k) pos))))
+    let unit : getD part j [] ≡ sunAt p (i % times) =
+    getD-take (e - k) (drop k units) j [] h ∙ getD-drop k units j [] ∙ entry cells (λ m. sunAt p ((first + m) % times)) units [] (k + j) u (omega arith) in
+    ap (λ (x : Vector). in-row p rolls row x s) unit ∙ sym (cell-violated p rolls row (time + j) i s at (omega (arith, mod-lt (first + k) pos))))
 
 -- a configured roll stands for every sample, of any list
 pub configured-same : (p : Plan) (c : Float) (rolls others : List Float) (i k l : ℕ) → p .config .«roll_deg» ≡ Some c → cellViolated p rolls i k ≡ cellViolated p others i l

@@ -1,3 +1,4 @@
+-- `cells_in`: each return by the tests that led there. Assumes nothing.
 use native.Mathlib.Omega.{arith}
 use borrow.Author.Needs.{needs}
 use Rattle.roll_sweep.specs.Sweep.{cellsIn}

@@ -1,3 +1,4 @@
+-- `chunk_refusal`: each return by the tests that led there. Assumes nothing.
 use mathlib.Core.Path.{sym}
 use native.Mathlib.Nat.{mul-le-mul}
 use native.Mathlib.Omega.{arith}

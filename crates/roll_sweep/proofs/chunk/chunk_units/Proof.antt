@@ -1,3 +1,4 @@
+-- `chunk_units`: before cell k, the units of the cells before it stand in the table's first places. Assumes nothing.
 use Prim.Native.Nat.{ℕ, _+_, _-_, _%_, _≤_, _<_}
 use mathlib.Core.Path.{_≡_, refl, sym, ap, _∙_}
 use mathlib.Core.List.{List, []}

@@ -1,3 +1,4 @@
+-- `sweep_cells`: before cell k, where a row's part begins, mask and probes are those of the cells before it. Assumes nothing.
 use Prim.Native.Nat.{ℕ, _+_, _-_, _*_, _%_, _^_, _≤_, _<_}
 use mathlib.Core.Path.{_≡_, _∙_}
 use native.Mathlib.Nat.{mul-le-mul, mod-lt}

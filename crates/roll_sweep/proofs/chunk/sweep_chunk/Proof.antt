@@ -1,3 +1,4 @@
+-- `sweep_chunk`: a chunk that is not refused has its cells in the plan; with a configured roll one sample decides for all. Assumes nothing.
 use Prim.Native.Nat.{ℕ, _+_, _-_, _*_, _^_, _<_}
 use mathlib.Core.Path.{_≡_, sym, ap, _∙_}
 use mathlib.Core.List.{List}

@@ -1,3 +1,4 @@
+-- `sweep_row`: before cell k, mask and probes are those of the cells before it; before sample s of it, all samples before s violate it. Assumes nothing.
 use Prim.Native.Nat.{ℕ, _+_, _-_, _≤_, _<_}
 use mathlib.Core.Path.{_≡_, refl, sym, _∙_}
 use mathlib.Core.Bool.{Bool, true}

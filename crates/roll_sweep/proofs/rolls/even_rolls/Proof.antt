@@ -1,3 +1,4 @@
+-- `even_rolls`: before sample k, the samples before it stand in the table's first places. Assumes nothing.
 use Prim.Native.Nat.{_-_, _≤_, _<_, min}
 use mathlib.Core.Path.{_≡_, refl, _∙_}
 use native.Mathlib.Omega.{arith}
