@@ -34,6 +34,7 @@ pub struct Swept {
     pub probes: u64,
 }
 
+// What the sweep of a chunk gives, or document 01's number of the refusal.
 pub enum ChunkAnswer {
     Accepted(Swept),
     Refused(u64),
