@@ -6,14 +6,30 @@ use Prim.Native.Nat.{ℕ, _+_, _*_, _≤_, _<_}
 use native.Mathlib.Omega.{arith}
 use lib.Dec.{ltb, leb, eqb}
 use lib.ListN.{length}
-use borrow.Author.Tests.{lt-ltb, le-ltb, le-leb, lt-leb, eq-eqb, ne-eqb}
+use borrow.Author.Tests.{lt-ltb, le-ltb, le-leb, lt-leb, eq-eqb, ne-eqb, leb-false, ltb-false}
 use Rattle.buffers.specs.Lent.{filled, put}
 use Rattle.buffers.specs.Refusal.{Conditions, first, carried, Reply, refused, accepted, reply, unlessRefused}
-use Rattle.buffers.proofs.Refusal.{first-none, first-here, first-skip, carried-here, carried-skip, reply-none, reply-some, written-none, written-some}
+use Rattle.buffers.proofs.Refusal.{first-clear, carried-clear, reply-none, reply-some, written-none, written-some}
 use Rattle.roll_sweep.specs.Sweep.{Sweep, cells, chunks, chunkMask, chunkProbes}
 use Rattle.journal.specs.Lines.{lineText, lineOf, hasChunk, hasChunks, heldProbes}
 use Rattle.journal.specs.Right.{wholeLines, torn, right}
+use Rattle.journal.specs.Pass.{Passed}
 use Rattle.journal.specs.Calls.{planFirst, wrong, beginShort, workShort, collectShort, beginRefusal, beginReply, beginBytes, workRefusal, workReply, workBytes, kept, recoverRefusal, recoverReply, collectRefusal, collectReply, heldBit, collectMask}
+
+-- work's chain refuses nothing: neither 9 nor 7 holds
+chain-clear : (k : ℕ) (x y z v w : Bool) → first (carried k ∷ (x, 9) ∷ (y, 11) ∷ (z, 12) ∷ (v, 10) ∷ (w, 7) ∷ []) ≡ 0 → (x ≡ false) × (w ≡ false)
+chain-clear k x y z v w e =
+    let c0 = carried-clear k ((x, 9) ∷ (y, 11) ∷ (z, 12) ∷ (v, 10) ∷ (w, 7) ∷ []) e in
+    let c1 = first-clear x 9 ((y, 11) ∷ (z, 12) ∷ (v, 10) ∷ (w, 7) ∷ []) (omega arith) (c0 .1) in
+    let c2 = first-clear y 11 ((z, 12) ∷ (v, 10) ∷ (w, 7) ∷ []) (omega arith) (c1 .1) in
+    let c3 = first-clear z 12 ((v, 10) ∷ (w, 7) ∷ []) (omega arith) (c2 .1) in
+    let c4 = first-clear v 10 ((w, 7) ∷ []) (omega arith) (c3 .1) in
+    (c1 .0, first-clear w 7 [] (omega arith) (c4 .1) .0)
+
+-- by the sweep's cells, samples and header
+pub wrong-of : (s : Sweep) (n k : ℕ) (h b : List ℕ) (u : ℕ) (t : Bool) → Passed s n k h b u → right n k h b u ≡ t → wrong s b u ≡ not t
+unfolding wrong
+wrong-of s n k h b u t p e = ap not ((λ i. right (p .all i) (p .samples i) (p .header i) b u) ∙ e)
 
 module _ (s : Sweep) (b : List ℕ) (u : ℕ) where
   -- ---- begin
@@ -84,6 +100,13 @@ module _ (s : Sweep) (b : List ℕ) (u : ℕ) where
               pub work-0 : u + 33 ≤ length b → workRefusal s c b u ≡ 0
               unfolding workRefusal
               work-0 h = simp (p, lt-leb (chunks (cells s)) c g, w, t, a, le-ltb (length b) (u + 33) h)
+
+    pub work-clear : workRefusal s c b u ≡ 0 → (c < chunks (cells s)) × (u + 33 ≤ length b)
+    unfolding workRefusal
+    work-clear e =
+        let q =
+        chain-clear (s .refusal (ltb (length b) u)) (leb (chunks (cells s)) c) (wrong s b u) (torn u) (hasChunk b (wholeLines u) c) (workShort (length b) u) e in
+        (leb-false (chunks (cells s)) c (q .0), ltb-false (length b) (u + 33) (q .1))
 
     pub work-refused : (k : ℕ) → 0 < k → workRefusal s c b u ≡ k → (refused k ≡ workReply s c b u) × (b ≡ workBytes s c b u)
     unfolding workReply workBytes

@@ -5,13 +5,13 @@ use mathlib.Core.List.{List, [], _∷_, _++_}
 use Prim.Native.Nat.{ℕ, zero, suc, _+_, _*_, _≤_, _<_}
 use native.Mathlib.Omega.{arith}
 use lib.Dec.{ltb, leb, lit<}
-use lib.ListN.{length}
+use lib.ListN.{length, replicate, length-replicate}
 use lib.Ieee.{Float, binary64, toBits}
 use borrow.Author.Tests.{le-leb, ltb-false}
 use Rattle.buffers.specs.Refusal.{first, carried, reply}
 use Rattle.buffers.proofs.Refusal.{first-clear, carried-clear}
 use Rattle.buffers.specs.Lent.{over, put}
-use Rattle.buffers.proofs.Lent.{put-first}
+use Rattle.buffers.proofs.Lent.{put-first, over-all}
 use Rattle.buffers.proofs.Tests.{or-right, and-left, and-right}
 use Rattle.solar_roll.specs.Vectors.{Vector, x, y, z}
 use Rattle.solar_roll.specs.declared.cell.ConfiguredRoll.{ConfiguredRoll}
@@ -25,14 +25,13 @@ use Rattle.roll_sweep.specs.declared.chunk.ChunkAnswer.{ChunkAnswer}
 use Rattle.roll_sweep.specs.declared.chunk.ChunkAnswer.the-variants.{Accepted, Refused}
 use Rattle.roll_sweep.proofs.Even.{length-even}
 use Rattle.roll_sweep.proofs.Accepted.{sampled, chunk-accepted, answer-swept, answer-never}
-use Rattle.journal.specs.Right.{right}
 use Rattle.journal.specs.Header.{hasRoll, rollBits, settingsHeader, headerOf}
-use Rattle.journal.specs.Calls.{wrong}
+use Rattle.journal.specs.Pass.{Passed}
 use Rattle.journal.specs.Plan.{sweepOf}
 use Rattle.journal.proofs.Write.{length-header}
 
 -- what is known once the plan has passed
-pub record Passed (p : Plan) (n room u : ℕ) : Type 0 where
+pub record PlanPassed (p : Plan) (n room u : ℕ) : Type 0 where
   pub facts : PlanFacts p
   pub one : 1 ≤ n
   pub most : n ≤ 3600
@@ -55,7 +54,7 @@ module _ (p : Plan) (n : ℕ) where
   unfolding sweepOf
   refusal-said m k beyond e f = f ∙ ap (λ (x : ℕ). planRefusal p x beyond) e
 
-  pub passed : (room u : ℕ) → sweepOf p n .refusal (ltb room u) ≡ 0 → Passed p n room u
+  pub passed : (room u : ℕ) → sweepOf p n .refusal (ltb room u) ≡ 0 → PlanPassed p n room u
   unfolding sweepOf planRefusal
   passed room u h =
       let unlike : Bool = unlikeLengths (length (p .targets)) (length (p .suns)) (length (p .observers)) in
@@ -80,12 +79,19 @@ module _ (p : Plan) (n : ℕ) where
   unfolding sweepOf headerOf
   header-put b out e = e ∙ sym (put-first (headerOf p n) b)
 
-  -- whether the journal is right, by rows, times, n and the header that was written for them
-  pub wrong-planned : (b : List ℕ) (u : ℕ) (t : Bool)
-      → right (rowsOf p * timesOf p) n (settingsHeader (rowsOf p) (timesOf p) n (headTolerance p) (headConfigured p) (headPanel p)) b u ≡ t
-      → wrong (sweepOf p n) b u ≡ not t
-  unfolding wrong sweepOf headerOf
-  wrong-planned b u t e = ap not (ap (λ (x : ℕ). right (rowsOf p * timesOf p) x (headerOf p n) b u) samples-n ∙ e)
+  -- the plan's sweep, by the header that was written: over a blank array of its length
+  pub passed-with : (b h : List ℕ) (u : ℕ) → sweepOf p n .refusal (ltb (length b) u) ≡ 0
+      → h ≡ over (settingsHeader (rowsOf p) (timesOf p) n (headTolerance p) (headConfigured p) (headPanel p)) (replicate 107 0)
+      → Passed (sweepOf p n) (rowsOf p * timesOf p) n h b u
+  unfolding sweepOf headerOf
+  passed-with b h u e w =
+      let n107 : length (headerOf p n) ≡ 107 = length-header-of in
+      record {
+        plan = e;
+        all = refl;
+        samples = samples-n;
+        header = sym (w ∙ over-all (headerOf p n) (replicate 107 0) (omega (arith, length-replicate {A = ℕ} 107 0)));
+      }
 
 -- ---- the sweep of a chunk of an accepted plan, at n even rolls, is not refused, and gives what the plan's sweep has
 

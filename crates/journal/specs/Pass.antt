@@ -7,7 +7,7 @@ use Prim.Native.Nat.{ℕ, _+_, _<_}
 use lib.Dec.{ltb, eqb}
 use lib.ListN.{length, getD}
 use Rattle.buffers.specs.Ranges.{flag}
-use Rattle.roll_sweep.specs.Sweep.{chunks}
+use Rattle.roll_sweep.specs.Sweep.{Sweep, cells, chunks}
 use Rattle.journal.specs.Hex.{areDigits}
 use Rattle.journal.specs.Lines.{lineStart, chunkAt, maskAt, probesAt, hasChunk, heldMask}
 use Rattle.journal.specs.Right.{possible}
@@ -42,3 +42,10 @@ pub record Tables (b : List ℕ) (l : ℕ) (seen masks : List ℕ) : Type 0 wher
   pub words : length masks ≡ 16384
   pub chunk : (c : ℕ) → c < 16384 → getD seen c 0 ≡ flag (hasChunk b l c)
   pub mask : (c : ℕ) → c < 16384 → getD masks c 0 ≡ heldMask b l c
+
+-- a sweep of n cells, k samples and the header h, whose plan has passed
+pub record Passed (s : Sweep) (n k : ℕ) (h b : List ℕ) (u : ℕ) : Type 0 where
+  pub plan : s .refusal (ltb (length b) u) ≡ 0
+  pub all : cells s ≡ n
+  pub samples : s .samples ≡ k
+  pub header : s .header ≡ h

@@ -1,26 +1,17 @@
-// Begin, work, recover and collect. Each tries document 01's refusals in their order, and writes nothing until all have passed.
+// Begin, work, recover and collect on a plan. Each tries document 01's refusals in their order, and writes nothing until all have passed.
 ghost use mathlib.Core.Path.{_≡_};
-ghost use mathlib.Core.Bool.{true};
 ghost use Prim.Native.Nat.{_*_, _≤_, _<_};
-ghost use lib.ListN.{length, replicate};
 ghost use Rattle.buffers.specs.Refusal.{replyOf};
 ghost use Rattle.solar_roll.specs.Plan.{planOf, count, PlanFacts};
 ghost use Rattle.roll_sweep.specs.Sweep.{chunks};
 ghost use Rattle.roll_sweep.specs.Chunk.{sweptOf};
-ghost use Rattle.journal.specs.Lines.{heldProbes};
-ghost use Rattle.journal.specs.Right.{wholeLines, right};
-ghost use Rattle.journal.specs.Header.{settingsHeader};
 ghost use Rattle.journal.specs.Calls.{beginReply, beginBytes, workReply, workBytes, recoverReply, collectReply, collectMask};
-ghost use Rattle.journal.specs.Pass.{checkedOf, Tables};
 ghost use Rattle.journal.specs.Plan.{lentSweep};
+use crate::accepted::collect_lines;
+use crate::accepted::recover_used;
+use crate::accepted::work_refusal;
 use crate::header::write_header;
 use crate::line::append_line;
-use crate::mask::all_seen;
-use crate::mask::write_cells;
-use crate::pass::Checked;
-use crate::pass::check_journal;
-use crate::pass::is_torn;
-use crate::pass::kept_length;
 use buffers::Answer;
 use roll_sweep::ChunkAnswer;
 use roll_sweep::Swept;
@@ -29,26 +20,6 @@ use roll_sweep::sweep_chunk;
 use solar_roll::SolarRollConfig;
 use solar_roll::plan_refusal;
 use solar_roll::sampling;
-
-// Whether the used bytes are right for a plan of these rows, times and settings. The tables come blank, and are filled if they are.
-fn check_for(
-    rows: u64,
-    times: u64,
-    n: u64,
-    config: SolarRollConfig,
-    journal: &[u8],
-    used: usize,
-    seen: &mut [u8],
-    masks: &mut [u64],
-) -> Checked
-    requires { ⌜ (rows * times ≤ 1048576) × (n ≤ 3600) × (used ≤ length (now journal)) × (now seen ≡ replicate 16384 0) × (now masks ≡ replicate 16384 0) ⌝ }
-    ensures { λ r. ⌜ (r ≡ checkedOf (right (rows * times) n (settingsHeader rows times n (config .«tolerance_deg») (config .«roll_deg») (config .«panel_normal»)) (now (journal .entry)) used) (heldProbes (now (journal .entry)) (wholeLines used)))
-        × (right (rows * times) n (settingsHeader rows times n (config .«tolerance_deg») (config .«roll_deg») (config .«panel_normal»)) (now (journal .entry)) used ≡ true → Tables (now (journal .entry)) (wholeLines used) (now (seen .exit)) (now (masks .exit))) ⌝ }
-{
-    let mut header = [0u8; 107];
-    write_header(&mut header, rows, times, n, config);
-    check_journal(&header, rows * times, n, journal, used, seen, masks)
-}
 
 // Makes the journal the header, and gives the used length.
 pub fn begin(
@@ -127,32 +98,11 @@ pub fn work(
     }
     let rows = (targets.len() / 3) as u64;
     let times = (suns.len() / 3) as u64;
-    if (rows * times + 63) / 64 <= chunk {
-        return Answer::Refused(9);
-    }
-    let mut seen = [0u8; 16384];
-    let mut masks = [0u64; 16384];
-    let Checked::Right(_) = check_for(
-        rows,
-        times,
-        n,
-        config,
-        journal,
-        used as usize,
-        &mut seen,
-        &mut masks,
-    ) else {
-        return Answer::Refused(11);
-    };
-    if is_torn(used as usize) {
-        return Answer::Refused(12);
-    }
-    let c = chunk as usize;
-    if seen[c] != 0 {
-        return Answer::Refused(10);
-    }
-    if room - used < 33 {
-        return Answer::Refused(7);
+    let mut header = [0u8; 107];
+    write_header(&mut header, rows, times, n, config);
+    let refusal = work_refusal(&header, rows * times, n, chunk, journal, used);
+    if refusal != 0 {
+        return Answer::Refused(refusal);
     }
     let swept = sweep_even(targets, suns, observers, config, n, chunk);
     append_line(journal, used as usize, chunk, swept.mask, swept.probes);
@@ -184,21 +134,9 @@ pub fn recover(
     }
     let rows = (targets.len() / 3) as u64;
     let times = (suns.len() / 3) as u64;
-    let mut seen = [0u8; 16384];
-    let mut masks = [0u64; 16384];
-    match check_for(
-        rows,
-        times,
-        n,
-        config,
-        journal,
-        used as usize,
-        &mut seen,
-        &mut masks,
-    ) {
-        Checked::Right(_) => Answer::Accepted(kept_length(used as usize) as u64),
-        Checked::Wrong => Answer::Refused(11),
-    }
+    let mut header = [0u8; 107];
+    write_header(&mut header, rows, times, n, config);
+    recover_used(&header, rows * times, n, journal, used)
 }
 
 // Writes the mask that the journal's lines hold, and gives the sum of their probes.
@@ -228,30 +166,7 @@ pub fn collect(
     }
     let rows = (targets.len() / 3) as u64;
     let times = (suns.len() / 3) as u64;
-    let cells = (rows * times) as usize;
-    let mut seen = [0u8; 16384];
-    let mut masks = [0u64; 16384];
-    let Checked::Right(probes) = check_for(
-        rows,
-        times,
-        n,
-        config,
-        journal,
-        used as usize,
-        &mut seen,
-        &mut masks,
-    ) else {
-        return Answer::Refused(11);
-    };
-    if is_torn(used as usize) {
-        return Answer::Refused(12);
-    }
-    if !all_seen(&seen, (cells + 63) / 64) {
-        return Answer::Refused(15);
-    }
-    if mask.len() < cells {
-        return Answer::Refused(7);
-    }
-    write_cells(mask, cells, &masks);
-    Answer::Accepted(probes)
+    let mut header = [0u8; 107];
+    write_header(&mut header, rows, times, n, config);
+    collect_lines(&header, rows * times, n, journal, used, mask)
 }

@@ -1,4 +1,5 @@
 // The journal of a sweep: section 4's frames, when a journal is right, and begin, work, recover and collect.
+mod accepted;
 mod calls;
 mod header;
 mod hex;

@@ -99,11 +99,7 @@ fn answered(words: &[u64; 512]) -> bool {
 
 // Word i, 0 past the end.
 pub(crate) fn word(words: &[u64; 512], i: u64) -> u64 {
-    if i < 512 {
-        words[i as usize]
-    } else {
-        0
-    }
+    if i < 512 { words[i as usize] } else { 0 }
 }
 
 pub(crate) fn float(words: &[u64; 512], i: u64) -> f64 {

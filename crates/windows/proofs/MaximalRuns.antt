@@ -179,9 +179,9 @@ heads a b ps qs p q m n =
 tails : (a b : Run) (ps qs : List Run) → InOrder (a ∷ ps) → a ≡ b → Sub (a ∷ ps) (b ∷ qs) → Sub ps qs
 tails a b ps qs p e s x h =
     ⊎-elim (λ (k : x ≡ b).
-      let d : suc (a .last) < x .first = p .1 x h in
-      let f : x .first ≡ a .first = ap (λ (r : Run). r .first) (k ∙ sym e) in
-      let z : ⊥ = omega (arith, p .0) in absurd z)
+    let d : suc (a .last) < x .first = p .1 x h in
+    let f : x .first ≡ a .first = ap (λ (r : Run). r .first) (k ∙ sym e) in
+    let z : ⊥ = omega (arith, p .0) in absurd z)
     (λ g. g) (List·Memᴰ·cases-cons (s x (List·Memᴰ·tail h)))
 
 pub unique : (ps qs : List Run) → InOrder ps → InOrder qs → Sub ps qs → Sub qs ps → ps ≡ qs

@@ -184,10 +184,10 @@ pub ready : (mask : List ℕ) (times : List ℤ) (severities : List Float) (unev
 ready mask times severities uneven n count places r e h =
     ⊎-elim
     (λ (a : (windowsRefusal uneven mask times severities (ltb places n) ≡ 0) × (count ≡ n)).
-      let f = windows-accepted uneven mask times severities (ltb places n) (a .0) in
-      record { few = omega arith; even = λ z. f .even; room = omega (arith, ltb-false places n (f .room)) })
+    let f = windows-accepted uneven mask times severities (ltb places n) (a .0) in
+    record { few = omega arith; even = λ z. f .even; room = omega (arith, ltb-false places n (f .room)) })
     (λ (a : (0 < windowsRefusal uneven mask times severities (ltb places n)) × (count ≡ 0)).
-      record { few = omega arith; even = λ z. let w : ⊥ = omega arith in absurd w; room = omega arith })
+    record { few = omega arith; even = λ z. let w : ⊥ = omega arith in absurd w; room = omega arith })
     (counted (windowsRefusal uneven mask times severities (ltb places n)) n count r e h)
 
 -- W says what is left by writing a list of windows: all of it where the call is accepted, nothing where it is refused
@@ -275,7 +275,7 @@ module _ (mask : List ℕ) (times : List ℤ) (severities : List Float) (d : Col
         let a : r ≡ reply (why (differ (lengths d))) (length (violationRuns mask)) = q ∙ ap (λ (x : Bool). reply (why x) (length (violationRuns mask))) e in (
           a ∙ ap (reply (why (differ (lengths d)))) (length-violations mask times severities),
           w ∙ ap (λ (t : List Window). written (take count t) d) (violations-are mask times severities)
-          ∙ wrote (λ (t : List Window). written t d) d ws (why (differ (lengths d))) (length (violationRuns mask)) count r refl a h (length-violations mask times severities),
+              ∙ wrote (λ (t : List Window). written t d) d ws (why (differ (lengths d))) (length (violationRuns mask)) count r refl a h (length-violations mask times severities),
         )
 
   module _ (q : r ≡ reply (windowsRefusal uneven' mask times [] (ltb (length (d .first)) (length (visibilityRuns mask)))) (length (visibilityRuns mask))) where
@@ -298,5 +298,5 @@ module _ (mask : List ℕ) (times : List ℤ) (severities : List Float) (d : Col
         let a : r ≡ reply (why (differ (lengths d))) (length (visibilityRuns mask)) = q ∙ ap (λ (x : Bool). reply (why x) (length (visibilityRuns mask))) e in (
           a ∙ ap (reply (why (differ (lengths d)))) (length-visibility mask times),
           w ∙ ap (λ (t : List Window). written (take count t) d) (visibility-are mask times severities)
-          ∙ wrote (λ (t : List Window). written t d) d ws (why (differ (lengths d))) (length (visibilityRuns mask)) count r refl a h (length-visibility mask times),
+              ∙ wrote (λ (t : List Window). written t d) d ws (why (differ (lengths d))) (length (visibilityRuns mask)) count r refl a h (length-visibility mask times),
         )

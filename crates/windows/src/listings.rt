@@ -198,7 +198,15 @@ pub(crate) fn violation_answer(
     ensures { λ r. ⌜ replyOf r ≡ reply (windowsRefusal (differ (length (now (mask .entry)) ∷ length (now (times .entry)) ∷ length (now (severities .entry)) ∷ []) || uneven) (now (mask .entry)) (now (times .entry)) (now (severities .entry)) (ltb places (length (violationRuns (now (mask .entry)))))) (length (violationRuns (now (mask .entry)))) ⌝ }
 {
     let different = differ_three(mask.len(), times.len(), severities.len());
-    answer_of(Listing::Violations, different, uneven, mask, times, severities, places)
+    answer_of(
+        Listing::Violations,
+        different,
+        uneven,
+        mask,
+        times,
+        severities,
+        places,
+    )
 }
 
 // What the visibility listing answers.
@@ -207,7 +215,15 @@ pub(crate) fn visibility_answer(mask: &[u8], times: &[i64], uneven: bool, places
 {
     let none = [0.0f64; 0];
     let different = differ_two(mask.len(), times.len());
-    answer_of(Listing::Visibility, different, uneven, mask, times, &none, places)
+    answer_of(
+        Listing::Visibility,
+        different,
+        uneven,
+        mask,
+        times,
+        &none,
+        places,
+    )
 }
 
 // How many windows are to be stored after that answer: none where it is a refusal.

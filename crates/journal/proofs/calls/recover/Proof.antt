@@ -1,5 +1,5 @@
-use Rattle.journal.proofs.Chains.{recover-plan, recover-11, recover-0, recover-refused, recover-accepted}
-use Rattle.journal.proofs.Planned.{refusal-said, passed, wrong-planned}
+use Rattle.journal.proofs.Chains.{recover-plan, recover-refused}
+use Rattle.journal.proofs.Planned.{refusal-said, passed, passed-with, length-header-of}
 use Rattle.journal.specs.Plan.{sweepOf}
 use Rattle.solar_roll.specs.Plan.{Plan, planOf, headTolerance, headConfigured, headPanel}
 use Rattle.roll_sweep.specs.Sweep.{Sweep}
@@ -9,27 +9,25 @@ use lib.ListN.{length}
 use Prim.Native.Nat.{ℕ, _*_, _≤_, _<_}
 use native.Mathlib.Omega.{arith}
 use mathlib.Core.Path.{_≡_, sym, ap, _∙_}
-use Rattle.journal.proofs.Scan.{told-wrong, told-right}
-use mathlib.Core.Path.{refl}
 use borrow.Author.Needs.{needs}
 use Rattle.journal.proofs.calls.recover.Statement.{statement}
 use Rattle.journal.proofs.calls.recover.Tie as tie
 use Rattle.journal.proofs.calls.recover.Reads as reads
 use Rattle.journal.proofs.calls.recover.Lts as lts
-use Rattle.journal.proofs.calls.check_for.Reads as check-for-reads
-use Rattle.journal.proofs.pass.kept_length.Reads as kept-length-reads
+use Rattle.journal.proofs.accepted.recover_used.Reads as recover-used-reads
+use Rattle.journal.proofs.header.write_header.Reads as write-header-reads
 use Rattle.solar_roll.proofs.plan_refusal.Reads as plan-refusal-reads
 use Rattle.solar_roll.proofs.sampling.Reads as sampling-reads
 
--- src/calls.rt:60:66
+-- src/calls.rt:86:66
 sampling-requires : tie.Need-sampling-requires
 sampling-requires c κs = search needs
 
--- src/calls.rt:60:9
+-- src/calls.rt:86:9
 plan-refusal-requires : tie.Need-plan-refusal-requires
 plan-refusal-requires c κs = search needs
 
--- src/calls.rt:62:9
+-- src/calls.rt:88:9
 returns : tie.Need-returns
 unfolding replyOf
 returns c =
@@ -43,66 +41,64 @@ returns c =
     let h : 0 < k = omega (arith, c .if1 .taken) in
     recover-refused s b (a .used) k h (recover-plan s b (a .used) k e h)
 
--- src/calls.rt:68:69
-slice-aggregate-check-for : tie.Need-slice-aggregate-check-for
-slice-aggregate-check-for c = search needs
+-- src/calls.rt:93:18
+slice-aggregate-write-header : tie.Need-slice-aggregate-write-header
+slice-aggregate-write-header c = search needs
 
--- src/calls.rt:68:80
-slice-aggregate-check-for-2 : tie.Need-slice-aggregate-check-for-2
-slice-aggregate-check-for-2 c = search needs
+-- src/calls.rt:93:5
+write-header-requires : tie.Need-write-header-requires
+write-header-requires c κs = search needs
 
--- src/calls.rt:68:11
-check-for-requires : tie.Need-check-for-requires
-check-for-requires c κs =
-    let a = c .before .before .before .before .before .before .before .before .before .args in
+-- src/calls.rt:94:18
+slice-aggregate-recover-used : tie.Need-slice-aggregate-recover-used
+slice-aggregate-recover-used c = search needs
+
+-- src/calls.rt:94:27
+mul-recover-used : tie.Need-mul-recover-used
+mul-recover-used c =
+    let a = c .before .before .before .before .before .before .before .before .before .before .before .args in
     let p : Plan = planOf (a .targets .now) (a .suns .now) (a .observers .now) (a .config) in
     let s : Sweep = sweepOf p (a .n) in
     let b = a .journal .now in
-    let k = c .before .before .before .plan-refusal .result in
+    let k = c .before .before .before .before .before .plan-refusal .result in
     let e : k ≡ s .refusal (ltb (length b) (a .used)) =
-    refusal-said p (a .n) (c .before .before .before .before .sampling .result) k (ltb (length b) (a .used)) (c .before .before .before .before .sampling .ensures) (c .before .before .before .plan-refusal .ensures) in
-    let q = passed p (a .n) (length b) (a .used) (sym e ∙ c .before .before .if1 .left) in
-    (q .facts .few-cells, q .most, q .used, refl, refl)
+    refusal-said p (a .n) (c .before .before .before .before .before .before .sampling .result) k (ltb (length b) (a .used)) (c .before .before .before .before .before .before .sampling .ensures) (c .before .before .before .before .before .plan-refusal .ensures) in
+    let q = passed p (a .n) (length b) (a .used) (sym e ∙ c .before .before .before .before .if1 .left) in
+    omega (arith, q .facts .few-cells)
 
--- src/calls.rt:69:59
-enum-told : tie.Need-enum-told
-enum-told c = search needs
+-- src/calls.rt:94:5
+recover-used-requires : tie.Need-recover-used-requires
+unfolding headTolerance headConfigured headPanel sweepOf
+recover-used-requires c κs =
+    let a = c .before .before .before .before .before .before .before .before .before .before .before .args in
+    let p : Plan = planOf (a .targets .now) (a .suns .now) (a .observers .now) (a .config) in
+    let s : Sweep = sweepOf p (a .n) in
+    let b = a .journal .now in
+    let k = c .before .before .before .before .before .plan-refusal .result in
+    let e : k ≡ s .refusal (ltb (length b) (a .used)) =
+    refusal-said p (a .n) (c .before .before .before .before .before .before .sampling .result) k (ltb (length b) (a .used)) (c .before .before .before .before .before .before .sampling .ensures) (c .before .before .before .before .before .plan-refusal .ensures) in
+    let z : s .refusal (ltb (length b) (a .used)) ≡ 0 = sym e ∙ c .before .before .before .before .if1 .left in
+    let q = passed p (a .n) (length b) (a .used) z in
+    let h = c .before .before .write-header .last .0 in
+    let o = passed-with p (a .n) b h (a .used) z (c .before .before .write-header .ensures) in
+    (ap length (sym (o .header)) ∙ length-header-of p (a .n), q .facts .few-cells, q .most, q .used)
 
--- src/calls.rt:69:47
-kept-length-requires : tie.Need-kept-length-requires
-kept-length-requires c κs = search needs
-
--- src/calls.rt:70:27
-enum-told-2 : tie.Need-enum-told-2
-enum-told-2 c = search needs
-
--- src/calls.rt:57:1
+-- src/calls.rt:83:1
 returns-2 : tie.Need-returns-2
-unfolding replyOf headTolerance headConfigured headPanel
+unfolding headTolerance headConfigured headPanel sweepOf
 returns-2 c =
-    let a = c .before .before .before .before .before .before .before .before .before .before .before .before .before .before .before .args in
+    let a = c .before .before .before .before .before .before .before .before .before .before .before .before .args in
     let p : Plan = planOf (a .targets .now) (a .suns .now) (a .observers .now) (a .config) in
     let s : Sweep = sweepOf p (a .n) in
     let b = a .journal .now in
-    let k = c .before .before .before .before .before .before .before .before .before .plan-refusal .result in
+    let k = c .before .before .before .before .before .before .plan-refusal .result in
     let e : k ≡ s .refusal (ltb (length b) (a .used)) =
-    refusal-said p (a .n) (c .before .before .before .before .before .before .before .before .before .before .sampling .result) k (ltb (length b) (a .used)) (c .before .before .before .before .before .before .before .before .before .before .sampling .ensures) (c .before .before .before .before .before .before .before .before .before .plan-refusal .ensures) in
-    let w = wrong-planned p (a .n) b (a .used) _ (told-right _ _ _ (sym (c .before .before .before .before .before .check-for .ensures .0) ∙ c .before .enum-told .given .1) .0) in
-    recover-accepted s b (a .used) _ (c .kept-length .ensures) (recover-0 s b (a .used) (sym e ∙ c .before .before .before .before .before .before .before .before .if1 .left) w)
-
--- src/calls.rt:57:1
-returns-3 : tie.Need-returns-3
-unfolding replyOf headTolerance headConfigured headPanel
-returns-3 c =
-    let a = c .before .before .before .before .before .before .before .before .before .before .before .before .before .before .args in
-    let p : Plan = planOf (a .targets .now) (a .suns .now) (a .observers .now) (a .config) in
-    let s : Sweep = sweepOf p (a .n) in
-    let b = a .journal .now in
-    let k = c .before .before .before .before .before .before .before .before .plan-refusal .result in
-    let e : k ≡ s .refusal (ltb (length b) (a .used)) =
-    refusal-said p (a .n) (c .before .before .before .before .before .before .before .before .before .sampling .result) k (ltb (length b) (a .used)) (c .before .before .before .before .before .before .before .before .before .sampling .ensures) (c .before .before .before .before .before .before .before .before .plan-refusal .ensures) in
-    let w = wrong-planned p (a .n) b (a .used) _ (told-wrong _ _ (sym (c .before .before .before .before .check-for .ensures .0) ∙ c .enum-told2 .given .1)) in
-    recover-refused s b (a .used) 11 (omega arith) (recover-11 s b (a .used) (sym e ∙ c .before .before .before .before .before .before .before .if1 .left) w)
+    refusal-said p (a .n) (c .before .before .before .before .before .before .before .sampling .result) k (ltb (length b) (a .used)) (c .before .before .before .before .before .before .before .sampling .ensures) (c .before .before .before .before .before .before .plan-refusal .ensures) in
+    let z : s .refusal (ltb (length b) (a .used)) ≡ 0 = sym e ∙ c .before .before .before .before .before .if1 .left in
+    let q = passed p (a .n) (length b) (a .used) z in
+    let h = c .before .before .before .write-header .last .0 in
+    let o = passed-with p (a .n) b h (a .used) z (c .before .before .before .write-header .ensures) in
+    c .recover-used .ensures s o
 
 pub recover-spec : {M : Type 1} → statement M
 recover-spec =
@@ -111,11 +107,9 @@ recover-spec =
     sampling-requires
     plan-refusal-requires
     returns
-    slice-aggregate-check-for
-    slice-aggregate-check-for-2
-    check-for-requires
-    enum-told
-    kept-length-requires
-    enum-told-2
-    returns-2
-    returns-3)
+    slice-aggregate-write-header
+    write-header-requires
+    slice-aggregate-recover-used
+    mul-recover-used
+    recover-used-requires
+    returns-2)

@@ -16,11 +16,11 @@ use Rattle.windows.proofs.expansion.expand_in_order.Statement.{statemen
 use Rattle.windows.proofs.expansion.expand_in_order.Tie as tie
 
 abbrev Inv-loop : tie.InvT-loop
-Inv-loop first last times mask₀ j₀ i₀ mask j i = 
+Inv-loop first last times mask₀ j₀ i₀ mask j i =
     (i ≤ length times) × (j ≤ length last) × (done : List ℕ) × (length done ≡ i) × (mask ≡ over done mask₀) × (done ++ sweep (drop i times) (drop j (spans first last)) ≡ sweep times (spans first last))
 
 abbrev μ-loop : tie.MeasureT-loop
-μ-loop first last times mask₀ j₀ i₀ mask j i = 
+μ-loop first last times mask₀ j₀ i₀ mask j i =
     length times - i
 
 -- the mask is as long as it was
@@ -47,7 +47,7 @@ loop-less : tie.Need-loop-less Inv-loop μ-loop
 loop-less c = omega arith
 
 loop-again : tie.Need-loop-again Inv-loop μ-loop
-loop-again c = 
+loop-again c =
     let l = c .before .before .before in
     let s = l .before .before in
     let h = c .before .before .loop-test .taken in (
@@ -63,7 +63,7 @@ same-length : tie.Need-same-length Inv-loop μ-loop
 same-length c = kept-length (c .before)
 
 returns : tie.Need-returns Inv-loop μ-loop
-returns c = 
+returns c =
     let l = c .before in
     let s = l .before .before in
     l .loop .inv .4 ∙ ap (λ (v : List ℕ). over v (s .args .mask .now)) (sweep-end (s .args .times .now) (spans (s .args .first .now) (s .args .last .now)) (l .loop .i) (l .loop .inv .2) _ (l .loop .j) (c .loop-test .left) (l .loop .inv .5))

@@ -15,11 +15,11 @@ use Rattle.windows.proofs.expansion.expand_reordered.Statement.{stateme
 use Rattle.windows.proofs.expansion.expand_reordered.Tie as tie
 
 abbrev Inv-loop : tie.InvT-loop
-Inv-loop first last times mask₀ i₀ mask i = 
+Inv-loop first last times mask₀ i₀ mask i =
     (i ≤ length times) × (done : List ℕ) × (length done ≡ i) × (mask ≡ over done mask₀) × (done ++ look (drop i times) (spans first last) ≡ look times (spans first last))
 
 abbrev μ-loop : tie.MeasureT-loop
-μ-loop first last times mask₀ i₀ mask i = 
+μ-loop first last times mask₀ i₀ mask i =
     length times - i
 
 -- the mask is as long as it was
@@ -43,7 +43,7 @@ loop-less : tie.Need-loop-less Inv-loop μ-loop
 loop-less c = omega arith
 
 loop-again : tie.Need-loop-again Inv-loop μ-loop
-loop-again c = 
+loop-again c =
     let l = c .before .before in
     let s = l .before .before in
     let h = c .before .loop-test .taken in (
@@ -58,7 +58,7 @@ same-length : tie.Need-same-length Inv-loop μ-loop
 same-length c = kept-length (c .before)
 
 returns : tie.Need-returns Inv-loop μ-loop
-returns c = 
+returns c =
     let l = c .before in
     let s = l .before .before in
     l .loop .inv .3 ∙ ap (λ (v : List ℕ). over v (s .args .mask .now)) (look-end (s .args .times .now) (spans (s .args .first .now) (s .args .last .now)) (l .loop .i) (l .loop .inv .1) _ (c .loop-test .left) (l .loop .inv .4))

@@ -19,11 +19,11 @@ empty [] e = refl
 empty (x ∷ l) e = let z : ⊥ = omega arith in absurd z
 
 abbrev Inv-loop : tie.InvT-loop
-Inv-loop times n i₀ i = 
+Inv-loop times n i₀ i =
     (i < length times) × (inOrder (drop i times) ≡ inOrder times)
 
 abbrev μ-loop : tie.MeasureT-loop
-μ-loop times n i₀ i = 
+μ-loop times n i₀ i =
     length times - i
 
 returns : tie.Need-returns Inv-loop μ-loop

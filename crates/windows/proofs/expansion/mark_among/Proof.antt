@@ -15,11 +15,11 @@ use Rattle.windows.proofs.expansion.mark_among.Statement.{statement}
 use Rattle.windows.proofs.expansion.mark_among.Tie as tie
 
 abbrev Inv-loop : tie.InvT-loop
-Inv-loop first last times i j₀ j = 
+Inv-loop first last times i j₀ j =
     (j ≤ length last) × (inSome (getD times i (pos 0)) (drop j (spans first last)) ≡ inSome (getD times i (pos 0)) (spans first last))
 
 abbrev μ-loop : tie.MeasureT-loop
-μ-loop first last times i j₀ j = 
+μ-loop first last times i j₀ j =
     length last - j
 
 loop-holds : tie.Need-loop-holds Inv-loop μ-loop

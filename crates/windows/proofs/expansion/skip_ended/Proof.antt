@@ -15,11 +15,11 @@ use Rattle.windows.proofs.expansion.skip_ended.Statement.{statement}
 use Rattle.windows.proofs.expansion.skip_ended.Tie as tie
 
 abbrev Inv-loop : tie.InvT-loop
-Inv-loop first last from times i j₀ j = 
+Inv-loop first last from times i j₀ j =
     (j ≤ length last) × (skip (getD times i (pos 0)) (drop j (spans first last)) ≡ skip (getD times i (pos 0)) (drop «from» (spans first last)))
 
 abbrev μ-loop : tie.MeasureT-loop
-μ-loop first last from times i j₀ j = 
+μ-loop first last from times i j₀ j =
     length last - j
 
 loop-holds : tie.Need-loop-holds Inv-loop μ-loop

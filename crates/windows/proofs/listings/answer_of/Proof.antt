@@ -29,17 +29,17 @@ module _ (s : tie.Start) where
   why = windowsRefusal uneven (s .args .mask .now) (s .args .times .now) (s .args .severities .now) short
 
 returns : tie.Need-returns
-returns c = 
+returns c =
     let s = c .before .before .before in
     refused-with 1 (why s) (runs s) (refuses-1 (uneven s) (s .args .mask .now) (s .args .times .now) (s .args .severities .now) (short s) (or-here _ _ (c .if1 .taken))) (omega arith)
 
 returns-2 : tie.Need-returns-2
-returns-2 c = 
+returns-2 c =
     let s = c .before .before .before .before in
     refused-with 1 (why s) (runs s) (refuses-1 (uneven s) (s .args .mask .now) (s .args .times .now) (s .args .severities .now) (short s) (or-skip _ _ (c .before .if1 .left) ∙ c .if2 .taken)) (omega arith)
 
 returns-3 : tie.Need-returns-3
-returns-3 c = 
+returns-3 c =
     let s = c .before .before .before .before .before in
     refused-with 2 (why s) (runs s) (refuses-2 (uneven s) (s .args .mask .now) (s .args .times .now) (s .args .severities .now) (short s) (or-none _ _ (c .before .before .if1 .left) (c .before .if2 .left)) (c .if3 .taken)) (omega arith)
 
@@ -47,7 +47,7 @@ any-beyond-requires : tie.Need-any-beyond-requires
 any-beyond-requires c κs = tt
 
 returns-4 : tie.Need-returns-4
-returns-4 c = 
+returns-4 c =
     let s = c .before .before .before .before .before .before .before in
     refused-with 8 (why s) (runs s) (refuses-8 (uneven s) (s .args .mask .now) (s .args .times .now) (s .args .severities .now) (short s) (or-none _ _ (c .before .before .before .before .if1 .left) (c .before .before .before .if2 .left)) (c .before .before .if3 .left) (sym (c .before .any-beyond .ensures) ∙ c .if4 .taken)) (omega arith)
 
@@ -55,7 +55,7 @@ any-no-mark-requires : tie.Need-any-no-mark-requires
 any-no-mark-requires c κs = tt
 
 returns-5 : tie.Need-returns-5
-returns-5 c = 
+returns-5 c =
     let s = c .before .before .before .before .before .before .before .before .before in
     refused-with 14 (why s) (runs s) (refuses-14 (uneven s) (s .args .mask .now) (s .args .times .now) (s .args .severities .now) (short s) (or-none _ _ (c .before .before .before .before .before .before .if1 .left) (c .before .before .before .before .before .if2 .left)) (c .before .before .before .before .if3 .left) (sym (c .before .before .before .any-beyond .ensures) ∙ c .before .before .if4 .left) (or-here _ _ (sym (c .before .any-no-mark .ensures) ∙ c .if5 .taken))) (omega arith)
 
@@ -63,7 +63,7 @@ any-no-severity-requires : tie.Need-any-no-severity-requires
 any-no-severity-requires c κs = tt
 
 returns-6 : tie.Need-returns-6
-returns-6 c = 
+returns-6 c =
     let s = c .before .before .before .before .before .before .before .before .before .before .before in
     refused-with 14 (why s) (runs s) (refuses-14 (uneven s) (s .args .mask .now) (s .args .times .now) (s .args .severities .now) (short s) (or-none _ _ (c .before .before .before .before .before .before .before .before .if1 .left) (c .before .before .before .before .before .before .before .if2 .left)) (c .before .before .before .before .before .before .if3 .left) (sym (c .before .before .before .before .before .any-beyond .ensures) ∙ c .before .before .before .before .if4 .left) (or-skip _ _ (sym (c .before .before .before .any-no-mark .ensures) ∙ c .before .before .if5 .left) ∙ sym (c .before .any-no-severity .ensures) ∙ c .if6 .taken)) (omega arith)
 
@@ -71,12 +71,12 @@ count-runs-requires : tie.Need-count-runs-requires
 count-runs-requires c κs = tt
 
 returns-7 : tie.Need-returns-7
-returns-7 c = 
+returns-7 c =
     let s = c .before .before .before .before .before .before .before .before .before .before .before .before .before in
     refused-with 7 (why s) (runs s) (refuses-7 (uneven s) (s .args .mask .now) (s .args .times .now) (s .args .severities .now) (short s) (or-none _ _ (c .before .before .before .before .before .before .before .before .before .before .if1 .left) (c .before .before .before .before .before .before .before .before .before .if2 .left)) (c .before .before .before .before .before .before .before .before .if3 .left) (sym (c .before .before .before .before .before .before .before .any-beyond .ensures) ∙ c .before .before .before .before .before .before .if4 .left) (or-none _ _ (sym (c .before .before .before .before .before .any-no-mark .ensures) ∙ c .before .before .before .before .if5 .left) (sym (c .before .before .before .any-no-severity .ensures) ∙ c .before .before .if6 .left)) (lt-ltb _ _ (subst (λ (n : ℕ). s .args .places < n) (c .before .count-runs .ensures .0) (c .if7 .taken)))) (omega arith)
 
 returns-8 : tie.Need-returns-8
-returns-8 c = 
+returns-8 c =
     let s = c .before .before .before .before .before .before .before .before .before .before .before .before .before in
     accepted-with _ (why s) (runs s) (accepts (uneven s) (s .args .mask .now) (s .args .times .now) (s .args .severities .now) (short s) (or-none _ _ (c .before .before .before .before .before .before .before .before .before .before .if1 .left) (c .before .before .before .before .before .before .before .before .before .if2 .left)) (c .before .before .before .before .before .before .before .before .if3 .left) (sym (c .before .before .before .before .before .before .before .any-beyond .ensures) ∙ c .before .before .before .before .before .before .if4 .left) (or-none _ _ (sym (c .before .before .before .before .before .any-no-mark .ensures) ∙ c .before .before .before .before .if5 .left) (sym (c .before .before .before .any-no-severity .ensures) ∙ c .before .before .if6 .left)) (le-ltb _ _ (subst (λ (n : ℕ). n ≤ s .args .places) (c .before .count-runs .ensures .0) (c .if7 .left)))) (c .before .count-runs .ensures .0)
 

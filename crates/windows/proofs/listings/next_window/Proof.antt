@@ -20,18 +20,18 @@ sub-last : tie.Need-sub-last
 sub-last c = omega (arith, found (c .before))
 
 severity-of-requires : tie.Need-severity-of-requires
-severity-of-requires c κs = 
+severity-of-requires c κs =
     let s = c .before .before .before .before in
     (omega (arith, found (c .before)), λ e. omega (arith, found (c .before), c .before .next-run .ensures .within, s .pre .1 .rated e))
 
 window-at-requires : tie.Need-window-at-requires
-window-at-requires c κs = 
+window-at-requires c κs =
     let n = c .before .before in
     let s = n .before .before .before in
     omega (arith, found n, n .next-run .ensures .within, s .pre .1 .timed)
 
 returns : tie.Need-returns
-returns c = 
+returns c =
     let n = c .before .before .before in
     let s = n .before .before .before in
     next-is (s .args .listing) (s .args .mask .now) (s .args .times .now) (s .args .severities .now) _ _ _ _ _ (n .next-run .ensures) (found n) (c .before .severity-of .ensures) (c .window-at .ensures)

@@ -12,7 +12,7 @@ use Rattle.windows.proofs.listings.store_windows.Statement.{statement}
 use Rattle.windows.proofs.listings.store_windows.Tie as tie
 
 abbrev Inv-loop : tie.InvT-loop
-Inv-loop listing mask times severities count first₀ last₀ first-time₀ last-time₀ severity₀ is-last₀ k₀ from₀ first last first-time last-time severity is-last k from = 
+Inv-loop listing mask times severities count first₀ last₀ first-time₀ last-time₀ severity₀ is-last₀ k₀ from₀ first last first-time last-time severity is-last k from =
     (k ≤ count) × Storing listing mask times severities k from (columns first₀ last₀ first-time₀ last-time₀ severity₀ is-last₀) (columns first last first-time last-time severity is-last)
 
 abbrev μ-loop : tie.MeasureT-loop
@@ -22,7 +22,7 @@ loop-holds : tie.Need-loop-holds Inv-loop μ-loop
 loop-holds c = (omega arith, storing-none _ _ _ _ _)
 
 next-window-requires : tie.Need-next-window-requires Inv-loop μ-loop
-next-window-requires c κs = 
+next-window-requires c κs =
     let i = c .before .loop .inv in
     let s = c .before .before .before .before .before .before .before .before in
     (i .1 .reached .in-row, s .pre .1 (omega arith), some-left _ _ _ _ _ _ (i .1 .reached) (omega (arith, s .pre .0, c .loop-test .taken)))
@@ -31,7 +31,7 @@ add-from : tie.Need-add-from Inv-loop μ-loop
 add-from c = omega (arith, c .next-window .ensures .1)
 
 store-requires : tie.Need-store-requires Inv-loop μ-loop
-store-requires c κs = 
+store-requires c κs =
     let n = c .before .before .before .before .before .before in
     let l = n .before .before in
     let s = n .before .before .before .before .before .before .before .before .before in
@@ -44,7 +44,7 @@ loop-less : tie.Need-loop-less Inv-loop μ-loop
 loop-less c = omega arith
 
 loop-again : tie.Need-loop-again Inv-loop μ-loop
-loop-again c = 
+loop-again c =
     let p = c .before .before .before .before .before .before .before .before .before .before in
     let n = p .before .before .before .before .before .before .before in
     let l = n .before .before in

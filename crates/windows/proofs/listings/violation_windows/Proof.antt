@@ -16,7 +16,7 @@ accepted-count-requires c κs = search needs
 
 store-windows-requires : tie.Need-store-windows-requires
 unfolding lengths
-store-windows-requires c κs = 
+store-windows-requires c κs =
     let a = c .before .before .before .before .before .before in
     let s = c .before .before .before .before .before .before .before .before .before .before .before .before .before .before .before in
     violation-store (s .args .mask .now) (s .args .times .now) (s .args .severities .now) _ _ _ _ (a .before .before .differ-six .ensures) (a .accepted-count .ensures) (a .before .violation-answer .ensures)
@@ -41,7 +41,7 @@ same-length-6 c = search needs
 
 returns : tie.Need-returns
 unfolding lengths
-returns c = 
+returns c =
     let w = c .before .before .before .before .before .before .before .before .before .before in
     let a = w .before .before .before .before .before .before .before in
     let s = w .before .before .before .before .before .before .before .before .before .before .before .before .before .before .before .before in

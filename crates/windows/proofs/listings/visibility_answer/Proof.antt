@@ -24,7 +24,7 @@ answer-of-requires : tie.Need-answer-of-requires
 answer-of-requires c κs = search needs
 
 returns : tie.Need-returns
-returns c = 
+returns c =
     let s = c .before .before .before .before in
     let W : Bool → ℕ → ℕ = λ d n. windowsRefusal (d || s .args .uneven) (s .args .mask .now) (s .args .times .now) [] (ltb (s .args .places) n) in
     c .answer-of .ensures

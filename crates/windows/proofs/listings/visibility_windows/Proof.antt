@@ -20,7 +20,7 @@ slice-aggregate-store-windows c = search needs
 
 store-windows-requires : tie.Need-store-windows-requires
 unfolding lengths
-store-windows-requires c κs = 
+store-windows-requires c κs =
     let a = c .before .before .before .before .before .before .before in
     let s = c .before .before .before .before .before .before .before .before .before .before .before .before .before .before .before in
     visibility-store (s .args .mask .now) (s .args .times .now) [] _ _ _ _ (a .before .before .differ-six .ensures) (a .accepted-count .ensures) (a .before .visibility-answer .ensures)
@@ -45,7 +45,7 @@ same-length-6 c = search needs
 
 returns : tie.Need-returns
 unfolding lengths
-returns c = 
+returns c =
     let w = c .before .before .before .before .before .before .before .before .before .before in
     let a = w .before .before .before .before .before .before .before .before in
     let s = w .before .before .before .before .before .before .before .before .before .before .before .before .before .before .before .before in

@@ -27,7 +27,7 @@ loop-less : tie.Need-loop-less Inv-loop μ-loop
 loop-less c = let n = c .before .before .next-run .ensures in omega (arith, n .onward (c .before .before .before .loop-test .taken))
 
 loop-again : tie.Need-loop-again Inv-loop μ-loop
-loop-again c = 
+loop-again c =
     let n = c .before .before .next-run .ensures in
     let i = c .before .before .before .before .loop .inv in
     omega (arith, n .within, n .onward (c .before .before .before .loop-test .taken), ap length (n .some (c .if1 .taken)))
@@ -36,7 +36,7 @@ loop-less-2 : tie.Need-loop-less-2 Inv-loop μ-loop
 loop-less-2 c = let n = c .before .before .next-run .ensures in omega (arith, n .onward (c .before .before .before .loop-test .taken))
 
 loop-again-2 : tie.Need-loop-again-2 Inv-loop μ-loop
-loop-again-2 c = 
+loop-again-2 c =
     let n = c .before .before .next-run .ensures in
     let i = c .before .before .before .before .loop .inv in
     let s = c .before .before .before .before .before .before in

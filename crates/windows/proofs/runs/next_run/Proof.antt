@@ -51,7 +51,7 @@ start-of-run-requires : tie.Need-start-of-run-requires Inv-loop μ-loop
 start-of-run-requires c κs = omega arith
 
 loop-holds : tie.Need-loop-holds Inv-loop μ-loop
-loop-holds c = 
+loop-holds c =
     let s = c .before .before .before in
     let b = starts (s .args .listing) (s .args .mask .now) _ _ _ (c .before .byte-of .ensures) (s .pre) (c .start-of-run .ensures) in
     (b .later, b .in-row, b .stands, sym (left-started _ _ _ _ b))
@@ -63,7 +63,7 @@ is-listed-requires : tie.Need-is-listed-requires Inv-loop μ-loop
 is-listed-requires c κs = ended c .later
 
 returns : tie.Need-returns Inv-loop μ-loop
-returns c = 
+returns c =
     let e = c .before .before in
     let i = e .before .before .loop .inv in
     next-some _ _ _ _ _ (i .0) (ended e) (i .3) (sym (c .before .is-listed .ensures) ∙ c .if1 .taken)
@@ -72,13 +72,13 @@ start-of-run-requires-2 : tie.Need-start-of-run-requires-2 Inv-loop μ-loop
 start-of-run-requires-2 c κs = ended (c .before .before) .in-row
 
 loop-less : tie.Need-loop-less Inv-loop μ-loop
-loop-less c = 
+loop-less c =
     let e = c .before .before .before in
     let b = again c in
     omega (arith, ended e .later, b .later, b .in-row)
 
 loop-again : tie.Need-loop-again Inv-loop μ-loop
-loop-again c = 
+loop-again c =
     let e = c .before .before .before in
     let i = e .before .before .loop .inv in
     let b = again c in
