@@ -2,7 +2,7 @@
 use crate::answers::int64;
 use crate::plans::settings;
 ghost use mathlib.Core.Path.{_≡_};
-ghost use Rattle.journal.specs.Calls.{beginReply, beginBytes, recoverReply, collectReply, collectMask};
+ghost use Rattle.journal.specs.Calls.{beginReply, beginBytes, workReply, workBytes, recoverReply, collectReply, collectMask};
 ghost use Rattle.journal.specs.Plan.{lentSweep};
 ghost use Rattle.wilfnusk.specs.Answers.{int64};
 ghost use Rattle.wilfnusk.specs.Plans.{settings};
@@ -27,6 +27,29 @@ pub extern "C" fn wilfnusk_begin(
 {
     let config = settings(tolerance_deg, has_roll, roll_deg, panel_x, panel_y, panel_z);
     int64(journal::begin(targets, suns, observers, config, n, journal, used))
+}
+
+#[no_mangle]
+pub extern "C" fn wilfnusk_work(
+    targets: &[f64],
+    suns: &[f64],
+    observers: &[f64],
+    tolerance_deg: f64,
+    has_roll: u64,
+    roll_deg: f64,
+    panel_x: f64,
+    panel_y: f64,
+    panel_z: f64,
+    n: u64,
+    chunk: u64,
+    journal: &mut [u8],
+    used: u64,
+) -> u64
+    ensures { λ r. ⌜ r ≡ int64 (workReply (lentSweep (now (targets .entry)) (now (suns .entry)) (now (observers .entry)) (settings «tolerance_deg» «has_roll» «roll_deg» «panel_x» «panel_y» «panel_z») n) chunk (now (journal .entry)) used) ⌝ }
+    ensures { λ r. ⌜ now (journal .exit) ≡ workBytes (lentSweep (now (targets .entry)) (now (suns .entry)) (now (observers .entry)) (settings «tolerance_deg» «has_roll» «roll_deg» «panel_x» «panel_y» «panel_z») n) chunk (now (journal .entry)) used ⌝ }
+{
+    let config = settings(tolerance_deg, has_roll, roll_deg, panel_x, panel_y, panel_z);
+    int64(journal::work(targets, suns, observers, config, n, chunk, journal, used))
 }
 
 #[no_mangle]

@@ -6,5 +6,6 @@ mod answers;
 mod arithmetic;
 mod journals;
 mod listings;
+mod masks;
 mod plans;
 mod rolls;

@@ -15,7 +15,10 @@ same-length : tie.Need-same-length
 same-length c = search needs
 
 returns : tie.Need-returns
-returns c = (simp (c .int64 .ensures, c .before .before .before .collect .ensures .0, c .before .before .before .before .before .settings .ensures), simp (c .before .before .before .collect .ensures .1, c .before .before .before .before .before .settings .ensures))
+returns c =
+    let call = c .before .before .before .collect .ensures in
+    let set = c .before .before .before .before .before .settings .ensures in
+    (simp (c .int64 .ensures, call .0, set), simp (call .1, set))
 
 pub wilfnusk-collect-spec : {M : Type 1} → statement M
 wilfnusk-collect-spec =

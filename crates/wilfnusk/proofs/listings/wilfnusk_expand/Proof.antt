@@ -12,7 +12,9 @@ same-length : tie.Need-same-length
 same-length c = search needs
 
 returns : tie.Need-returns
-returns c = (simp (c .int64 .ensures, c .before .before .before .expand .ensures .0), c .before .before .before .expand .ensures .1)
+returns c =
+    let call = c .before .before .before .expand .ensures in
+    (simp (c .int64 .ensures, call .0), call .1)
 
 pub wilfnusk-expand-spec : {M : Type 1} → statement M
 wilfnusk-expand-spec = tie.close (tie.spec expand-requires int64-requires same-length returns)

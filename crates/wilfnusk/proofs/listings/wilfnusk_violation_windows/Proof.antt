@@ -27,7 +27,9 @@ same-length-6 : tie.Need-same-length-6
 same-length-6 c = search needs
 
 returns : tie.Need-returns
-returns c = (simp (c .int64 .ensures, c .before .before .before .before .before .before .before .before .before .before .before .violation-windows .ensures .0), c .before .before .before .before .before .before .before .before .before .before .before .violation-windows .ensures .1)
+returns c =
+    let call = c .before .before .before .before .before .before .before .before .before .before .before .violation-windows .ensures in
+    (simp (c .int64 .ensures, call .0), call .1)
 
 pub wilfnusk-violation-windows-spec : {M : Type 1} → statement M
 wilfnusk-violation-windows-spec =

@@ -27,7 +27,9 @@ same-length-6 : tie.Need-same-length-6
 same-length-6 c = search needs
 
 returns : tie.Need-returns
-returns c = (simp (c .int64 .ensures, c .before .before .before .before .before .before .before .before .before .before .before .visibility-windows .ensures .0), c .before .before .before .before .before .before .before .before .before .before .before .visibility-windows .ensures .1)
+returns c =
+    let call = c .before .before .before .before .before .before .before .before .before .before .before .visibility-windows .ensures in
+    (simp (c .int64 .ensures, call .0), call .1)
 
 pub wilfnusk-visibility-windows-spec : {M : Type 1} → statement M
 wilfnusk-visibility-windows-spec =

@@ -1,0 +1,36 @@
+use borrow.Author.Needs.{needs}
+use Rattle.wilfnusk.proofs.masks.wilfnusk_in_constraint_batch_at_roll.Statement.{statement}
+use Rattle.wilfnusk.proofs.masks.wilfnusk_in_constraint_batch_at_roll.Tie as tie
+
+settings-requires : tie.Need-settings-requires
+settings-requires c κs = search needs
+
+asked-requires : tie.Need-asked-requires
+asked-requires c κs = search needs
+
+in-constraint-batch-at-roll-requires : tie.Need-in-constraint-batch-at-roll-requires
+in-constraint-batch-at-roll-requires c κs = search needs
+
+int64-requires : tie.Need-int64-requires
+int64-requires c κs = search needs
+
+same-length : tie.Need-same-length
+same-length c = search needs
+
+returns : tie.Need-returns
+returns c =
+    let call = c .before .before .before .in-constraint-batch-at-roll .ensures in
+    let roll = c .before .before .before .before .before .asked .ensures in
+    let set = c .before .before .before .before .before .before .settings .ensures in
+    (simp (c .int64 .ensures, call .0, set), simp (call .1, roll, set))
+
+pub wilfnusk-in-constraint-batch-at-roll-spec : {M : Type 1} → statement M
+wilfnusk-in-constraint-batch-at-roll-spec =
+    tie.close
+    (tie.spec
+    settings-requires
+    asked-requires
+    in-constraint-batch-at-roll-requires
+    int64-requires
+    same-length
+    returns)

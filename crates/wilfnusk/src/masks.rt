@@ -1,0 +1,164 @@
+// Masks, rows, the field of regard and the named values of a plan.
+use crate::answers::int64;
+use crate::plans::asked;
+use crate::plans::settings;
+ghost use mathlib.Core.Path.{_≡_};
+ghost use lib.ListN.{length};
+ghost use Rattle.solar_roll.specs.Plan.{planOf, samplingOrNone};
+ghost use Rattle.solar_roll.specs.Mask.{atRoll, atConfigured, atEveryRoll, cellsReply, maskAfter, valuesAfter};
+ghost use Rattle.solar_roll.specs.Row.{rowReply, rowMaskAfter, severitiesAfter};
+ghost use Rattle.solar_roll.specs.Field.{fieldReply, fieldAfter};
+ghost use Rattle.solar_roll.specs.declared.cell.EvaluationRoll.the-variants.{Sweep};
+ghost use Rattle.wilfnusk.specs.Answers.{int64};
+ghost use Rattle.wilfnusk.specs.Plans.{asked, settings};
+
+#[no_mangle]
+pub extern "C" fn wilfnusk_named_values(
+    targets: &[f64],
+    suns: &[f64],
+    observers: &[f64],
+    tolerance_deg: f64,
+    has_roll: u64,
+    roll_deg: f64,
+    panel_x: f64,
+    panel_y: f64,
+    panel_z: f64,
+    out: &mut [f64],
+) -> u64
+    ensures { λ r. ⌜ r ≡ int64 (cellsReply (planOf (now (targets .entry)) (now (suns .entry)) (now (observers .entry)) (settings «tolerance_deg» «has_roll» «roll_deg» «panel_x» «panel_y» «panel_z»)) 0 (length (now (out .entry)))) ⌝ }
+    ensures { λ r. ⌜ now (out .exit) ≡ valuesAfter (planOf (now (targets .entry)) (now (suns .entry)) (now (observers .entry)) (settings «tolerance_deg» «has_roll» «roll_deg» «panel_x» «panel_y» «panel_z»)) (now (out .entry)) ⌝ }
+{
+    let config = settings(tolerance_deg, has_roll, roll_deg, panel_x, panel_y, panel_z);
+    int64(solar_roll::named_values(targets, suns, observers, config, out))
+}
+
+#[no_mangle]
+pub extern "C" fn wilfnusk_in_constraint_batch(
+    targets: &[f64],
+    suns: &[f64],
+    observers: &[f64],
+    tolerance_deg: f64,
+    has_roll: u64,
+    roll_deg: f64,
+    panel_x: f64,
+    panel_y: f64,
+    panel_z: f64,
+    mask: &mut [u8],
+) -> u64
+    ensures { λ r. ⌜ r ≡ int64 (cellsReply (planOf (now (targets .entry)) (now (suns .entry)) (now (observers .entry)) (settings «tolerance_deg» «has_roll» «roll_deg» «panel_x» «panel_y» «panel_z»)) 0 (length (now (mask .entry)))) ⌝ }
+    ensures { λ r. ⌜ now (mask .exit) ≡ maskAfter (planOf (now (targets .entry)) (now (suns .entry)) (now (observers .entry)) (settings «tolerance_deg» «has_roll» «roll_deg» «panel_x» «panel_y» «panel_z»)) 0 atConfigured (now (mask .entry)) ⌝ }
+{
+    let config = settings(tolerance_deg, has_roll, roll_deg, panel_x, panel_y, panel_z);
+    int64(solar_roll::in_constraint_batch(targets, suns, observers, config, mask))
+}
+
+#[no_mangle]
+pub extern "C" fn wilfnusk_in_constraint_batch_at_roll(
+    targets: &[f64],
+    suns: &[f64],
+    observers: &[f64],
+    tolerance_deg: f64,
+    has_roll: u64,
+    roll_deg: f64,
+    panel_x: f64,
+    panel_y: f64,
+    panel_z: f64,
+    fixed: u64,
+    roll_at_deg: f64,
+    mask: &mut [u8],
+) -> u64
+    ensures { λ r. ⌜ r ≡ int64 (cellsReply (planOf (now (targets .entry)) (now (suns .entry)) (now (observers .entry)) (settings «tolerance_deg» «has_roll» «roll_deg» «panel_x» «panel_y» «panel_z»)) 0 (length (now (mask .entry)))) ⌝ }
+    ensures { λ r. ⌜ now (mask .exit) ≡ maskAfter (planOf (now (targets .entry)) (now (suns .entry)) (now (observers .entry)) (settings «tolerance_deg» «has_roll» «roll_deg» «panel_x» «panel_y» «panel_z»)) 0 (atRoll (asked fixed «roll_at_deg»)) (now (mask .entry)) ⌝ }
+{
+    let config = settings(tolerance_deg, has_roll, roll_deg, panel_x, panel_y, panel_z);
+    let roll = asked(fixed, roll_at_deg);
+    int64(solar_roll::in_constraint_batch_at_roll(targets, suns, observers, config, roll, mask))
+}
+
+#[no_mangle]
+pub extern "C" fn wilfnusk_constrained_at_every_roll(
+    targets: &[f64],
+    suns: &[f64],
+    observers: &[f64],
+    tolerance_deg: f64,
+    has_roll: u64,
+    roll_deg: f64,
+    panel_x: f64,
+    panel_y: f64,
+    panel_z: f64,
+    n: u64,
+    mask: &mut [u8],
+) -> u64
+    ensures { λ r. ⌜ r ≡ int64 (cellsReply (planOf (now (targets .entry)) (now (suns .entry)) (now (observers .entry)) (settings «tolerance_deg» «has_roll» «roll_deg» «panel_x» «panel_y» «panel_z»)) (samplingOrNone n) (length (now (mask .entry)))) ⌝ }
+    ensures { λ r. ⌜ now (mask .exit) ≡ maskAfter (planOf (now (targets .entry)) (now (suns .entry)) (now (observers .entry)) (settings «tolerance_deg» «has_roll» «roll_deg» «panel_x» «panel_y» «panel_z»)) (samplingOrNone n) (atEveryRoll n) (now (mask .entry)) ⌝ }
+{
+    let config = settings(tolerance_deg, has_roll, roll_deg, panel_x, panel_y, panel_z);
+    int64(solar_roll::in_constraint_batch_constrained_at_every_roll(targets, suns, observers, config, n, mask))
+}
+
+#[no_mangle]
+pub extern "C" fn wilfnusk_evaluate(
+    targets: &[f64],
+    suns: &[f64],
+    observers: &[f64],
+    tolerance_deg: f64,
+    has_roll: u64,
+    roll_deg: f64,
+    panel_x: f64,
+    panel_y: f64,
+    panel_z: f64,
+    target: u64,
+    mask: &mut [u8],
+    severities: &mut [f64],
+) -> u64
+    ensures { λ r. ⌜ r ≡ int64 (rowReply (planOf (now (targets .entry)) (now (suns .entry)) (now (observers .entry)) (settings «tolerance_deg» «has_roll» «roll_deg» «panel_x» «panel_y» «panel_z»)) target (length (now (mask .entry))) (length (now (severities .entry)))) ⌝ }
+    ensures { λ r. ⌜ now (mask .exit) ≡ rowMaskAfter (planOf (now (targets .entry)) (now (suns .entry)) (now (observers .entry)) (settings «tolerance_deg» «has_roll» «roll_deg» «panel_x» «panel_y» «panel_z»)) target (now (mask .entry)) (now (severities .entry)) ⌝ }
+    ensures { λ r. ⌜ now (severities .exit) ≡ severitiesAfter (planOf (now (targets .entry)) (now (suns .entry)) (now (observers .entry)) (settings «tolerance_deg» «has_roll» «roll_deg» «panel_x» «panel_y» «panel_z»)) target (now (mask .entry)) (now (severities .entry)) ⌝ }
+{
+    let config = settings(tolerance_deg, has_roll, roll_deg, panel_x, panel_y, panel_z);
+    int64(solar_roll::evaluate(targets, suns, observers, config, target, mask, severities))
+}
+
+#[no_mangle]
+pub extern "C" fn wilfnusk_field_of_regard_violated_batch(
+    targets: &[f64],
+    suns: &[f64],
+    observers: &[f64],
+    tolerance_deg: f64,
+    has_roll: u64,
+    roll_deg: f64,
+    panel_x: f64,
+    panel_y: f64,
+    panel_z: f64,
+    time: u64,
+    n: u64,
+    mask: &mut [u8],
+) -> u64
+    ensures { λ r. ⌜ r ≡ int64 (fieldReply (planOf (now (targets .entry)) (now (suns .entry)) (now (observers .entry)) (settings «tolerance_deg» «has_roll» «roll_deg» «panel_x» «panel_y» «panel_z»)) (samplingOrNone n) time (length (now (mask .entry)))) ⌝ }
+    ensures { λ r. ⌜ now (mask .exit) ≡ fieldAfter (planOf (now (targets .entry)) (now (suns .entry)) (now (observers .entry)) (settings «tolerance_deg» «has_roll» «roll_deg» «panel_x» «panel_y» «panel_z»)) (samplingOrNone n) time (atEveryRoll n) (now (mask .entry)) ⌝ }
+{
+    let config = settings(tolerance_deg, has_roll, roll_deg, panel_x, panel_y, panel_z);
+    int64(solar_roll::field_of_regard_violated_batch(targets, suns, observers, config, time, n, mask))
+}
+
+#[no_mangle]
+pub extern "C" fn wilfnusk_field_of_regard_violated_at_roll(
+    targets: &[f64],
+    suns: &[f64],
+    observers: &[f64],
+    tolerance_deg: f64,
+    has_roll: u64,
+    roll_deg: f64,
+    panel_x: f64,
+    panel_y: f64,
+    panel_z: f64,
+    time: u64,
+    roll_at_deg: f64,
+    mask: &mut [u8],
+) -> u64
+    ensures { λ r. ⌜ r ≡ int64 (fieldReply (planOf (now (targets .entry)) (now (suns .entry)) (now (observers .entry)) (settings «tolerance_deg» «has_roll» «roll_deg» «panel_x» «panel_y» «panel_z»)) 0 time (length (now (mask .entry)))) ⌝ }
+    ensures { λ r. ⌜ now (mask .exit) ≡ fieldAfter (planOf (now (targets .entry)) (now (suns .entry)) (now (observers .entry)) (settings «tolerance_deg» «has_roll» «roll_deg» «panel_x» «panel_y» «panel_z»)) 0 time (atRoll (Sweep «roll_at_deg»)) (now (mask .entry)) ⌝ }
+{
+    let config = settings(tolerance_deg, has_roll, roll_deg, panel_x, panel_y, panel_z);
+    int64(solar_roll::field_of_regard_violated_at_roll(targets, suns, observers, config, time, roll_at_deg, mask))
+}
