@@ -14,7 +14,7 @@ use lib.ListN.{length, getD, take, drop, length-append, List·getD-append, drop-
 use lib.Seq.{getD-at, drop-cons, take-at, drop-append-add}
 use borrow.Author.Tests.{eqb-true, eqb-false, ne-eqb}
 use Rattle.buffers.specs.Ranges.{flag, sum, tab, allBelow, anyBelow, any}
-use Rattle.buffers.proofs.Tests.{and-left, and-right, and-both, and-stop, or-left, or-right}
+use Rattle.buffers.proofs.Tests.{and-left, and-right, and-both, and-stop, or-none, or-left, or-right}
 
 -- below n + 1: below n, or n itself
 below-suc : (P : ℕ → Type 0) (n : ℕ) → ((k : ℕ) → k < n → P k) → P n → (k : ℕ) → k < suc n → P k
@@ -55,6 +55,14 @@ pub sum-add : (n m : ℕ) (f : ℕ → ℕ) → sum (n + m) f ≡ sum n f + sum 
 unfolding sum
 sum-add n zero f = ap (λ (k : ℕ). sum k f) (add-zero n) ∙ sym (add-zero (sum n f))
 sum-add n (suc m) f = ap (λ (k : ℕ). sum k f) (add-suc n m) ∙ omega (arith, sum-add n m f)
+
+-- the terms of a table of a rows with b terms each, row by row
+pub sum-rows : (a b : ℕ) (f : ℕ → ℕ) → sum (a * b) f ≡ sum a (λ i. sum b (λ j. f (i * b + j)))
+unfolding sum
+sum-rows zero b f = let e : 0 * b ≡ 0 = omega arith in ap (λ (n : ℕ). sum n f) e
+sum-rows (suc a) b f =
+    let e : suc a * b ≡ a * b + b = omega arith in
+    ap (λ (n : ℕ). sum n f) e ∙ sum-add (a * b) b f ∙ ap (λ (n : ℕ). n + sum b (λ j. f (a * b + j))) (sum-rows a b f)
 
 -- term by term at most, the sum is at most
 pub sum-mono : (n : ℕ) (f g : ℕ → ℕ) → ((k : ℕ) → k < n → f k ≤ g k) → sum n f ≤ sum n g
@@ -228,3 +236,13 @@ unfolding any
 any-getD p [] d i e h = absurd (not-suc-le-zero h)
 any-getD p (x ∷ xs) d zero e h = or-left (p x) (any p xs) e
 any-getD p (x ∷ xs) d (suc i) e h = any-getD p xs d i (or-right (p x) (any p xs) e) (omega arith)
+
+-- none of a table's entries has the property
+pub any-tab : {A : Type 0} (p : A → Bool) (n : ℕ) (f : ℕ → A) → ((k : ℕ) → k < n → p (f k) ≡ false) → any p (tab n f) ≡ false
+unfolding any tab
+any-tab p zero f h = refl
+any-tab {A} p (suc n) f h = after (tab n f) (any-tab p n f (λ k l. h k (omega arith)))
+  where
+    after : (l : List A) → any p l ≡ false → any p (l ++ (f n ∷ [])) ≡ false
+    after [] e = or-none (p (f n)) false (h n (omega arith)) refl
+    after (x ∷ l) e = or-none (p x) (any p (l ++ (f n ∷ []))) (or-left (p x) (any p l) e) (after l (or-right (p x) (any p l) e))
