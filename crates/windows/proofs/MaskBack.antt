@@ -15,7 +15,7 @@ use borrow.Author.Tests.{lt-ltb, le-ltb, ltb-true, ltb-false}
 use Rattle.buffers.specs.Ranges.{flag, any}
 use Rattle.windows.specs.Runs.{Run, Open, shut, since, runsFrom, run, are, violationRuns}
 use Rattle.windows.specs.Refusal.{noMark}
-use Rattle.windows.specs.Expand.{Span, span, spans, inOrder, skip, inFirst, sweep, look, expanded}
+use Rattle.windows.specs.Expand.{Span, span, spans, Increasing, inOrder, skip, inFirst, sweep, look, expanded}
 use Rattle.windows.proofs.MaximalRuns.{From, Past, later, length-are}
 
 -- ---- the order of times
@@ -28,10 +28,6 @@ asym (negsuc a) (negsuc b) e = le-ltb a b (omega (arith, ltb-true b a e))
 irrefl : (a : ℤ) → ltZ a a ≡ false
 irrefl (pos a) = le-ltb a a (omega arith)
 irrefl (negsuc a) = le-ltb a a (omega arith)
-
--- each time is after all that stand before it
-abbrev pub Increasing : List ℤ → Type 0
-Increasing ts = (j k : ℕ) → j < k → k < length ts → ltZ (getD ts j (pos 0)) (getD ts k (pos 0)) ≡ true
 
 -- ---- where the runs lie
 bounds : (i : ℕ) (o : Open) (m : List Bool) → Past i o → (x : Run) → List·Memᴰ x (runsFrom i o m) → (x .first ≤ x .last) × (x .last < i + length m)

@@ -1,5 +1,5 @@
 -- The runs of specs/Runs.antt are exactly the maximal runs, each once, in time order, and as many as there are samples with none before them.
--- In order: what a maximal run is; each run of the list is one; each one is in the list; the order of the list, and that it fixes the list; how
+-- In order: each run of the list is maximal; each maximal one is in the list; the order of the list, and that it fixes the list; how
 -- many there are; filtered lists; the two lists of document 01. Assumes nothing.
 use Prim.Native.Nat.{ℕ, zero, suc, _+_, _-_, _*_, _/_, _≤_, _<_}
 use native.Mathlib.Nat.{eq-or-lt-of-le, add-zero}
@@ -14,17 +14,7 @@ use lib.Dec.{ltb, eqb}
 use borrow.Author.Tests.{ltb-true, lt-ltb, eq-eqb, eqb-true}
 use Rattle.buffers.specs.Ranges.{flag}
 use Rattle.windows.specs.Runs.{Run, run, Open, shut, since, runsFrom, are, filter, violationRuns, ruleV, visibilityRuns, starts}
-
--- r is a maximal run of the samples at which g is true: neither the sample before it nor the one after it is
-pub record Maximal (g : ℕ → Bool) (r : Run) : Type 0 where
-  pub ordered : r .first ≤ r .last
-  pub inside : (k : ℕ) → r .first ≤ k → k ≤ r .last → g k ≡ true
-  pub before : (k : ℕ) → suc k ≡ r .first → g k ≡ false
-  pub after : g (suc (r .last)) ≡ false
-
--- the sample k of a row; past its end there is none, which counts as false
-abbrev pub at : List Bool → ℕ → Bool
-at m k = getD m k false
+use Rattle.windows.specs.Maximal.{at, is, Maximal, Visible, InOrder, Exactly}
 
 -- `m` are the samples of g from i on
 Tail : (ℕ → Bool) → ℕ → List Bool → Type 0
@@ -135,10 +125,6 @@ complete g i (since s) (false ∷ m) t o r x f =
     f
 
 -- ---- in time order, none touching the next, so each once
-
-abbrev pub InOrder : List Run → Type 0
-InOrder [] = Unit {0}
-InOrder (r ∷ rs) = (r .first ≤ r .last) × ((x : Run) → List·Memᴰ x rs → suc (r .last) < x .first) × InOrder rs
 
 -- an open run began before sample i
 abbrev pub Past : ℕ → Open → Type 0
@@ -290,20 +276,9 @@ filter-order p (r ∷ l) o = go (p r) (filter-order p l (o .2))
 
 -- ---- the two lists
 
--- the runs of a list are exactly those that P says, each once, in time order
-pub record Exactly (P : Run → Type 0) (rs : List Run) : Type 0 where
-  pub only : (r : Run) → List·Memᴰ r rs → P r
-  pub each : (r : Run) → P r → List·Memᴰ r rs
-  pub order : InOrder rs
-
--- so there is one such list
+-- one list holds exactly the runs that P says
 pub exactly-one : (P : Run → Type 0) (ps qs : List Run) → Exactly P ps → Exactly P qs → ps ≡ qs
 exactly-one P ps qs p q = unique ps qs (p .order) (q .order) (λ x h. q .each x (p .only x h)) (λ x h. p .each x (q .only x h))
-
--- whether sample k of a mask is there, and is the byte v
-abbrev pub is : ℕ → List ℕ → ℕ → Bool
-unfolding are
-is v m k = at (are v m) k
 
 pub length-are : (v : ℕ) (m : List ℕ) → length (are v m) ≡ length m
 unfolding are
@@ -321,11 +296,6 @@ violation-count m = as-many-as-starts (are 1 m)
 pub violation-bound : (m : List ℕ) → length (violationRuns m) ≤ (length m + 1) / 2
 unfolding violationRuns
 violation-bound m = omega (arith, at-most-half (are 1 m), length-are 1 m)
-
--- a run that rule V keeps: maximal among the clear samples, of two samples or more, or reaching the last
-pub record Visible (m : List ℕ) (r : Run) : Type 0 where
-  pub clear : Maximal (is 0 m) r
-  pub long : (r .first < r .last) ⊎ (r .last + 1 ≡ length m)
 
 kept-yes : (n : ℕ) (r : Run) → ruleV n r ≡ true → (r .first < r .last) ⊎ (r .last + 1 ≡ n)
 unfolding ruleV

@@ -19,14 +19,15 @@ use Rattle.buffers.proofs.Tests.{or-left, or-right, or-none}
 use Rattle.buffers.proofs.Ranges.{any-getD}
 use Rattle.float.specs.Arithmetic.{zero·0}
 use Rattle.windows.specs.Runs.{Run, run, are, violationRuns, visibilityRuns, starts}
+use Rattle.windows.specs.Maximal.{Maximal, Visible, Exactly, is}
 use Rattle.windows.specs.Windows.{largest, windowOf, violationWindows, visibilityWindows, Columns, written}
 use Rattle.windows.specs.Refusal.{beyond, noMark, noSeverity, differ, lengths, noRoom, windowsRefusal, violationRefusal, visibilityRefusal}
-use Rattle.windows.specs.Expand.{Span, spans, expanded, constraintResultVisibility, expandRefusal}
+use Rattle.windows.specs.Expand.{Span, spans, Increasing, expanded, constraintResultVisibility, expandRefusal}
 use Rattle.windows.specs.Seconds.{totalSeconds, floatSeconds, durationRefusal}
 use Rattle.windows.specs.declared.Window.{Window}
-use Rattle.windows.proofs.MaximalRuns.{Maximal, Visible, Exactly, is, violation-runs, visibility-runs, violation-count, violation-bound, visibility-bound, within, length-are}
+use Rattle.windows.proofs.MaximalRuns.{violation-runs, visibility-runs, violation-count, violation-bound, visibility-bound, within, length-are}
 use Rattle.windows.proofs.Severities.{Largest, severity-is-largest}
-use Rattle.windows.proofs.MaskBack.{Increasing, mask-back}
+use Rattle.windows.proofs.MaskBack.{mask-back}
 use Rattle.windows.proofs.Refusals.{Accepted, windows-accepted, expand-accepts, same-at}
 use Rattle.windows.proofs.Durations.{float-sum-exact}
 

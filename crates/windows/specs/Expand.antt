@@ -1,11 +1,12 @@
 -- Section 5's expansion of windows to a mask, `_get_constraint_vec`, both branches: they differ on windows that end before they start. Definitions
 -- only. Assumes nothing.
+use mathlib.Core.Path.{_≡_}
 use mathlib.Core.Bool.{Bool, true, false, not, _&&_, _||_, cond}
 use mathlib.Core.List.{List, [], _∷_, map}
-use Prim.Native.Nat.{ℕ}
-use lib.ListN.{length}
+use Prim.Native.Nat.{ℕ, _<_}
+use lib.ListN.{length, getD}
 use lib.Dec.{ltb}
-use lib.IntN.{ℤ}
+use lib.IntN.{ℤ, pos}
 use lib.Signed.{ltZ}
 use Rattle.buffers.specs.Ranges.{flag, any}
 use Rattle.buffers.specs.Refusal.{Conditions, first}
@@ -25,6 +26,10 @@ unfoldable pub spans : List ℤ → List ℤ → List Span
 spans [] ls = []
 spans (f ∷ fs) [] = []
 spans (f ∷ fs) (l ∷ ls) = span f l ∷ spans fs ls
+
+-- strictly increasing: each time is after all that stand before it
+abbrev pub Increasing : List ℤ → Type 0
+Increasing ts = (j k : ℕ) → j < k → k < length ts → ltZ (getD ts j (pos 0)) (getD ts k (pos 0)) ≡ true
 
 -- no time is before the one that stands before it; repeated times are in order
 unfoldable pub inOrder : List ℤ → Bool

@@ -6,8 +6,9 @@ ghost use lib.IntN.{pos};
 ghost use lib.Signed.{ltZ};
 ghost use Rattle.buffers.specs.Ranges.{flag};
 ghost use Rattle.buffers.specs.Lent.{over};
-ghost use Rattle.buffers.specs.Refusal.{reply, replyOf, unlessRefused};
-ghost use Rattle.windows.specs.Expand.{spans, inOrder, skip, inFirst, sweep, inSome, look, expanded, expandRefusal};
+ghost use Rattle.buffers.specs.Refusal.{replyOf};
+ghost use Rattle.windows.specs.Expand.{spans, inOrder, skip, inFirst, sweep, inSome, look, expandRefusal};
+ghost use Rattle.windows.specs.Calls.{expandReply, expandMask};
 use crate::refusal::any_beyond;
 use buffers::Answer;
 
@@ -148,9 +149,8 @@ fn expand_refusal(first: &[i64], last: &[i64], times: &[i64], places: usize) -> 
 
 // Writes a byte for each time: 1 where a window holds it, else 0. Accepts with 0.
 pub fn expand(first_time: &[i64], last_time: &[i64], times: &[i64], mask: &mut [u8]) -> Answer
-    ensures answer { λ r. ⌜ replyOf r ≡ reply (expandRefusal (now («first_time» .entry)) (now («last_time» .entry)) (now (times .entry)) (length (now (mask .entry)))) 0 ⌝ }
-    ensures mask { λ _. ⌜ now (mask .exit) ≡ unlessRefused (expandRefusal (now («first_time» .entry)) (now («last_time» .entry)) (now (times .entry)) (length (now (mask .entry))))
-        (over (expanded (now (times .entry)) (spans (now («first_time» .entry)) (now («last_time» .entry)))) (now (mask .entry))) (now (mask .entry)) ⌝ }
+    ensures answer { λ r. ⌜ replyOf r ≡ expandReply (now («first_time» .entry)) (now («last_time» .entry)) (now (times .entry)) (now (mask .entry)) ⌝ }
+    ensures mask { λ _. ⌜ now (mask .exit) ≡ expandMask (now («first_time» .entry)) (now («last_time» .entry)) (now (times .entry)) (now (mask .entry)) ⌝ }
 {
     let refused = expand_refusal(first_time, last_time, times, mask.len());
     if refused != 0 {

@@ -6,10 +6,11 @@ ghost use Prim.Native.Nat.{_+_, _<_, _≤_};
 ghost use lib.ListN.{length, take, set};
 ghost use lib.Dec.{eqb, ltb};
 ghost use Rattle.buffers.specs.Ranges.{flag};
-ghost use Rattle.buffers.specs.Refusal.{reply, replyOf, unlessRefused};
+ghost use Rattle.buffers.specs.Refusal.{reply, replyOf};
 ghost use Rattle.windows.specs.Runs.{Run, run, violationRuns, visibilityRuns};
-ghost use Rattle.windows.specs.Windows.{largest, windowOf, violationWindows, visibilityWindows, columns, written};
-ghost use Rattle.windows.specs.Refusal.{differ, lengths, windowsRefusal, violationRefusal, visibilityRefusal};
+ghost use Rattle.windows.specs.Windows.{largest, windowOf, columns, written};
+ghost use Rattle.windows.specs.Refusal.{differ, windowsRefusal};
+ghost use Rattle.windows.specs.Calls.{violationReply, violationColumns, visibilityReply, visibilityColumns};
 ghost use Rattle.windows.specs.Steps.{severityOf, runsLeft, windowsLeft, Row, Room, stored, countOf};
 use crate::Listing;
 use crate::Window;
@@ -248,12 +249,10 @@ pub fn violation_windows(
     severity: &mut [f64],
     is_last: &mut [u8],
 ) -> Answer
-    ensures answer { λ r. ⌜ replyOf r
-        ≡ reply (violationRefusal (now (mask .entry)) (now (times .entry)) (now (severities .entry)) (lengths (columns (now (first .entry)) (now (last .entry)) (now («first_time» .entry)) (now («last_time» .entry)) (now (severity .entry)) (now («is_last» .entry)))))
-        (length (violationWindows (now (mask .entry)) (now (times .entry)) (now (severities .entry)))) ⌝ }
+    ensures answer { λ r. ⌜ replyOf r ≡ violationReply (now (mask .entry)) (now (times .entry)) (now (severities .entry))
+        (columns (now (first .entry)) (now (last .entry)) (now («first_time» .entry)) (now («last_time» .entry)) (now (severity .entry)) (now («is_last» .entry))) ⌝ }
     ensures columns { λ _. ⌜ columns (now (first .exit)) (now (last .exit)) (now («first_time» .exit)) (now («last_time» .exit)) (now (severity .exit)) (now («is_last» .exit))
-        ≡ unlessRefused (violationRefusal (now (mask .entry)) (now (times .entry)) (now (severities .entry)) (lengths (columns (now (first .entry)) (now (last .entry)) (now («first_time» .entry)) (now («last_time» .entry)) (now (severity .entry)) (now («is_last» .entry)))))
-        (written (violationWindows (now (mask .entry)) (now (times .entry)) (now (severities .entry))) (columns (now (first .entry)) (now (last .entry)) (now («first_time» .entry)) (now («last_time» .entry)) (now (severity .entry)) (now («is_last» .entry))))
+        ≡ violationColumns (now (mask .entry)) (now (times .entry)) (now (severities .entry))
         (columns (now (first .entry)) (now (last .entry)) (now («first_time» .entry)) (now («last_time» .entry)) (now (severity .entry)) (now («is_last» .entry))) ⌝ }
 {
     let places = first.len();
@@ -294,12 +293,10 @@ pub fn visibility_windows(
     severity: &mut [f64],
     is_last: &mut [u8],
 ) -> Answer
-    ensures answer { λ r. ⌜ replyOf r
-        ≡ reply (visibilityRefusal (now (mask .entry)) (now (times .entry)) (lengths (columns (now (first .entry)) (now (last .entry)) (now («first_time» .entry)) (now («last_time» .entry)) (now (severity .entry)) (now («is_last» .entry)))))
-        (length (visibilityWindows (now (mask .entry)) (now (times .entry)))) ⌝ }
+    ensures answer { λ r. ⌜ replyOf r ≡ visibilityReply (now (mask .entry)) (now (times .entry))
+        (columns (now (first .entry)) (now (last .entry)) (now («first_time» .entry)) (now («last_time» .entry)) (now (severity .entry)) (now («is_last» .entry))) ⌝ }
     ensures columns { λ _. ⌜ columns (now (first .exit)) (now (last .exit)) (now («first_time» .exit)) (now («last_time» .exit)) (now (severity .exit)) (now («is_last» .exit))
-        ≡ unlessRefused (visibilityRefusal (now (mask .entry)) (now (times .entry)) (lengths (columns (now (first .entry)) (now (last .entry)) (now («first_time» .entry)) (now («last_time» .entry)) (now (severity .entry)) (now («is_last» .entry)))))
-        (written (visibilityWindows (now (mask .entry)) (now (times .entry))) (columns (now (first .entry)) (now (last .entry)) (now («first_time» .entry)) (now («last_time» .entry)) (now (severity .entry)) (now («is_last» .entry))))
+        ≡ visibilityColumns (now (mask .entry)) (now (times .entry))
         (columns (now (first .entry)) (now (last .entry)) (now («first_time» .entry)) (now («last_time» .entry)) (now (severity .entry)) (now («is_last» .entry))) ⌝ }
 {
     let none = [0.0f64; 0];

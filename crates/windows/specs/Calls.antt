@@ -1,0 +1,36 @@
+-- Section 5: what both listings and expand answer, and what they leave in the lists that they are lent. The contracts of these calls cite these
+-- definitions. Definitions only. Assumes nothing.
+use mathlib.Core.List.{List}
+use Prim.Native.Nat.{ℕ}
+use lib.ListN.{length}
+use lib.IntN.{ℤ}
+use lib.Ieee.{Float}
+use Rattle.buffers.specs.Lent.{over}
+use Rattle.buffers.specs.Refusal.{Reply, reply, unlessRefused}
+use Rattle.windows.specs.Windows.{violationWindows, visibilityWindows, Columns, written}
+use Rattle.windows.specs.Refusal.{lengths, violationRefusal, visibilityRefusal}
+use Rattle.windows.specs.Expand.{spans, expanded, expandRefusal}
+
+-- ---- the listings: how many windows there are, and the six lent columns c with these in their first places
+
+abbrev pub violationReply : List ℕ → List ℤ → List Float → Columns → Reply ℕ
+violationReply mask times severities c = reply (violationRefusal mask times severities (lengths c)) (length (violationWindows mask times severities))
+
+abbrev pub violationColumns : List ℕ → List ℤ → List Float → Columns → Columns
+violationColumns mask times severities c =
+    unlessRefused (violationRefusal mask times severities (lengths c)) (written (violationWindows mask times severities) c) c
+
+abbrev pub visibilityReply : List ℕ → List ℤ → Columns → Reply ℕ
+visibilityReply mask times c = reply (visibilityRefusal mask times (lengths c)) (length (visibilityWindows mask times))
+
+abbrev pub visibilityColumns : List ℕ → List ℤ → Columns → Columns
+visibilityColumns mask times c = unlessRefused (visibilityRefusal mask times (lengths c)) (written (visibilityWindows mask times) c) c
+
+-- ---- expand, of windows by their first and last times: 0, and the lent mask with a byte for each of the times in its first places
+
+abbrev pub expandReply : List ℤ → List ℤ → List ℤ → List ℕ → Reply ℕ
+expandReply firsts lasts times mask = reply (expandRefusal firsts lasts times (length mask)) 0
+
+abbrev pub expandMask : List ℤ → List ℤ → List ℤ → List ℕ → List ℕ
+expandMask firsts lasts times mask =
+    unlessRefused (expandRefusal firsts lasts times (length mask)) (over (expanded times (spans firsts lasts)) mask) mask
