@@ -71,6 +71,12 @@ module _ {A : Type 0} where
   reply-some zero a h = absurd (omega arith)
   reply-some (suc k) a h = refl
 
+  -- an accepted call had no refusal, and this is its answer
+  pub reply-accepted : (k : ℕ) (a b : A) → reply k a ≡ accepted b → (k ≡ 0) × (a ≡ b)
+  unfolding reply
+  reply-accepted zero a b e = (refl, cc)
+  reply-accepted (suc k) a b e = (cc, cc)
+
   pub written-none : (k : ℕ) (w b : A) → k ≡ 0 → unlessRefused k w b ≡ w
   unfolding unlessRefused
   written-none k w b e = ap (λ (n : ℕ). unlessRefused n w b) e

@@ -1,36 +1,60 @@
--- Document 01's journal, run: two cells, one sample, which violates the second. Computed. Assumes nothing.
+-- Document 01's journal: the header and the line of its plan, and a list of entries for that plan. Computed. Assumes nothing.
 use mathlib.Core.Path.{_≡_, refl}
-use mathlib.Core.Bool.{cond}
 use mathlib.Core.List.{List, [], _∷_, _++_}
 use Prim.Native.Nat.{ℕ}
 use lib.Count.{ones}
-use lib.Dec.{eqb}
+use lib.IntN.{pos}
 use lib.ListN.{take, replicate}
-use Rattle.buffers.specs.Refusal.{refused, accepted}
-use Rattle.roll_sweep.specs.Sweep.{Sweep}
+use lib.Ieee.{binary64, ofBits, toBits, ofInt, add, sub, mul, div, rem, neg, lt, le, eq}
+use Rattle.buffers.specs.Ranges.{tab, any}
+use Rattle.buffers.specs.Refusal.{first, carried, refused, accepted}
+use Rattle.float.specs.Root.{sqrtOf}
+use Rattle.float.specs.Arithmetic.{zero·0, absOf, remEuclid, toDegrees, signBitOf, finite}
+use Rattle.float.specs.Arctangent.{coefficient, halved, series, octantAngle, ratioAngle, quadrantAngle, arctangent}
+use Rattle.solar_roll.specs.Vectors.{Vector, vector, dot3, norm3, cross3, over3, normalize3, unwrapOr}
+use Rattle.solar_roll.specs.Roll.{xHat, yHat, zHat, sunUnit, sunAlongBoresight, panelIsFree, panelAngle, rollIsUnconstrained, perpendicular, poleFallback, north, yAxis, bodyAxes, rollDegIn, solarOptimalRollDeg, circularDiffDeg}
+use Rattle.solar_roll.specs.Cell.{optimalRoll, violates, inForce, badPosition, badDirection, tooLarge}
+use Rattle.solar_roll.specs.Plan.{Plan, planOf, planRefusal, samplingOf, unlikeLengths, tooMany, triple, rowDirection, rowConfig, sunAt, cellOf, violatesAt, headTolerance, headPanel, headConfigured}
+use Rattle.solar_roll.specs.declared.cell.ConfiguredRoll.the-variants.{None}
 use Rattle.journal.specs.Hex.{hexText}
 use Rattle.journal.specs.Lines.{lineOf}
+use Rattle.journal.specs.Header.{headerOf}
+use Rattle.journal.specs.Plan.{sweepOf}
 use Rattle.ledger.specs.Machine.{begin, work, cut, recover, collect, powerUp, done, gathered, trace}
 
--- 106 digits and 0a, of which the sweep's definitions read no digit
+-- ---- "Journal for that target and panel, Suns [0,1,0] then [0,0,1] from observer 0, tolerance 10, n = 1, no configured roll"
+
+abbrev origin : Vector
+origin = vector zero·0 zero·0 zero·0
+
+abbrev plan : Plan
+plan = planOf xHat (yHat ++ zHat) (origin ++ origin) (record { «tolerance_deg» = ofInt binary64 (pos 10); «roll_deg» = None; «panel_normal» = yHat })
+
+-- "Header fields: 1, 2, 1 in 8 digits each; 4024000000000000; 00; 16 zeros; 16 zeros; 3ff0000000000000; 16 zeros"
 abbrev header : List ℕ
-header = replicate 106 48 ++ (10 ∷ [])
+header =
+    hexText 8 1 ++ hexText 8 2 ++ hexText 8 1 ++ hexText 16 0x4024000000000000 ++ hexText 2 0 ++ hexText 16 0
+    ++ hexText 16 0 ++ hexText 16 0x3ff0000000000000 ++ hexText 16 0 ++ (10 ∷ [])
 
+-- chunk 0, mask 2, probes 2
 abbrev line : List ℕ
-line = hexText 8 0 ++ (hexText 16 2 ++ (hexText 8 2 ++ (10 ∷ [])))
+line = hexText 8 0 ++ hexText 16 2 ++ hexText 8 2 ++ (10 ∷ [])
 
-abbrev example : Sweep
-example = record { refusal = λ b. cond b 1 0; rows = 1; times = 2; samples = 1; violates = λ i k. eqb i 1; header = header }
+pub example-header : headerOf plan 1 ≡ header
+unfolding headerOf headTolerance headPanel headConfigured toBits ofInt ofBits
+example-header = refl
 
-pub example-line : lineOf example 0 ≡ line
-unfolding lineOf
+pub example-line : lineOf (sweepOf plan 1) 0 ≡ line
+unfolding lineOf sweepOf tab triple rowDirection rowConfig sunAt cellOf violatesAt headConfigured violates inForce circularDiffDeg remEuclid absOf add sub mul div rem neg lt le eq ofInt ofBits sqrtOf sunUnit optimalRoll rollIsUnconstrained sunAlongBoresight panelIsFree panelAngle solarOptimalRollDeg rollDegIn bodyAxes yAxis north perpendicular poleFallback unwrapOr normalize3 over3 cross3 norm3 dot3 toDegrees arctangent quadrantAngle ratioAngle octantAngle series halved coefficient signBitOf finite
 example-line = refl
+
+-- ---- a list of entries, from an empty journal: every call is lent the plan, and 200 bytes beyond J
 
 abbrev room : List ℕ
 room = replicate 200 7
 
 -- begin, a work that is cut at its fifth byte, a work and a collect refused for the tail, recover, work, the same work again, collect
-pub example-trace : trace example (begin room ∷ work 0 room ∷ cut 5 ∷ work 0 room ∷ collect room room ∷ recover room ∷ work 0 room ∷ work 0 room ∷ collect room (9 ∷ 9 ∷ 9 ∷ []) ∷ []) powerUp
+pub example-trace : trace (sweepOf plan 1) (begin room ∷ work 0 room ∷ cut 5 ∷ work 0 room ∷ collect room room ∷ recover room ∷ work 0 room ∷ work 0 room ∷ collect room (9 ∷ 9 ∷ 9 ∷ []) ∷ []) powerUp
     ≡ record { reply = accepted done; bytes = header }
     ∷ record { reply = accepted done; bytes = header ++ line }
     ∷ record { reply = accepted done; bytes = header ++ take 5 line }
@@ -41,5 +65,5 @@ pub example-trace : trace example (begin room ∷ work 0 room ∷ cut 5 ∷ work
     ∷ record { reply = refused 10; bytes = header ++ line }
     ∷ record { reply = accepted (gathered (0 ∷ 1 ∷ []) 2); bytes = header ++ line }
     ∷ []
-unfolding trace hexText ones
+unfolding trace hexText ones headerOf headTolerance headPanel toBits planRefusal samplingOf unlikeLengths tooMany first carried any badPosition badDirection tooLarge sweepOf tab triple rowDirection rowConfig sunAt cellOf violatesAt headConfigured violates inForce circularDiffDeg remEuclid absOf add sub mul div rem neg lt le eq ofInt ofBits sqrtOf sunUnit optimalRoll rollIsUnconstrained sunAlongBoresight panelIsFree panelAngle solarOptimalRollDeg rollDegIn bodyAxes yAxis north perpendicular poleFallback unwrapOr normalize3 over3 cross3 norm3 dot3 toDegrees arctangent quadrantAngle ratioAngle octantAngle series halved coefficient signBitOf finite
 example-trace = refl

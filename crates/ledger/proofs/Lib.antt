@@ -1,8 +1,12 @@
--- Demand 3 and what it rests on.
+-- Demand 3 and what it rests on. Demand3 has the theorem, Examples document 01's starred examples, Journal its journal.
+pub mod Accepted
 pub mod Chunks
 pub mod Written
 pub mod Known
 pub mod Simulation
 pub mod Theorem
 pub mod Split
+pub mod Windows
+pub mod Demand3
+pub mod Examples
 pub mod Journal

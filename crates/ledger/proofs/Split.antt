@@ -1,4 +1,4 @@
--- A sweep that was split: the header followed by the lines of several runs of one plan, no chunk twice, is a state from which demand 3 holds.
+-- A sweep that was split: the header followed by the lines of several runs of one plan, no chunk twice, is the journal of a start.
 -- Assumes nothing.
 use mathlib.Core.Path.{_≡_, refl, sym, ap, ap₂, _∙_, subst}
 use mathlib.Core.Bool.{Bool, true, false, _||_, false≢true, or-assoc}
@@ -12,11 +12,12 @@ use Rattle.roll_sweep.specs.Sweep.{Sweep, cells, chunks}
 use Rattle.journal.specs.Lines.{lineOf}
 use Rattle.ledger.specs.Machine.{Entry}
 use Rattle.ledger.specs.Ledger.{Ledger, blank, linesOf, ended, ledgerJournal, isIn}
-use Rattle.ledger.specs.Demand3.{Accepted, Exist, Distinct, Start, Demand3}
+use Rattle.ledger.specs.Demand3.{Exist, Distinct, Start}
 use Rattle.ledger.specs.Split.{runChunks, runLines, splitChunks, splitLines, splitLedger}
+use Rattle.ledger.proofs.Accepted.{Accepted}
 use Rattle.ledger.proofs.Chunks.{Good, good-nil}
 use Rattle.ledger.proofs.Simulation.{State, off, on, began, worked, lg}
-use Rattle.ledger.proofs.Theorem.{demand3-from, demand3, recover-accepted, start-blank, reach}
+use Rattle.ledger.proofs.Theorem.{recover-is, start-blank, reach}
 
 -- what is in two lists, one after the other
 in-both : (d : ℕ) (L M : List ℕ) → isIn d (L ++ M) ≡ (isIn d L || isIn d M)
@@ -55,7 +56,7 @@ module _ (s : Sweep) (a : Accepted s) where
   unfolding runLines runChunks ledgerJournal
   run-lines es =
       let r = reach s a blank (start-blank s a) es in
-      ap (drop 107) ((demand3 s a es) .recovered [] (recover-accepted s a blank (start-blank s a) es []))
+      ap (drop 107) (recover-is s a blank (start-blank s a) es [])
       ∙ ap (λ (l : Ledger). drop 107 (ended s l)) (r .ledger)
       ∙ ended-of (r .state)
       ∙ ap (λ (l : Ledger). linesOf s (l .lines)) (sym (r .ledger))
@@ -86,11 +87,7 @@ module _ (s : Sweep) (a : Accepted s) where
     last = refl;
   }
 
-  -- its journal is the header followed by the runs' lines, and demand 3 holds from there
-  pub split : (runs : List (List Entry)) → Distinct (splitChunks s runs)
-      → (ledgerJournal s (splitLedger s runs) ≡ s .header ++ splitLines s runs) × ((es : List Entry) → Demand3 s (splitLedger s runs) es)
+  -- its journal is the header followed by the runs' lines
+  pub split-journal : (runs : List (List Entry)) → ledgerJournal s (splitLedger s runs) ≡ s .header ++ splitLines s runs
   unfolding ledgerJournal
-  split runs d = (
-    append-nil _ ∙ ap (λ (t : List ℕ). s .header ++ t) (sym (split-lines runs)),
-    λ es. demand3-from s a (splitLedger s runs) (split-start runs d) es,
-  )
+  split-journal runs = append-nil _ ∙ ap (λ (t : List ℕ). s .header ++ t) (sym (split-lines runs))

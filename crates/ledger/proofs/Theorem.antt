@@ -1,21 +1,19 @@
--- Demand 3 for the sweep of any accepted plan, but for the windows, and what follows from it: `demand3-from`, `demand3`; that recover is accepted, and
--- when collect is; a sweep that was split. Assumes nothing.
-use mathlib.Core.Path.{_≡_, refl, sym, ap, ap₂, _∙_, subst}
+-- What machine and ledger do together from every start, for the sweep of any accepted plan: `same-after`, `recover-is`, `collect-is`; the start from an
+-- empty journal; which calls are accepted. Assumes nothing.
+use mathlib.Core.Path.{_≡_, refl, sym, ap, ap₂, _∙_}
 use mathlib.Core.Bool.{Bool, true, false, not, false≢true}
 use mathlib.Core.List.{List, [], _∷_}
-use Prim.Native.Nat.{ℕ, zero, suc, _≤_, _<_}
+use Prim.Native.Nat.{ℕ}
 use native.Mathlib.Omega.{arith}
-use lib.ListN.{length, getD}
-use Rattle.buffers.specs.Ranges.{flag}
+use lib.ListN.{length}
 use Rattle.buffers.specs.Refusal.{first, accepted, reply}
-use Rattle.buffers.proofs.Ranges.{length-tab, getD-tab}
-use Rattle.buffers.proofs.Tests.{flag-le, flag-one}
-use Rattle.roll_sweep.specs.Sweep.{Sweep, cells, marked, sweepMask, sweepProbes, chunks}
-use Rattle.roll_sweep.proofs.Chunks.{marked-iff}
+use Rattle.buffers.proofs.Refusal.{reply-accepted}
+use Rattle.roll_sweep.specs.Sweep.{Sweep, cells, sweepMask, sweepProbes, chunks}
 use Rattle.journal.specs.Calls.{collectShort}
-use Rattle.ledger.specs.Machine.{Entry, recover, collect, Machine, step, done, gathered, answer, trace, run, powerUp}
+use Rattle.ledger.specs.Machine.{Entry, recover, collect, Machine, step, Outcome, done, gathered, answer, trace, run, powerUp}
 use Rattle.ledger.specs.Ledger.{Ledger, blank, ended, ledgerJournal, isIn, areIn, unfinished, ledgerRefusal, ledgerAnswer, ledgerTrace, ledgerRun}
-use Rattle.ledger.specs.Demand3.{Accepted, eventOf, events, Start, machineAt, Demand3}
+use Rattle.ledger.specs.Demand3.{eventOf, events, Start, machineAt, machineAfter, ledgerAfter}
+use Rattle.ledger.proofs.Accepted.{Accepted}
 use Rattle.ledger.proofs.Simulation.{State, off, on, lg, mc, Reached, same-from, reach-from, recover-at, collect-at}
 
 module _ (s : Sweep) (a : Accepted s) where
@@ -34,7 +32,7 @@ module _ (s : Sweep) (a : Accepted s) where
           record { state = t; machine = λ i. record { journal = ledgerJournal s (p i); added = 0 }; ledger = p }
 
   -- where a list of entries leads from a start
-  pub reach : (l : Ledger) → Start s l → (es : List Entry) → Reached s a (run s es (machineAt s l)) (ledgerRun s (events s es (machineAt s l)) l)
+  pub reach : (l : Ledger) → Start s l → (es : List Entry) → Reached s a (machineAfter s l es) (ledgerAfter s l es)
   reach l h es =
       let t = start l h in
       let r = reach-from s a es (t .state) in
@@ -44,52 +42,30 @@ module _ (s : Sweep) (a : Accepted s) where
         ledger = ap₂ (λ (m : Machine) (l : Ledger). ledgerRun s (events s es m) l) (t .machine) (t .ledger) ∙ r .ledger;
       }
 
+  -- bytes and answers, after every entry
+  pub same-after : (l : Ledger) → Start s l → (es : List Entry) → trace s es (machineAt s l) ≡ ledgerTrace s (events s es (machineAt s l)) l
+  same-after l h es =
+      let r = start l h in
+      ap (trace s es) (r .machine)
+      ∙ same-from s a es (r .state)
+      ∙ sym (ap₂ (λ (m : Machine) (l : Ledger). ledgerTrace s (events s es m) l) (r .machine) (r .ledger))
+
+  -- what a recover leaves
+  pub recover-is : (l : Ledger) → Start s l → (es : List Entry) (x : List ℕ) → (step s (recover x) (machineAfter s l es)) .journal ≡ ended s (ledgerAfter s l es)
+  recover-is l h es x =
+      let r = reach l h es in
+      ap (λ (m : Machine). (step s (recover x) m) .journal) (r .machine) ∙ (recover-at s a (r .state) x) .1 ∙ ap (ended s) (sym (r .ledger))
+
   -- what an accepted collect answers
-  pub collect-is : (l : Ledger) → Start s l → (es : List Entry) (x o m : List ℕ) (p : ℕ) → answer s (collect x o) (run s es (machineAt s l)) ≡ accepted (gathered m p)
-      → (m ≡ sweepMask s) × (p ≡ sweepProbes s)
-  unfolding ledgerAnswer reply
-  collect-is l h es x o m p e =
+  pub collect-is : (l : Ledger) → Start s l → (es : List Entry) (x o m : List ℕ) (q : ℕ) → answer s (collect x o) (machineAfter s l es) ≡ accepted (gathered m q)
+      → (m ≡ sweepMask s) × (q ≡ sweepProbes s)
+  unfolding ledgerAnswer
+  collect-is l h es x o m q e =
       let r = reach l h es in
       let t : State s = r .state in
-      passed (ledgerRefusal s (eventOf (collect x o) (mc s t)) (lg s t)) (sym (collect-at s a t x o) ∙ sym (ap (answer s (collect x o)) (r .machine)) ∙ e)
-    where
-      passed : (n : ℕ) → reply n (gathered (sweepMask s) (sweepProbes s)) ≡ accepted (gathered m p) → (m ≡ sweepMask s) × (p ≡ sweepProbes s)
-      passed zero e = (cc, cc)
-      passed (suc n) e = (cc, cc)
-
-  -- one byte a cell, 1 exactly where every sample violates it
-  marks : (i : ℕ) → i < cells s → getD (sweepMask s) i 0 ≡ flag (marked s i)
-  unfolding sweepMask
-  marks i l = getD-tab (cells s) (λ j. flag (marked s j)) 0 i l
-
-  length-mask : length (sweepMask s) ≡ cells s
-  unfolding sweepMask
-  length-mask = length-tab (cells s) (λ j. flag (marked s j))
-
-  pub demand3-from : (l : Ledger) → Start s l → (es : List Entry) → Demand3 s l es
-  unfolding sweepProbes
-  demand3-from l h es =
-      let r₀ = start l h in
-      let r = reach l h es in
-      record {
-        same =
-            ap (λ (m : Machine). trace s es m) (r₀ .machine)
-            ∙ same-from s a es (r₀ .state)
-            ∙ sym (ap₂ (λ (m : Machine) (l : Ledger). ledgerTrace s (events s es m) l) (r₀ .machine) (r₀ .ledger));
-        recovered = λ x e.
-            ap (λ (m : Machine). (step s (recover x) m) .journal) (r .machine) ∙ (recover-at s a (r .state) x) .1 ∙ ap (ended s) (sym (r .ledger));
-        collected = λ x o m p e.
-            let c = collect-is l h es x o m p e in
-            let at : (i : ℕ) → i < cells s → getD m i 0 ≡ flag (marked s i) = λ i q. ap (λ (t : List ℕ). getD t i 0) (c .0) ∙ marks i q in (
-              ap length (c .0) ∙ length-mask,
-              (λ i q. subst (λ (n : ℕ). n ≤ 1) (sym (at i q)) (flag-le (marked s i))),
-              (λ i q. (
-                λ u. (marked-iff s i) .0 ((flag-one (marked s i)) .0 (sym (at i q) ∙ u)),
-                λ u. at i q ∙ (flag-one (marked s i)) .1 ((marked-iff s i) .1 u),
-              )),
-              c .1,
-            );
-      }
+      let g : gathered (sweepMask s) (sweepProbes s) ≡ gathered m q =
+      (reply-accepted (ledgerRefusal s (eventOf (collect x o) (mc s t)) (lg s t)) _ _ (sym (collect-at s a t x o) ∙ sym (ap (answer s (collect x o)) (r .machine)) ∙ e)) .1 in
+      (cc, cc)
 
   -- ---- from the empty journal
   pub start-blank : Start s blank
@@ -108,20 +84,17 @@ module _ (s : Sweep) (a : Accepted s) where
   unfolding ledgerJournal
   from-empty = refl
 
-  pub demand3 : (es : List Entry) → Demand3 s blank es
-  demand3 es = demand3-from blank start-blank es
-
   -- ---- which calls are accepted
   -- recover is, always
-  pub recover-accepted : (l : Ledger) → Start s l → (es : List Entry) (x : List ℕ) → answer s (recover x) (run s es (machineAt s l)) ≡ accepted done
+  pub recover-accepted : (l : Ledger) → Start s l → (es : List Entry) (x : List ℕ) → answer s (recover x) (machineAfter s l es) ≡ accepted done
   recover-accepted l h es x = let r = reach l h es in ap (answer s (recover x)) (r .machine) ∙ (recover-at s a (r .state) x) .0
 
   -- collect is, once the header stands without a remnant, each chunk has a line, and the lent mask has room
   pub collect-accepted : (l : Ledger) → Start s l → (es : List Entry) (x o : List ℕ)
-      → unfinished (ledgerRun s (events s es (machineAt s l)) l) ≡ false
-      → areIn (chunks (cells s)) ((ledgerRun s (events s es (machineAt s l)) l) .lines) ≡ true
+      → unfinished (ledgerAfter s l es) ≡ false
+      → areIn (chunks (cells s)) ((ledgerAfter s l es) .lines) ≡ true
       → collectShort s (length o) ≡ false
-      → answer s (collect x o) (run s es (machineAt s l)) ≡ accepted (gathered (sweepMask s) (sweepProbes s))
+      → answer s (collect x o) (machineAfter s l es) ≡ accepted (gathered (sweepMask s) (sweepProbes s))
   unfolding ledgerAnswer ledgerRefusal
   collect-accepted l h es x o u v w =
       let r = reach l h es in

@@ -20,7 +20,7 @@ use Rattle.journal.specs.Lines.{lineText, lineOf, lineStart, chunkAt, maskAt, p
 use Rattle.journal.specs.Right.{wholeLines, torn, agree, possible, lineFits, lineRight, linesRight, right}
 use Rattle.journal.proofs.Text.{value-hex, digits-hex, digits-add}
 use Rattle.ledger.specs.Ledger.{linesOf, isEmpty, isIn}
-use Rattle.ledger.specs.Demand3.{Accepted}
+use Rattle.ledger.proofs.Accepted.{Accepted}
 use Rattle.ledger.proofs.Chunks.{from-end, length-end, lines-end, in-end, Good, good-before, good-last, good-new, sumOver, over-nil, over-end}
 
 -- ---- what a line holds fits its digits

@@ -1,23 +1,21 @@
--- Demand 3 for the sweep of one plan, but for its windows. Each clause stands under the customer's words. Definitions only. Assumes nothing.
+-- Demand 3 for a plan and its times. Each clause stands under the customer's words. The journal's calls see a plan p of n rolls as its sweep,
+-- `sweepOf p n`; machine and ledger are that sweep's. Definitions only. Assumes nothing.
 use mathlib.Core.Path.{_≡_}
 use mathlib.Core.Logic.{_↔_}
 use mathlib.Core.Bool.{true, false}
 use mathlib.Core.List.{List, [], _∷_, _++_}
-use Prim.Native.Nat.{ℕ, _≤_, _<_}
+use Prim.Native.Nat.{ℕ, _+_, _*_, _≤_, _<_}
 use lib.ListN.{length, getD, take}
+use lib.IntN.{ℤ}
 use Rattle.buffers.specs.Ranges.{sum}
 use Rattle.buffers.specs.Refusal.{accepted}
+use Rattle.solar_roll.specs.Plan.{Plan, rowsOf, timesOf, violatesAt}
 use Rattle.roll_sweep.specs.Sweep.{Sweep, cells, chunks, tried}
+use Rattle.roll_sweep.specs.Rolls.{evenRoll}
+use Rattle.journal.specs.Plan.{sweepOf}
 use Rattle.ledger.specs.Machine.{Entry, begin, work, cut, recover, collect, Machine, step, done, gathered, answer, trace, run}
 use Rattle.ledger.specs.Ledger.{Event, begins, works, cuts, recovers, collects, none, Ledger, ended, ledgerJournal, isIn, ledgerTrace, ledgerRun}
-
--- "Take one accepted plan of 1 to 3,600 rolls": its refusals pass where the used length lies in its buffer. The bound on cells is refusal 2's.
-pub record Accepted (s : Sweep) : Type 0 where
-  pub plan : s .refusal false ≡ 0
-  pub few : cells s ≤ 1048576
-  pub one : 1 ≤ s .samples
-  pub most : s .samples ≤ 3600
-  pub header : length (s .header) ≡ 107
+use Rattle.ledger.specs.Windows.{rowPart, RowWindows}
 
 -- an entry as the ledger is fed it: of what is lent, the lengths only
 abbrev pub eventOf : Entry → Machine → Event
@@ -53,24 +51,40 @@ pub record Start (s : Sweep) (l : Ledger) : Type 0 where
   -- no write has just been made
   pub last : l .last ≡ none
 
--- the machine there
+-- the machine there; and machine and ledger after a list of entries
 abbrev pub machineAt : Sweep → Ledger → Machine
 machineAt s l = record { journal = ledgerJournal s l; added = 0 }
 
--- ---- demand 3, from the state of the ledger l, where that is a start: "For every list of begin, work, cut, recover and collect .., refused calls
--- included, each on the journal that the one before left, and whichever byte the power fails at:"
-pub record Demand3 (s : Sweep) (l : Ledger) (es : List Entry) : Type 0 where
-  -- "the journal's bytes and each answer equal those of document 01's ledger"
-  pub same : trace s es (machineAt s l) ≡ ledgerTrace s (events s es (machineAt s l)) l
+abbrev pub machineAfter : Sweep → Ledger → List Entry → Machine
+machineAfter s l es = run s es (machineAt s l)
+
+abbrev pub ledgerAfter : Sweep → Ledger → List Entry → Ledger
+ledgerAfter s l es = ledgerRun s (events s es (machineAt s l)) l
+
+-- ---- demand 3
+
+-- "Once the header stands and each chunk has a line" (the ledger refuses collect before), what "an accepted collect" with the mask m and the sum q is.
+-- The cell of row i at time j has number i · times + j; sample k of n is the roll evenRoll n k, k times (360 / n), which violatesAt takes as a Sweep roll.
+pub record Collected (p : Plan) (n : ℕ) (times : List ℤ) (m : List ℕ) (q : ℕ) : Type 0 where
+  -- "marks a cell exactly when every sampled roll violates it": one byte a cell, 1 where it is marked and 0 where it is not
+  pub bytes : length m ≡ rowsOf p * timesOf p
+  pub bits : (i : ℕ) → i < rowsOf p * timesOf p → getD m i 0 ≤ 1
+  pub marks : (i j : ℕ) → i < rowsOf p → j < timesOf p
+      → (getD m (i * timesOf p + j) 0 ≡ 1) ↔ ((k : ℕ) → k < n → violatesAt p i j (evenRoll n k) ≡ true)
+  -- "Its probes = the sum over cells of the rolls tried through the first clear one, all of them if none is."
+  pub probes : q ≡ sum (rowsOf p) (λ i. sum (timesOf p) (λ j. tried n (λ k. violatesAt p i j (evenRoll n k))))
+  -- "Each row's violation windows .. Its visibility windows ..": in Windows, clause by clause
+  pub windows : (i : ℕ) → i < rowsOf p → RowWindows times (rowPart (timesOf p) i m)
+
+-- From the state of the ledger l, where that is a start: "For every list of begin, work, cut, recover and collect .., refused calls included, each on
+-- the journal that the one before left, and whichever byte the power fails at:"
+pub record Demand3 (p : Plan) (n : ℕ) (times : List ℤ) (l : Ledger) (es : List Entry) : Type 0 where
+  -- "the journal's bytes and each answer equal those of document 01's ledger": after every entry
+  pub same : trace (sweepOf p n) es (machineAt (sweepOf p n) l) ≡ ledgerTrace (sweepOf p n) (events (sweepOf p n) es (machineAt (sweepOf p n) l)) l
   -- "and an accepted recover" (the next entry, after any list) "leaves exactly the header, if its writing ended, and the lines whose writing ended,
   -- in the order written."
-  pub recovered : (x : List ℕ) → answer s (recover x) (run s es (machineAt s l)) ≡ accepted done →
-      (step s (recover x) (run s es (machineAt s l))) .journal ≡ ended s (ledgerRun s (events s es (machineAt s l)) l)
-  -- "Once the header stands and each chunk has a line" (the ledger refuses collect before) "an accepted collect" (the next entry, after any list)
-  pub collected : (x o m : List ℕ) (p : ℕ) → answer s (collect x o) (run s es (machineAt s l)) ≡ accepted (gathered m p) →
-      -- "marks a cell exactly when every sampled roll violates it": one byte a cell, 1 where it is marked and 0 where it is not
-      (length m ≡ cells s)
-      × ((i : ℕ) → i < cells s → getD m i 0 ≤ 1)
-      × ((i : ℕ) → i < cells s → (getD m i 0 ≡ 1) ↔ ((k : ℕ) → k < s .samples → s .violates i k ≡ true))
-      -- "Its probes = the sum over cells of the rolls tried through the first clear one, all of them if none is."
-      × (p ≡ sum (cells s) (λ i. tried (s .samples) (s .violates i)))
+  pub recovered : (x : List ℕ) → answer (sweepOf p n) (recover x) (machineAfter (sweepOf p n) l es) ≡ accepted done
+      → (step (sweepOf p n) (recover x) (machineAfter (sweepOf p n) l es)) .journal ≡ ended (sweepOf p n) (ledgerAfter (sweepOf p n) l es)
+  -- "Once the header stands and each chunk has a line, an accepted collect" (the next entry, after any list) ..
+  pub collected : (x o m : List ℕ) (q : ℕ) → answer (sweepOf p n) (collect x o) (machineAfter (sweepOf p n) l es) ≡ accepted (gathered m q)
+      → Collected p n times m q

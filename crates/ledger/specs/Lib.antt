@@ -1,5 +1,7 @@
--- Section 4: the machine of begin, work, cut, recover and collect, the ledger that it is compared with, and demand 3.
+-- Section 4: the machine of begin, work, cut, recover and collect, the ledger that it is compared with, demand 3 with its windows, and a sweep that
+-- was split.
 pub mod Machine
 pub mod Ledger
+pub mod Windows
 pub mod Demand3
 pub mod Split

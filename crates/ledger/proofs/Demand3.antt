@@ -1,0 +1,155 @@
+-- Demand 3, for every accepted plan: `demand3`, from an empty journal; `demand3-from`, from every start; `demand3-split`, from the journal of a sweep
+-- that was split. Last, that the window listings accept each row of a collected mask, so that its windows are there to be read. Assumes nothing.
+use mathlib.Core.Path.{_≡_, sym, ap, _∙_, subst}
+use mathlib.Core.Logic.{_↔_}
+use mathlib.Core.Bool.{Bool, true, false}
+use mathlib.Core.List.{List, _++_}
+use Prim.Native.Nat.{ℕ, _+_, _*_, _/_, _≤_, _<_}
+use native.Mathlib.Omega.{arith}
+use lib.IntN.{ℤ}
+use lib.Ieee.{Float}
+use lib.ListN.{length, getD}
+use borrow.Author.Tests.{le-ltb}
+use Rattle.buffers.specs.Ranges.{flag, sum, tab, any}
+use Rattle.buffers.specs.Refusal.{accepted}
+use Rattle.buffers.proofs.Ranges.{sum-ext, sum-rows, length-tab, getD-tab, any-tab}
+use Rattle.buffers.proofs.Rows.{cell-below}
+use Rattle.buffers.proofs.Tests.{flag-le, flag-one}
+use Rattle.solar_roll.specs.Plan.{Plan, rowsOf, timesOf, violatesAt, samplingOf, planRefusal}
+use Rattle.roll_sweep.specs.Sweep.{tried, marked, cellProbes, sweepMask, sweepProbes}
+use Rattle.roll_sweep.specs.Rolls.{evenRoll}
+use Rattle.roll_sweep.proofs.Chunks.{marked-iff}
+use Rattle.roll_sweep.proofs.Tried.{tried-ext}
+use Rattle.roll_sweep.proofs.Rows.{row-part}
+use Rattle.journal.specs.Plan.{sweepOf}
+use Rattle.journal.proofs.Planned.{samples-n}
+use Rattle.windows.specs.Windows.{Columns, violationWindows, visibilityWindows}
+use Rattle.windows.specs.Refusal.{noMark, noSeverity}
+use Rattle.windows.specs.Calls.{violationReply, visibilityReply}
+use Rattle.ledger.specs.Machine.{Entry, collect, gathered, answer}
+use Rattle.ledger.specs.Ledger.{Ledger, blank, ledgerJournal}
+use Rattle.ledger.specs.Windows.{Times, rowPart, RowWindows}
+use Rattle.ledger.specs.Demand3.{Distinct, Start, machineAfter, Collected, Demand3}
+use Rattle.ledger.specs.Split.{splitChunks, splitLines, splitLedger}
+use Rattle.ledger.proofs.Accepted.{accepted-sweep, few-times, sampled}
+use Rattle.ledger.proofs.Theorem.{start-blank, same-after, recover-is, collect-is}
+use Rattle.ledger.proofs.Split.{split-start, split-journal}
+use Rattle.ledger.proofs.Windows.{row-windows, places, violations-accepted, visibility-accepted}
+
+-- ---- the sweep's mask and probes, in the plan's words
+
+module _ (p : Plan) (n : ℕ) where
+  byte-at : (i : ℕ) → i < rowsOf p * timesOf p → getD (sweepMask (sweepOf p n)) i 0 ≡ flag (marked (sweepOf p n) i)
+  unfolding sweepMask sweepOf
+  byte-at i l = getD-tab (rowsOf p * timesOf p) (λ j. flag (marked (sweepOf p n) j)) 0 i l
+
+  length-mask : length (sweepMask (sweepOf p n)) ≡ rowsOf p * timesOf p
+  unfolding sweepMask sweepOf
+  length-mask = length-tab (rowsOf p * timesOf p) (λ j. flag (marked (sweepOf p n) j))
+
+  -- every sampled roll violates the cell
+  every-roll : (i j : ℕ) → j < timesOf p → (marked (sweepOf p n) (i * timesOf p + j) ≡ true) ↔ ((k : ℕ) → k < n → violatesAt p i j (evenRoll n k) ≡ true)
+  every-roll i j h =
+      let m = marked-iff (sweepOf p n) (i * timesOf p + j) in (
+        (λ e k l. sym (sampled p n i j k h l) ∙ m .0 e k (subst (λ (x : ℕ). k < x) (sym (samples-n p n)) l)),
+        (λ f. m .1 (λ k l. let g : k < n = subst (λ (x : ℕ). k < x) (samples-n p n) l in sampled p n i j k h g ∙ f k g)),
+      )
+
+  -- the samples tried of a cell, and of all cells, row by row
+  probes-at : (i j : ℕ) → j < timesOf p → cellProbes (sweepOf p n) (i * timesOf p + j) ≡ tried n (λ k. violatesAt p i j (evenRoll n k))
+  unfolding cellProbes
+  probes-at i j h =
+      ap (λ (m : ℕ). tried m (sweepOf p n .violates (i * timesOf p + j))) (samples-n p n)
+      ∙ tried-ext n (sweepOf p n .violates (i * timesOf p + j)) (λ k. violatesAt p i j (evenRoll n k)) (λ k l. sampled p n i j k h l)
+
+  probes-rows : sweepProbes (sweepOf p n) ≡ sum (rowsOf p) (λ i. sum (timesOf p) (λ j. cellProbes (sweepOf p n) (i * timesOf p + j)))
+  unfolding sweepProbes sweepOf
+  probes-rows = sum-rows (rowsOf p) (timesOf p) (cellProbes (sweepOf p n))
+
+  probes-are : sweepProbes (sweepOf p n) ≡ sum (rowsOf p) (λ i. sum (timesOf p) (λ j. tried n (λ k. violatesAt p i j (evenRoll n k))))
+  probes-are =
+      probes-rows
+      ∙ sum-ext (rowsOf p) (λ i. sum (timesOf p) (λ j. cellProbes (sweepOf p n) (i * timesOf p + j))) (λ i. sum (timesOf p) (λ j. tried n (λ k. violatesAt p i j (evenRoll n k))))
+      (λ i g. sum-ext (timesOf p) (λ j. cellProbes (sweepOf p n) (i * timesOf p + j)) (λ j. tried n (λ k. violatesAt p i j (evenRoll n k))) (λ j h. probes-at i j h))
+
+  -- row i's part of the mask: a byte a time, none but 0 and 1
+  row-of : (i : ℕ) → i < rowsOf p → rowPart (timesOf p) i (sweepMask (sweepOf p n)) ≡ tab (timesOf p) (λ j. flag (marked (sweepOf p n) (i * timesOf p + j)))
+  unfolding sweepOf
+  row-of i h = row-part (sweepOf p n) i h
+
+  length-row : (i : ℕ) → i < rowsOf p → length (rowPart (timesOf p) i (sweepMask (sweepOf p n))) ≡ timesOf p
+  length-row i h = ap length (row-of i h) ∙ length-tab (timesOf p) (λ j. flag (marked (sweepOf p n) (i * timesOf p + j)))
+
+  row-marks : (i : ℕ) → i < rowsOf p → any noMark (rowPart (timesOf p) i (sweepMask (sweepOf p n))) ≡ false
+  unfolding noMark
+  row-marks i h =
+      ap (any noMark) (row-of i h)
+      ∙ any-tab noMark (timesOf p) (λ j. flag (marked (sweepOf p n) (i * timesOf p + j))) (λ j l. le-ltb 1 (flag (marked (sweepOf p n) (i * timesOf p + j))) (flag-le (marked (sweepOf p n) (i * timesOf p + j))))
+
+  -- what is to be shown of an accepted collect, for the sweep's mask and probes
+  collected : (times : List ℤ) → Times (timesOf p) times → Collected p n times (sweepMask (sweepOf p n)) (sweepProbes (sweepOf p n))
+  collected times t = record {
+    bytes = length-mask;
+    bits = λ i l. subst (λ (b : ℕ). b ≤ 1) (sym (byte-at i l)) (flag-le (marked (sweepOf p n) i));
+    marks = λ i j g h.
+        let at = byte-at (i * timesOf p + j) (cell-below (rowsOf p) (timesOf p) i j g h) in
+        let m : Bool = marked (sweepOf p n) (i * timesOf p + j) in (
+          (λ u. (every-roll i j h) .0 ((flag-one m) .0 (sym at ∙ u))),
+          (λ u. at ∙ (flag-one m) .1 ((every-roll i j h) .1 u)),
+        );
+    probes = probes-are;
+    windows = λ i h. row-windows times (t .increasing) (rowPart (timesOf p) i (sweepMask (sweepOf p n)));
+  }
+
+-- ---- "Take one accepted plan of 1 to 3,600 rolls, with strictly increasing times in document 01's range."
+
+module _ (p : Plan) (n : ℕ) (plan : planRefusal p (samplingOf n) false ≡ 0) (times : List ℤ) (t : Times (timesOf p) times) where
+  -- from every start
+  pub demand3-from : (l : Ledger) → Start (sweepOf p n) l → (es : List Entry) → Demand3 p n times l es
+  demand3-from l h es =
+      let a = accepted-sweep p n plan in
+      record {
+        same = same-after (sweepOf p n) a l h es;
+        recovered = λ x e. recover-is (sweepOf p n) a l h es x;
+        collected = λ x o m q e.
+            let c = collect-is (sweepOf p n) a l h es x o m q e in
+            subst (λ (k : List ℕ). Collected p n times k q) (sym (c .0)) (subst (Collected p n times (sweepMask (sweepOf p n))) (sym (c .1)) (collected p n times t));
+      }
+
+  -- "For every list of begin, work, cut, recover and collect from an empty journal, ..": demand 3
+  pub demand3 : (es : List Entry) → Demand3 p n times blank es
+  demand3 es = demand3-from blank (start-blank (sweepOf p n) (accepted-sweep p n plan)) es
+
+  -- from the header followed by the lines of several runs of the plan, no chunk twice
+  pub demand3-split : (runs : List (List Entry)) → Distinct (splitChunks (sweepOf p n) runs)
+      → (ledgerJournal (sweepOf p n) (splitLedger (sweepOf p n) runs) ≡ (sweepOf p n) .header ++ splitLines (sweepOf p n) runs)
+      × ((es : List Entry) → Demand3 p n times (splitLedger (sweepOf p n) runs) es)
+  demand3-split runs d =
+      let a = accepted-sweep p n plan in
+      (split-journal (sweepOf p n) a runs, λ es. demand3-from (splitLedger (sweepOf p n) runs) (split-start (sweepOf p n) a runs d) es)
+
+  -- ---- after an accepted collect the listings accept each row of its mask, where severities are none of 14's and there is room for (times + 1) / 2
+
+  module _ (l : Ledger) (h : Start (sweepOf p n) l) (es : List Entry) (x o m : List ℕ) (q : ℕ) (e : answer (sweepOf p n) (collect x o) (machineAfter (sweepOf p n) l es) ≡ accepted (gathered m q)) (i : ℕ) (g : i < rowsOf p) (room : Columns) (enough : places room ((timesOf p + 1) / 2)) where
+    mask-is : m ≡ sweepMask (sweepOf p n)
+    mask-is = (collect-is (sweepOf p n) (accepted-sweep p n plan) l h es x o m q e) .0
+
+    part-length : length (rowPart (timesOf p) i m) ≡ timesOf p
+    part-length = ap (λ (k : List ℕ). length (rowPart (timesOf p) i k)) mask-is ∙ length-row p n i g
+
+    part-marks : any noMark (rowPart (timesOf p) i m) ≡ false
+    part-marks = ap (λ (k : List ℕ). any noMark (rowPart (timesOf p) i k)) mask-is ∙ row-marks p n i g
+
+    few : length (rowPart (timesOf p) i m) ≤ 65536
+    few = omega (arith, part-length, few-times p n plan)
+
+    room-for : places room ((length (rowPart (timesOf p) i m) + 1) / 2)
+    room-for = subst (λ (k : ℕ). places room ((k + 1) / 2)) (sym part-length) enough
+
+    pub row-violations : (severities : List Float) → length severities ≡ timesOf p → any noSeverity severities ≡ false
+        → violationReply (rowPart (timesOf p) i m) times severities room ≡ accepted (length (violationWindows (rowPart (timesOf p) i m) times severities))
+    row-violations severities rated fine =
+        violations-accepted (rowPart (timesOf p) i m) times (t .each ∙ sym part-length) few part-marks (t .in-range) room room-for severities (rated ∙ sym part-length) fine
+
+    pub row-visible : visibilityReply (rowPart (timesOf p) i m) times room ≡ accepted (length (visibilityWindows (rowPart (timesOf p) i m) times))
+    row-visible = visibility-accepted (rowPart (timesOf p) i m) times (t .each ∙ sym part-length) few part-marks (t .in-range) room room-for
