@@ -4,29 +4,18 @@ ghost use mathlib.Core.Bool.{true};
 ghost use Prim.Native.Nat.{ℕ, _+_, _*_, _^_, _≤_, _<_};
 ghost use lib.Dec.{ltb};
 ghost use lib.ListN.{length, replicate};
-ghost use Rattle.roll_sweep.specs.Sweep.{cellsIn};
 ghost use Rattle.journal.specs.Lines.{heldProbes};
 ghost use Rattle.journal.specs.Right.{wholeLines, torn, agree, possible, linesRight, right};
 ghost use Rattle.journal.specs.Calls.{kept};
 ghost use Rattle.journal.specs.Pass.{lineAt, fits, checkedOf, Tables};
 use crate::line::Line;
 use crate::line::read_line;
+use roll_sweep::cells_in;
 
 // Whether a journal is right, with the sum of its lines' probes.
 pub enum Checked {
     Right(u64),
     Wrong,
-}
-
-// How many of the cells a chunk holds.
-fn cells_in(cells: u64, chunk: u64) -> u64
-    ensures { λ r. ⌜ r ≡ cellsIn cells chunk ⌝ }
-{
-    if cells / 64 < chunk {
-        return 0;
-    }
-    let left = cells - 64 * chunk;
-    if left < 64 { left } else { 64 }
 }
 
 // The mask has no bit from bit k on.

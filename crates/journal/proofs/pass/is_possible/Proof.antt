@@ -11,7 +11,7 @@ use Rattle.journal.proofs.pass.is_possible.Statement.{statement}
 use Rattle.journal.proofs.pass.is_possible.Tie as tie
 use Rattle.journal.proofs.pass.is_possible.Reads as reads
 use Rattle.journal.proofs.pass.is_possible.Lts as lts
-use Rattle.journal.proofs.pass.cells_in.Reads as cells-in-reads
+use Rattle.roll_sweep.proofs.cells_in.Reads as cells-in-reads
 use Rattle.journal.proofs.pass.no_bit_from.Reads as no-bit-from-reads
 
 -- src/pass.rt:47:9
