@@ -1,6 +1,20 @@
 //! The proved library as this program calls it. Every line, mask and window comes from here, and nothing else calls it.
 use crate::plan::Plan;
-pub use wilfnusk::{Refusal, Roll, Window, CHUNK_CELLS, HEADER_BYTES, LINE_BYTES};
+use wilfnusk::Columns;
+pub use wilfnusk::{Refusal, Roll, CHUNK_CELLS, HEADER_BYTES, LINE_BYTES};
+
+/// A window of one row.
+#[derive(Clone, Copy, Debug, Default, PartialEq)]
+pub struct Window {
+    /// First and last sample number, and their times in nanoseconds.
+    pub first: u64,
+    pub last: u64,
+    pub first_time: i64,
+    pub last_time: i64,
+    pub severity: f64,
+    /// 1 if the window ends with the final sample because the data ended, else 0.
+    pub is_last: u64,
+}
 
 fn lent(plan: &Plan) -> wilfnusk::Plan<'_> {
     wilfnusk::Plan {
@@ -79,20 +93,37 @@ pub fn regard(plan: &Plan, time: usize, roll: Option<f64>) -> Result<Vec<u8>, Re
 
 /// A row's visibility windows.
 pub fn visibility(mask: &[u8], times: &[i64]) -> Result<Vec<Window>, Refusal> {
-    listed(mask, |out| wilfnusk::visibility_records(mask, times, out))
+    listed(mask, |out| wilfnusk::visibility_windows(mask, times, out))
 }
 
 /// A row's violation windows.
 pub fn violations(mask: &[u8], times: &[i64], severities: &[f64]) -> Result<Vec<Window>, Refusal> {
-    listed(mask, |out| wilfnusk::violation_records(mask, times, severities, out))
+    listed(mask, |out| wilfnusk::violation_windows(mask, times, severities, out))
 }
 
-/// Lends room for the most windows that a row can have.
-fn listed(mask: &[u8], list: impl FnOnce(&mut [Window]) -> Result<u64, Refusal>) -> Result<Vec<Window>, Refusal> {
-    let mut out = vec![Window::default(); (mask.len() + 1) / 2];
-    let count = list(&mut out)?;
-    out.truncate(count as usize);
-    Ok(out)
+/// Lends columns with room for the most windows that a row can have, and reads the windows from them.
+fn listed(mask: &[u8], list: impl FnOnce(Columns) -> Result<u64, Refusal>) -> Result<Vec<Window>, Refusal> {
+    let room = (mask.len() + 1) / 2;
+    let (mut first, mut last) = (vec![0; room], vec![0; room]);
+    let (mut first_time, mut last_time) = (vec![0; room], vec![0; room]);
+    let (mut severity, mut is_last) = (vec![0.0; room], vec![0; room]);
+    let count = list(Columns {
+        first: &mut first,
+        last: &mut last,
+        first_time: &mut first_time,
+        last_time: &mut last_time,
+        severity: &mut severity,
+        is_last: &mut is_last,
+    })?;
+    let window = |k: usize| Window {
+        first: first[k],
+        last: last[k],
+        first_time: first_time[k],
+        last_time: last_time[k],
+        severity: severity[k],
+        is_last: is_last[k].into(),
+    };
+    Ok((0..count as usize).map(window).collect())
 }
 
 /// The windows' lengths, each in whole seconds, summed.
