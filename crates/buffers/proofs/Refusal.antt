@@ -4,7 +4,6 @@ use mathlib.Core.Bool.{Bool, true, false, cond, not, _&&_}
 use mathlib.Core.List.{List, [], _∷_}
 use Prim.Native.Nat.{ℕ, zero, suc, _<_}
 use native.Mathlib.Omega.{arith}
-use lib.Arith.{lt-of-le-ne}
 use lib.Dec.{ltb}
 use borrow.Author.Tests.{ne-eqb, ltb-true}
 use Rattle.buffers.specs.Refusal.{Conditions, first, carried, Reply, refused, accepted, reply, unlessRefused, replyOf}
@@ -85,22 +84,6 @@ module _ {A : Type 0} where
   unfolding unlessRefused
   written-some zero w b h = absurd (omega arith)
   written-some (suc k) w b h = refl
-
--- ---- a call's answer and what it leaves, from the number k that was found for its refusal
-
-pub answer-refused : (k m a : ℕ) → k ≡ m → (k ≡ 0 → ⊥) → replyOf (Refused k) ≡ reply m a
-unfolding replyOf
-answer-refused k m a e h = sym (ap (λ (n : ℕ). reply n a) (sym e) ∙ reply-some k a (lt-of-le-ne (omega arith) (λ z. h (sym z))))
-
-pub answer-accepted : (k m a : ℕ) → k ≡ m → k ≡ 0 → replyOf (Accepted a) ≡ reply m a
-unfolding replyOf
-answer-accepted k m a e h = sym (reply-none m a (sym e ∙ h))
-
-pub list-refused : {A : Type 0} (k m : ℕ) (w b : A) → k ≡ m → (k ≡ 0 → ⊥) → b ≡ unlessRefused m w b
-list-refused k m w b e h = sym (ap (λ (n : ℕ). unlessRefused n w b) (sym e) ∙ written-some k w b (lt-of-le-ne (omega arith) (λ z. h (sym z))))
-
-pub list-accepted : {A : Type 0} (k m : ℕ) (w b new : A) → k ≡ m → k ≡ 0 → new ≡ w → new ≡ unlessRefused m w b
-list-accepted k m w b new e h g = g ∙ sym (written-none m w b (sym e ∙ h))
 
 -- ---- the answer that a call makes, by the refusal's number
 

@@ -32,7 +32,17 @@ pub extern "C" fn wilfnusk_violation_windows(
         (written (violationWindows (now (mask .entry)) (now (times .entry)) (now (severities .entry))) (columns (now (first .entry)) (now (last .entry)) (now («first_time» .entry)) (now («last_time» .entry)) (now (severity .entry)) (now («is_last» .entry))))
         (columns (now (first .entry)) (now (last .entry)) (now («first_time» .entry)) (now («last_time» .entry)) (now (severity .entry)) (now («is_last» .entry))) ⌝ }
 {
-    int64(windows::violation_windows(mask, times, severities, first, last, first_time, last_time, severity, is_last))
+    int64(windows::violation_windows(
+        mask,
+        times,
+        severities,
+        first,
+        last,
+        first_time,
+        last_time,
+        severity,
+        is_last,
+    ))
 }
 
 #[no_mangle]
@@ -52,7 +62,16 @@ pub extern "C" fn wilfnusk_visibility_windows(
         (written (visibilityWindows (now (mask .entry)) (now (times .entry))) (columns (now (first .entry)) (now (last .entry)) (now («first_time» .entry)) (now («last_time» .entry)) (now (severity .entry)) (now («is_last» .entry))))
         (columns (now (first .entry)) (now (last .entry)) (now («first_time» .entry)) (now («last_time» .entry)) (now (severity .entry)) (now («is_last» .entry))) ⌝ }
 {
-    int64(windows::visibility_windows(mask, times, first, last, first_time, last_time, severity, is_last))
+    int64(windows::visibility_windows(
+        mask,
+        times,
+        first,
+        last,
+        first_time,
+        last_time,
+        severity,
+        is_last,
+    ))
 }
 
 #[no_mangle]

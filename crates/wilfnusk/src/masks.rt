@@ -93,7 +93,14 @@ pub extern "C" fn wilfnusk_constrained_at_every_roll(
     ensures { λ r. ⌜ now (mask .exit) ≡ maskAfter (planOf (now (targets .entry)) (now (suns .entry)) (now (observers .entry)) (settings «tolerance_deg» «has_roll» «roll_deg» «panel_x» «panel_y» «panel_z»)) (samplingOrNone n) (atEveryRoll n) (now (mask .entry)) ⌝ }
 {
     let config = settings(tolerance_deg, has_roll, roll_deg, panel_x, panel_y, panel_z);
-    int64(solar_roll::in_constraint_batch_constrained_at_every_roll(targets, suns, observers, config, n, mask))
+    int64(solar_roll::in_constraint_batch_constrained_at_every_roll(
+        targets,
+        suns,
+        observers,
+        config,
+        n,
+        mask,
+    ))
 }
 
 #[no_mangle]
@@ -138,7 +145,15 @@ pub extern "C" fn wilfnusk_field_of_regard_violated_batch(
     ensures { λ r. ⌜ now (mask .exit) ≡ fieldAfter (planOf (now (targets .entry)) (now (suns .entry)) (now (observers .entry)) (settings «tolerance_deg» «has_roll» «roll_deg» «panel_x» «panel_y» «panel_z»)) (samplingOrNone n) time (atEveryRoll n) (now (mask .entry)) ⌝ }
 {
     let config = settings(tolerance_deg, has_roll, roll_deg, panel_x, panel_y, panel_z);
-    int64(solar_roll::field_of_regard_violated_batch(targets, suns, observers, config, time, n, mask))
+    int64(solar_roll::field_of_regard_violated_batch(
+        targets,
+        suns,
+        observers,
+        config,
+        time,
+        n,
+        mask,
+    ))
 }
 
 #[no_mangle]
@@ -160,5 +175,13 @@ pub extern "C" fn wilfnusk_field_of_regard_violated_at_roll(
     ensures { λ r. ⌜ now (mask .exit) ≡ fieldAfter (planOf (now (targets .entry)) (now (suns .entry)) (now (observers .entry)) (settings «tolerance_deg» «has_roll» «roll_deg» «panel_x» «panel_y» «panel_z»)) 0 time (atRoll (Sweep «roll_at_deg»)) (now (mask .entry)) ⌝ }
 {
     let config = settings(tolerance_deg, has_roll, roll_deg, panel_x, panel_y, panel_z);
-    int64(solar_roll::field_of_regard_violated_at_roll(targets, suns, observers, config, time, roll_at_deg, mask))
+    int64(solar_roll::field_of_regard_violated_at_roll(
+        targets,
+        suns,
+        observers,
+        config,
+        time,
+        roll_at_deg,
+        mask,
+    ))
 }

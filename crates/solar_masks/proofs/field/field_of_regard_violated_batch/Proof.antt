@@ -1,5 +1,5 @@
 use Prim.Native.Nat.{ℕ}
-use Rattle.buffers.proofs.Refusal.{answer-refused, answer-accepted, list-refused, list-accepted}
+use Rattle.buffers.proofs.Refusal.{refused-leaves, accepted-leaves}
 use Rattle.buffers.specs.Lent.{filled}
 use Rattle.solar_masks.proofs.Calls.{few-samples, field-sampling, field-room}
 use Rattle.solar_masks.specs.Field.{fieldRefusal, fieldReply, fieldAfter}
@@ -33,7 +33,7 @@ returns : tie.Need-returns
 unfolding fieldReply fieldAfter
 returns c =
     let k = c .before .field-refusal .result in
-    (answer-refused k _ 0 (refusal (c .before)) (c .if1 .taken), list-refused k _ _ _ (refusal (c .before)) (c .if1 .taken))
+    refused-leaves k _ 0 _ _ (refusal (c .before)) (c .if1 .taken)
 
 at-every-roll-requires : tie.Need-at-every-roll-requires
 at-every-roll-requires c κs = few-samples _ (field-sampling (plan (c .before)) _ _ _ (sym (refusal (c .before)) ∙ c .if1 .left))
@@ -52,7 +52,7 @@ returns-2 c =
     let p = plan (i .before) in
     let a = Start-of (i .before) .args in
     let w = c .before .before .mark-column .ensures ∙ ap (λ (rule : MarkRule). filled (rowsOf p) (λ r. markAt p rule r (a .time)) (now (a .mask))) (c .before .before .before .before .at-every-roll .ensures) in
-    (answer-accepted k _ 0 (refusal (i .before)) (i .if1 .left), list-accepted k _ _ _ _ (refusal (i .before)) (i .if1 .left) w)
+    accepted-leaves k _ 0 _ _ _ (refusal (i .before)) (i .if1 .left) w
 
 pub field-of-regard-violated-batch-spec : {M : Type 1} → statement M
 field-of-regard-violated-batch-spec =

@@ -1,4 +1,4 @@
-use Rattle.buffers.proofs.Refusal.{answer-refused, answer-accepted, list-refused, list-accepted}
+use Rattle.buffers.proofs.Refusal.{refused-leaves, accepted-leaves}
 use Rattle.buffers.specs.Lent.{filled}
 use Rattle.solar_masks.proofs.Calls.{cells-facts, cells-room}
 use Rattle.solar_masks.specs.Mask.{cellMark, cellsRefusal, cellsReply, maskAfter}
@@ -28,7 +28,7 @@ returns : tie.Need-returns
 unfolding cellsReply maskAfter
 returns c =
     let k = c .before .cells-refusal .result in
-    (answer-refused k _ 0 (refusal (c .before)) (c .if1 .taken), list-refused k _ _ _ (refusal (c .before)) (c .if1 .taken))
+    refused-leaves k _ 0 _ _ (refusal (c .before)) (c .if1 .taken)
 
 at-configured-requires : tie.Need-at-configured-requires
 at-configured-requires c κs = search needs
@@ -50,7 +50,7 @@ returns-2 c =
     let p = plan (i .before) in
     let m = now (Start-of (i .before) .args .mask) in
     let w = c .before .before .mark .ensures ∙ ap (λ (rule : MarkRule). filled (cells p) (cellMark p rule) m) (c .before .before .before .before .at-configured .ensures) in
-    (answer-accepted k _ 0 (refusal (i .before)) (i .if1 .left), list-accepted k _ _ _ _ (refusal (i .before)) (i .if1 .left) w)
+    accepted-leaves k _ 0 _ _ _ (refusal (i .before)) (i .if1 .left) w
 
 pub in-constraint-batch-spec : {M : Type 1} → statement M
 in-constraint-batch-spec =

@@ -1,5 +1,5 @@
 use Prim.Native.Nat.{ℕ}
-use Rattle.buffers.proofs.Refusal.{answer-refused, answer-accepted, list-refused, list-accepted}
+use Rattle.buffers.proofs.Refusal.{refused-leaves, accepted-leaves}
 use Rattle.buffers.specs.Lent.{filled}
 use Rattle.solar_masks.proofs.Calls.{few-samples, cells-facts, cells-room, cells-sampling}
 use Rattle.solar_masks.specs.Mask.{cellMark, cellsRefusal, cellsReply, maskAfter}
@@ -32,7 +32,7 @@ returns : tie.Need-returns
 unfolding cellsReply maskAfter
 returns c =
     let k = c .before .cells-refusal .result in
-    (answer-refused k _ 0 (refusal (c .before)) (c .if1 .taken), list-refused k _ _ _ (refusal (c .before)) (c .if1 .taken))
+    refused-leaves k _ 0 _ _ (refusal (c .before)) (c .if1 .taken)
 
 at-every-roll-requires : tie.Need-at-every-roll-requires
 at-every-roll-requires c κs = few-samples _ (cells-sampling (plan (c .before)) _ _ (sym (refusal (c .before)) ∙ c .if1 .left))
@@ -54,7 +54,7 @@ returns-2 c =
     let p = plan (i .before) in
     let m = now (Start-of (i .before) .args .mask) in
     let w = c .before .before .mark .ensures ∙ ap (λ (rule : MarkRule). filled (cells p) (cellMark p rule) m) (c .before .before .before .before .at-every-roll .ensures) in
-    (answer-accepted k _ 0 (refusal (i .before)) (i .if1 .left), list-accepted k _ _ _ _ (refusal (i .before)) (i .if1 .left) w)
+    accepted-leaves k _ 0 _ _ _ (refusal (i .before)) (i .if1 .left) w
 
 pub in-constraint-batch-constrained-at-every-roll-spec : {M : Type 1} → statement M
 in-constraint-batch-constrained-at-every-roll-spec =

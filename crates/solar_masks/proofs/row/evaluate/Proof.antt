@@ -1,10 +1,10 @@
-use Rattle.buffers.proofs.Refusal.{answer-refused, answer-accepted, list-refused, list-accepted}
+use Rattle.buffers.proofs.Refusal.{refused-leaves, accepted-leaves}
 use Rattle.solar_masks.proofs.Calls.{row-room}
 use Rattle.solar_roll.specs.Plan.{Plan, planOf}
 use Rattle.solar_masks.specs.Row.{rowReply, rowMaskAfter, severitiesAfter}
 use borrow.Author.Needs.{needs}
 use denote.Ref.{now}
-use mathlib.Core.Path.{sym, _∙_}
+use mathlib.Core.Path.{refl, sym, _∙_}
 use Rattle.solar_masks.proofs.row.evaluate.Statement.{statement}
 use Rattle.solar_masks.proofs.row.evaluate.Tie as tie
 
@@ -23,7 +23,7 @@ unfolding rowReply rowMaskAfter severitiesAfter
 returns c =
     let k = c .before .row-refusal .result in
     let e = c .before .row-refusal .ensures in
-    (answer-refused k _ 0 e (c .if1 .taken), (list-refused k _ _ _ e (c .if1 .taken), list-refused k _ _ _ e (c .if1 .taken)))
+    (refused-leaves k _ 0 k k e (c .if1 .taken) .0, (refused-leaves k _ 0 _ _ e (c .if1 .taken) .1, refused-leaves k _ 0 _ _ e (c .if1 .taken) .1))
 
 fill-row-requires : tie.Need-fill-row-requires
 fill-row-requires c κs = let i = c .before .before in row-room (plan (i .before)) _ _ _ (sym (i .before .row-refusal .ensures) ∙ i .if1 .left)
@@ -41,7 +41,7 @@ returns-2 c =
     let k = i .before .row-refusal .result in
     let e = i .before .row-refusal .ensures in
     let w = c .before .before .before .before .fill-row .ensures in
-    (answer-accepted k _ 0 e (i .if1 .left), (list-accepted k _ _ _ _ e (i .if1 .left) (w .0), list-accepted k _ _ _ _ e (i .if1 .left) (w .1)))
+    (accepted-leaves k _ 0 k k k e (i .if1 .left) refl .0, (accepted-leaves k _ 0 _ _ _ e (i .if1 .left) (w .0) .1, accepted-leaves k _ 0 _ _ _ e (i .if1 .left) (w .1) .1))
 
 pub evaluate-spec : {M : Type 1} → statement M
 evaluate-spec =

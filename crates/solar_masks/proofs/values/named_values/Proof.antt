@@ -1,4 +1,4 @@
-use Rattle.buffers.proofs.Refusal.{answer-refused, answer-accepted, list-refused, list-accepted}
+use Rattle.buffers.proofs.Refusal.{refused-leaves, accepted-leaves}
 use Rattle.solar_masks.proofs.Calls.{cells-facts, cells-room}
 use Rattle.solar_masks.specs.Mask.{cellsReply, valuesAfter}
 use Rattle.solar_roll.specs.Plan.{Plan, planOf}
@@ -23,7 +23,7 @@ unfolding cellsReply valuesAfter
 returns c =
     let k = c .before .cells-refusal .result in
     let e = c .before .cells-refusal .ensures in
-    (answer-refused k _ 0 e (c .if1 .taken), list-refused k _ _ _ e (c .if1 .taken))
+    refused-leaves k _ 0 _ _ e (c .if1 .taken)
 
 write-values-requires : tie.Need-write-values-requires
 write-values-requires c κs =
@@ -40,7 +40,7 @@ returns-2 c =
     let i = c .before .before .before .before in
     let k = i .before .cells-refusal .result in
     let e = i .before .cells-refusal .ensures in
-    (answer-accepted k _ 0 e (i .if1 .left), list-accepted k _ _ _ _ e (i .if1 .left) (c .before .before .write-values .ensures))
+    accepted-leaves k _ 0 _ _ _ e (i .if1 .left) (c .before .before .write-values .ensures)
 
 pub named-values-spec : {M : Type 1} → statement M
 named-values-spec =
