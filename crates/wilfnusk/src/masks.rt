@@ -5,9 +5,9 @@ use crate::plans::settings;
 ghost use mathlib.Core.Path.{_≡_};
 ghost use lib.ListN.{length};
 ghost use Rattle.solar_roll.specs.Plan.{planOf, samplingOrNone};
-ghost use Rattle.solar_roll.specs.Mask.{atRoll, atConfigured, atEveryRoll, cellsReply, maskAfter, valuesAfter};
-ghost use Rattle.solar_roll.specs.Row.{rowReply, rowMaskAfter, severitiesAfter};
-ghost use Rattle.solar_roll.specs.Field.{fieldReply, fieldAfter};
+ghost use Rattle.solar_masks.specs.Mask.{atRoll, atConfigured, atEveryRoll, cellsReply, maskAfter, valuesAfter};
+ghost use Rattle.solar_masks.specs.Row.{rowReply, rowMaskAfter, severitiesAfter};
+ghost use Rattle.solar_masks.specs.Field.{fieldReply, fieldAfter};
 ghost use Rattle.solar_roll.specs.declared.cell.EvaluationRoll.the-variants.{Sweep};
 ghost use Rattle.wilfnusk.specs.Answers.{int64};
 ghost use Rattle.wilfnusk.specs.Plans.{asked, settings};
@@ -29,7 +29,7 @@ pub extern "C" fn wilfnusk_named_values(
     ensures { λ r. ⌜ now (out .exit) ≡ valuesAfter (planOf (now (targets .entry)) (now (suns .entry)) (now (observers .entry)) (settings «tolerance_deg» «has_roll» «roll_deg» «panel_x» «panel_y» «panel_z»)) (now (out .entry)) ⌝ }
 {
     let config = settings(tolerance_deg, has_roll, roll_deg, panel_x, panel_y, panel_z);
-    int64(solar_roll::named_values(targets, suns, observers, config, out))
+    int64(solar_masks::named_values(targets, suns, observers, config, out))
 }
 
 #[no_mangle]
@@ -49,7 +49,7 @@ pub extern "C" fn wilfnusk_in_constraint_batch(
     ensures { λ r. ⌜ now (mask .exit) ≡ maskAfter (planOf (now (targets .entry)) (now (suns .entry)) (now (observers .entry)) (settings «tolerance_deg» «has_roll» «roll_deg» «panel_x» «panel_y» «panel_z»)) 0 atConfigured (now (mask .entry)) ⌝ }
 {
     let config = settings(tolerance_deg, has_roll, roll_deg, panel_x, panel_y, panel_z);
-    int64(solar_roll::in_constraint_batch(targets, suns, observers, config, mask))
+    int64(solar_masks::in_constraint_batch(targets, suns, observers, config, mask))
 }
 
 #[no_mangle]
@@ -72,7 +72,7 @@ pub extern "C" fn wilfnusk_in_constraint_batch_at_roll(
 {
     let config = settings(tolerance_deg, has_roll, roll_deg, panel_x, panel_y, panel_z);
     let roll = asked(fixed, roll_at_deg);
-    int64(solar_roll::in_constraint_batch_at_roll(targets, suns, observers, config, roll, mask))
+    int64(solar_masks::in_constraint_batch_at_roll(targets, suns, observers, config, roll, mask))
 }
 
 #[no_mangle]
@@ -93,7 +93,7 @@ pub extern "C" fn wilfnusk_constrained_at_every_roll(
     ensures { λ r. ⌜ now (mask .exit) ≡ maskAfter (planOf (now (targets .entry)) (now (suns .entry)) (now (observers .entry)) (settings «tolerance_deg» «has_roll» «roll_deg» «panel_x» «panel_y» «panel_z»)) (samplingOrNone n) (atEveryRoll n) (now (mask .entry)) ⌝ }
 {
     let config = settings(tolerance_deg, has_roll, roll_deg, panel_x, panel_y, panel_z);
-    int64(solar_roll::in_constraint_batch_constrained_at_every_roll(
+    int64(solar_masks::in_constraint_batch_constrained_at_every_roll(
         targets,
         suns,
         observers,
@@ -123,7 +123,7 @@ pub extern "C" fn wilfnusk_evaluate(
     ensures { λ r. ⌜ now (severities .exit) ≡ severitiesAfter (planOf (now (targets .entry)) (now (suns .entry)) (now (observers .entry)) (settings «tolerance_deg» «has_roll» «roll_deg» «panel_x» «panel_y» «panel_z»)) target (now (mask .entry)) (now (severities .entry)) ⌝ }
 {
     let config = settings(tolerance_deg, has_roll, roll_deg, panel_x, panel_y, panel_z);
-    int64(solar_roll::evaluate(targets, suns, observers, config, target, mask, severities))
+    int64(solar_masks::evaluate(targets, suns, observers, config, target, mask, severities))
 }
 
 #[no_mangle]
@@ -145,7 +145,7 @@ pub extern "C" fn wilfnusk_field_of_regard_violated_batch(
     ensures { λ r. ⌜ now (mask .exit) ≡ fieldAfter (planOf (now (targets .entry)) (now (suns .entry)) (now (observers .entry)) (settings «tolerance_deg» «has_roll» «roll_deg» «panel_x» «panel_y» «panel_z»)) (samplingOrNone n) time (atEveryRoll n) (now (mask .entry)) ⌝ }
 {
     let config = settings(tolerance_deg, has_roll, roll_deg, panel_x, panel_y, panel_z);
-    int64(solar_roll::field_of_regard_violated_batch(
+    int64(solar_masks::field_of_regard_violated_batch(
         targets,
         suns,
         observers,
@@ -175,7 +175,7 @@ pub extern "C" fn wilfnusk_field_of_regard_violated_at_roll(
     ensures { λ r. ⌜ now (mask .exit) ≡ fieldAfter (planOf (now (targets .entry)) (now (suns .entry)) (now (observers .entry)) (settings «tolerance_deg» «has_roll» «roll_deg» «panel_x» «panel_y» «panel_z»)) 0 time (atRoll (Sweep «roll_at_deg»)) (now (mask .entry)) ⌝ }
 {
     let config = settings(tolerance_deg, has_roll, roll_deg, panel_x, panel_y, panel_z);
-    int64(solar_roll::field_of_regard_violated_at_roll(
+    int64(solar_masks::field_of_regard_violated_at_roll(
         targets,
         suns,
         observers,
