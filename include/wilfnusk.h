@@ -4,8 +4,9 @@
  * Which targets a satellite may look at, at which times, and how far it may roll before its solar panel turns from the Sun; a roll sweep
  * that can be cut off at any byte of its journal and taken up again; and the windows that follow from it.
  *
- * Link libwilfnusk.a (`rt staticlib wilfnusk` writes it to target/staticlib/). It needs nothing else: no C library, no allocation, no
- * global state, no input or output. Any number of threads may call it at the same time.
+ * Link libwilfnusk.a (`rt staticlib wilfnusk` writes it to target/staticlib/) and the C library's mathematics (-lm). It allocates nothing,
+ * has no global state, reads and writes nothing but what it is lent, and always returns; a call needs up to 256 KiB of stack. Any number
+ * of threads may call it at the same time.
  *
  *
  * ANSWERS
@@ -189,16 +190,9 @@ int64_t wilfnusk_collect(WILFNUSK_PLAN, uint64_t n, const uint8_t *journal, size
 
 /* ---- Windows --------------------------------------------------------------------------------------------------------------------- */
 
-/* A window is a run of samples of one row: a part of a mask, one target's cells, with the samples' times in nanoseconds. A window's flag
- * is 1 if it ends with the final sample, where the data ended; else 0. */
-typedef struct wilfnusk_window {
-    uint64_t first;      /* sample numbers, from 0 */
-    uint64_t last;
-    int64_t first_time;  /* the times of these samples */
-    int64_t last_time;
-    double severity;
-    uint64_t is_last;    /* the flag */
-} wilfnusk_window;
+/* A window is a run of samples of one row: a part of a mask, one target's cells, with the samples' times in nanoseconds. The listings write six
+ * columns: first and last sample number, their times, severity, and a flag: 1 if the window ends with the final sample, where the data
+ * ended; else 0. */
 
 /* Lists the longest runs of marked samples, in order. A window's severity is the largest of its samples'. A row of s samples has at most
  * (s + 1) / 2 of them. Answers their number.
@@ -216,12 +210,6 @@ int64_t wilfnusk_visibility_windows(const uint8_t *mask, size_t mask_len, const 
                                     size_t first_len, uint64_t *last, size_t last_len, int64_t *first_time, size_t first_time_len,
                                     int64_t *last_time, size_t last_time_len, double *severity, size_t severity_len, uint8_t *is_last,
                                     size_t is_last_len);
-
-/* The same two lists as records. They refuse the same. */
-int64_t wilfnusk_violation_records(const uint8_t *mask, size_t mask_len, const int64_t *times, size_t times_len,
-                                   const double *severities, size_t severities_len, wilfnusk_window *out, size_t out_len);
-int64_t wilfnusk_visibility_records(const uint8_t *mask, size_t mask_len, const int64_t *times, size_t times_len, wilfnusk_window *out,
-                                    size_t out_len);
 
 /* Marks the samples whose times lie in a window, ends included. Answers 0. For windows from wilfnusk_violation_windows and strictly
  * increasing times this gives the mask back. If times never fall, windows that ended before a sample are passed for good; if they do

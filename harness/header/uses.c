@@ -26,13 +26,11 @@ int main(void)
     const uint8_t row[5] = {0, 1, 0, 1, 1};
     const int64_t times[5] = {0, 10, 20, 30, 40};
     const double severities[5] = {0, 1.5, 0, 2, 3};
-    wilfnusk_window windows[3];
     uint8_t expanded[5];
 
     memcpy(&bits, &root, 8);
     expect(bits == 0x3ff6a09e667f3bcdULL, "root of 2");
     expect(wilfnusk_circular_diff_deg(350, 10) == 20, "difference of 350 and 10");
-    expect(sizeof(wilfnusk_window) == 48, "a record of 48 bytes");
 
     expect(wilfnusk_cell(1, 0, 0, 1, 0, 0, 0, 0, 0, 0, 1, 0, &roll) == 0 && roll == -1, "Sun on the boresight: Free, roll unwritten");
     expect(wilfnusk_cell(1, 0, 0, 0, 0, 1, 0, 0, 0, 0, 1, 0, &roll) == 1 && roll == 90, "Sun [0,0,1]: At 90");
@@ -55,10 +53,6 @@ int main(void)
            "two violation windows");
     expect(first[1] == 3 && last[1] == 4 && first_time[1] == 30 && last_time[1] == 40 && severity[1] == 3 && flags[1] == 1,
            "the second: 3-4, last");
-    expect(wilfnusk_visibility_records(row, 5, times, 5, windows, 3) == 0, "no visibility window");
-    expect(wilfnusk_violation_records(row, 5, times, 5, severities, 5, windows, 1) == -7, "one place for two records");
-    expect(wilfnusk_violation_records(row, 5, times, 5, severities, 5, windows, 3) == 2 && windows[0].first == 1 && windows[0].is_last == 0,
-           "two records");
     expect(wilfnusk_expand(first_time, 2, last_time, 2, times, 5, expanded, 5) == 0 && memcmp(expanded, row, 5) == 0, "expansion");
     expect(wilfnusk_total_violation_duration(first_time, 2, last_time, 2, severity) == 0 && severity[0] == 0, "seconds");
     return failed;

@@ -22,7 +22,6 @@ mod refusal;
 pub mod sys;
 
 pub use refusal::{Call, Refusal};
-pub use sys::Window;
 
 /// Bytes of a journal's header, and of each line after it.
 pub const HEADER_BYTES: u64 = 107;
@@ -202,27 +201,6 @@ pub fn visibility_windows(mask: &[u8], times: &[i64], out: Columns) -> Result<u6
             out.is_last.as_mut_ptr(),
             out.is_last.len(),
         )
-    })
-}
-/// `violation_windows` into records.
-pub fn violation_records(mask: &[u8], times: &[i64], severities: &[f64], out: &mut [Window]) -> Result<u64, Refusal> {
-    accepted(Call::Windows, unsafe {
-        sys::wilfnusk_violation_records(
-            mask.as_ptr(),
-            mask.len(),
-            times.as_ptr(),
-            times.len(),
-            severities.as_ptr(),
-            severities.len(),
-            out.as_mut_ptr(),
-            out.len(),
-        )
-    })
-}
-/// `visibility_windows` into records.
-pub fn visibility_records(mask: &[u8], times: &[i64], out: &mut [Window]) -> Result<u64, Refusal> {
-    accepted(Call::Windows, unsafe {
-        sys::wilfnusk_visibility_records(mask.as_ptr(), mask.len(), times.as_ptr(), times.len(), out.as_mut_ptr(), out.len())
     })
 }
 /// Marks the samples whose times lie in a window. With repeated or reordered times this is not always the way back from a listing.

@@ -1,21 +1,6 @@
 //! The C names as include/wilfnusk.h documents them.
 use std::os::raw::c_double;
 
-/// A window record, as the calls for records write it.
-#[repr(C)]
-#[derive(Clone, Copy, Debug, Default, PartialEq)]
-pub struct Window {
-    /// First and last sample number.
-    pub first: u64,
-    pub last: u64,
-    /// Their times, in nanoseconds.
-    pub first_time: i64,
-    pub last_time: i64,
-    pub severity: f64,
-    /// 1 if the window ends with the final sample because the data ended, else 0.
-    pub is_last: u64,
-}
-
 /// Declares the calls with a plan: the plan's parameters, then the call's own.
 macro_rules! with_plan {
     ($($name:ident($($p:ident: $t:ty),*);)*) => {
@@ -119,23 +104,5 @@ extern "C" {
         last_time: *const i64,
         last_time_len: usize,
         seconds: *mut f64,
-    ) -> i64;
-    pub fn wilfnusk_violation_records(
-        mask: *const u8,
-        mask_len: usize,
-        times: *const i64,
-        times_len: usize,
-        severities: *const f64,
-        severities_len: usize,
-        out: *mut Window,
-        out_len: usize,
-    ) -> i64;
-    pub fn wilfnusk_visibility_records(
-        mask: *const u8,
-        mask_len: usize,
-        times: *const i64,
-        times_len: usize,
-        out: *mut Window,
-        out_len: usize,
     ) -> i64;
 }

@@ -284,11 +284,6 @@ fn of_rows(s: &mut Seeded, t: &mut Tally) {
     t.same("violation windows", columns_of(&Library), columns_of(&Model), &shown);
     let columns_of = |c: &dyn Calls| c.visibility_windows(&mask, &times, columns);
     t.same("visibility windows", columns_of(&Library), columns_of(&Model), &shown);
-    let records = |c: &dyn Calls| c.violation_records(&mask, &times, &severities, places);
-    t.same("violation windows", records(&Library), records(&Model), &shown);
-    let records = |c: &dyn Calls| c.visibility_records(&mask, &times, places);
-    t.same("visibility windows", records(&Library), records(&Model), &shown);
-
     let (mut first, mut last) = rows::windows(s, &times, 6);
     if s.once_in(1500) {
         first.resize(65_537, 0);

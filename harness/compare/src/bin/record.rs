@@ -1,25 +1,24 @@
 //! Writes a sample of the customer's Rust's answers for the program `replay`: `record FOLDER`, one file a section of document 01, and the
 //! answers for targets that are no unit vectors in a file of their own. The seeds stand here, so the files are the same on every run.
+//! (Section 1's roots and arctangents are the program `vectors`'s.)
 //!
 //! A line is a record: words of hexadecimal digits, the first its kind. A float is its bits (every NaN 7ff8000000000000), a time its 64 bits, a
 //! mask 64 samples a word, the first lowest.
 use cases::plans::{for_roll, for_sweep, plan, roll, samples, Targets};
 use cases::{rows, Seeded};
-use model::arithmetic::{arctangent, bits};
+use model::arithmetic::bits;
 use model::windows::Window;
 use model::{Plan, Roll};
 use oracle::Oracle;
 use std::{env, fs, path::Path};
 
-const ROOT: u64 = 1; // x, root
-const ARCTANGENT: u64 = 2; // y, z, angle
-const DIFFERENCE: u64 = 3; // a, b, difference
-                           // The next three begin with a plan: rows, times, tolerance, configured (0 or 1), roll, panel, targets, suns, observers.
-const ROLLS: u64 = 4; // mask of the cells that are not Free, named values; mask of the batch; roll, mask as Sweep; roll, mask as Fixed; target, mask, severities
-const SWEEP: u64 = 5; // n, mask, probes of each chunk
-const OTHERS: u64 = 6; // n, mask at every roll; time, mask of the targets; roll, mask of the targets at it
-const WINDOWS: u64 = 7; // samples, mask, times, severities; violation windows, visibility windows: each a count, then six words a window
-const EXPAND: u64 = 8; // windows, samples, first times, last times, times; mask, seconds
+const DIFFERENCE: u64 = 1; // a, b, difference
+// The next three begin with a plan: rows, times, tolerance, configured (0 or 1), roll, panel, targets, suns, observers.
+const ROLLS: u64 = 2; // mask of the cells that are not Free, named values; mask of the batch; roll, mask as Sweep; roll, mask as Fixed; target, mask, severities
+const SWEEP: u64 = 3; // n, mask, probes
+const OTHERS: u64 = 4; // n, mask at every roll; time, mask of the targets; roll, mask of the targets at it
+const WINDOWS: u64 = 5; // samples, mask, times, severities; violation windows, visibility windows: each a count, then six words a window
+const EXPAND: u64 = 6; // windows, samples, first times, last times, times; mask, seconds
 
 #[derive(Default)]
 struct File(String);
@@ -40,33 +39,6 @@ fn times(list: &[i64]) -> Vec<u64> {
 }
 fn mask(bytes: &[u8]) -> Vec<u64> {
     bytes.chunks(64).map(|word| word.iter().enumerate().map(|(k, &b)| (b as u64) << k).sum()).collect()
-}
-
-fn section_1() -> File {
-    let (mut f, mut s) = (File::default(), Seeded::new(11));
-    let special =
-        [0, 1, 3, 1 << 52, (1 << 52) - 1, 0x3ff0 << 48, 0x4000 << 48, 0x4010 << 48, 0x7fef_ffff_ffff_ffff, 0x7ff0 << 48, 0x7ff8 << 48];
-    for b in special {
-        for sign in [0, 1 << 63] {
-            let x = f64::from_bits(b | sign);
-            f.line(ROOT, &[&floats(&[x, x.sqrt()])]);
-            let z = f64::from_bits(special[s.index(special.len())] | s.below(2) << 63);
-            f.line(ARCTANGENT, &[&floats(&[x, z, arctangent(x, z)])]);
-        }
-    }
-    for k in 0..150 {
-        let exact = (s.below(1 << 20) + 1) as f64;
-        let x = match k % 3 {
-            0 => f64::from_bits(s.below(0x7ff0 << 48)),
-            1 => f64::from_bits((exact * exact).to_bits() + s.below(3) - 1),
-            _ => f64::from_bits(s.bits() >> s.within(12, 60)),
-        };
-        f.line(ROOT, &[&floats(&[x, x.sqrt()])]);
-        let (y, z) = (s.between(-1.0, 1.0), s.between(-1.0, 1.0));
-        let y = if k % 5 == 0 { z } else { y };
-        f.line(ARCTANGENT, &[&floats(&[y, z, arctangent(y, z)])]);
-    }
-    f
 }
 
 fn words(p: &Plan) -> Vec<u64> {
@@ -104,8 +76,7 @@ fn sweeps(f: &mut File, s: &mut Seeded, targets: Targets) {
     let n = samples(s);
     for_sweep(s, &mut p, n);
     let (marks, tried) = original(&p).sweep(n);
-    let probes: Vec<u64> = tried.chunks(64).map(|chunk| chunk.iter().sum()).collect();
-    f.line(SWEEP, &[&words(&p), &[n], &mask(&marks), &probes]);
+    f.line(SWEEP, &[&words(&p), &[n], &mask(&marks), &[tried.iter().sum()]]);
 }
 
 /// Section 6.
@@ -174,7 +145,6 @@ fn any_targets() -> File {
 fn main() {
     let folder = env::args().nth(1).expect("record FOLDER");
     for (name, file) in [
-        ("section-1", section_1()),
         ("section-2", section_2()),
         ("section-3", many(13, 80, Targets::Unit, sweeps)),
         ("section-5", section_5()),
