@@ -290,7 +290,11 @@ fn refusals() {
     two(2, 1, 0, 1, 0.0, 0.0);
     two(2, 1, 0, 4_000_000_000_000_000_001, 0.0, 0.0);
     text(b"four violation windows, three places:\n");
-    both(&[1, 0, 1, 0, 1, 0, 1], &[11, 12, 13, 14, 15, 16, 17], &[0.0; 7]);
+    both(
+        &[1, 0, 1, 0, 1, 0, 1],
+        &[11, 12, 13, 14, 15, 16, 17],
+        &[0.0; 7],
+    );
 }
 
 // The mask of five times, and a sixth place that stays.
