@@ -1,20 +1,20 @@
 -- The refusals of the calls, condition by condition, and what a call answers and leaves by them. Assumes nothing.
-use mathlib.Core.Path.{_≡_, refl, sym, ap, ap₂, _∙_}
-use mathlib.Core.Bool.{Bool, true, false, not, _&&_}
+use mathlib.Core.Path.{_≡_, sym, ap, ap₂, _∙_}
+use mathlib.Core.Bool.{Bool, true, false, not}
 use mathlib.Core.List.{List, [], _∷_}
-use Prim.Native.Nat.{ℕ, _+_, _*_, _≤_, _<_}
+use Prim.Native.Nat.{ℕ, _+_, _≤_, _<_}
 use native.Mathlib.Omega.{arith}
-use lib.Dec.{ltb, leb, eqb}
+use lib.Dec.{ltb, leb}
 use lib.ListN.{length}
 use borrow.Author.Tests.{lt-ltb, le-ltb, le-leb, lt-leb, eq-eqb, ne-eqb, leb-false, ltb-false}
 use Rattle.buffers.specs.Lent.{filled, put}
-use Rattle.buffers.specs.Refusal.{Conditions, first, carried, Reply, refused, accepted, reply, unlessRefused}
+use Rattle.buffers.specs.Refusal.{first, carried, refused, accepted, reply, unlessRefused}
 use Rattle.buffers.proofs.Refusal.{first-clear, carried-clear, reply-none, reply-some, written-none, written-some}
 use Rattle.roll_sweep.specs.Sweep.{Sweep, cells, chunks, chunkMask, chunkProbes}
 use Rattle.journal.specs.Lines.{lineText, lineOf, hasChunk, hasChunks, heldProbes}
 use Rattle.journal.specs.Right.{wholeLines, torn, right}
 use Rattle.journal.specs.Pass.{Passed}
-use Rattle.journal.specs.Calls.{planFirst, wrong, beginShort, workShort, collectShort, beginRefusal, beginReply, beginBytes, workRefusal, workReply, workBytes, kept, recoverRefusal, recoverReply, collectRefusal, collectReply, heldBit, collectMask}
+use Rattle.journal.specs.Calls.{wrong, beginShort, workShort, beginRefusal, beginReply, beginBytes, workRefusal, workReply, workBytes, kept, recoverRefusal, recoverReply, collectRefusal, collectReply, heldBit, collectMask}
 
 -- work's chain refuses nothing: neither 9 nor 7 holds
 chain-clear : (k : ℕ) (x y z v w : Bool) → first (carried k ∷ (x, 9) ∷ (y, 11) ∷ (z, 12) ∷ (v, 10) ∷ (w, 7) ∷ []) ≡ 0 → (x ≡ false) × (w ≡ false)

@@ -1,23 +1,23 @@
 -- What the calls ask of the plan's sweep: its refusals, its samples and its header, and what is known once the plan has passed. Assumes nothing.
-use mathlib.Core.Path.{_≡_, refl, sym, ap, ap₂, _∙_}
-use mathlib.Core.Bool.{Bool, true, false, not, cond, _&&_, _||_, false≢true}
-use mathlib.Core.List.{List, [], _∷_, _++_}
-use Prim.Native.Nat.{ℕ, zero, suc, _+_, _*_, _≤_, _<_}
+use mathlib.Core.Path.{_≡_, refl, sym, ap, _∙_}
+use mathlib.Core.Bool.{Bool}
+use mathlib.Core.List.{List}
+use Prim.Native.Nat.{ℕ, _*_, _≤_, _<_}
 use native.Mathlib.Omega.{arith}
-use lib.Dec.{ltb, leb, lit<}
+use lib.Dec.{ltb, lit<}
 use lib.ListN.{length, replicate, length-replicate}
 use lib.Ieee.{Float, binary64, toBits}
 use borrow.Author.Tests.{le-leb, ltb-false}
-use Rattle.buffers.specs.Refusal.{first, carried, reply}
+use Rattle.buffers.specs.Refusal.{reply}
 use Rattle.buffers.proofs.Refusal.{first-clear, carried-clear}
 use Rattle.buffers.specs.Lent.{over, put}
 use Rattle.buffers.proofs.Lent.{put-first, over-all}
-use Rattle.buffers.proofs.Tests.{or-right, and-left, and-right}
+use Rattle.buffers.proofs.Tests.{or-right}
 use Rattle.solar_roll.specs.Vectors.{Vector, x, y, z}
 use Rattle.solar_roll.specs.declared.cell.ConfiguredRoll.{ConfiguredRoll}
 use Rattle.solar_roll.specs.Plan.{Plan, rowsOf, timesOf, headTolerance, headConfigured, headPanel, unlikeLengths, samplingOf, planRefusal, PlanFacts}
 use Rattle.solar_roll.proofs.Accepted.{plan-facts}
-use Rattle.roll_sweep.specs.Sweep.{Sweep, cells, chunks}
+use Rattle.roll_sweep.specs.Sweep.{chunks}
 use Rattle.roll_sweep.specs.Rolls.{evenRolls}
 use Rattle.roll_sweep.specs.Chunk.{sweepOver, sweptOf, chunkRefusal, chunkReply}
 use Rattle.roll_sweep.specs.declared.chunk.Swept.{Swept}

@@ -1,20 +1,20 @@
 -- What the pass over a journal's lines asks: a line's test, the lines one by one, and the tables that it fills. Assumes nothing.
-use mathlib.Core.Path.{_≡_, refl, sym, ap, ap₂, _∙_, subst}
-use mathlib.Core.Bool.{Bool, true, false, _&&_, _||_, not, cond, or-false, or-true, false≢true}
+use mathlib.Core.Path.{_≡_, refl, sym, ap, ap₂, _∙_}
+use mathlib.Core.Bool.{Bool, true, false, _&&_, _||_, not, cond, false≢true}
 use mathlib.Core.List.{List}
-use Prim.Native.Nat.{ℕ, zero, suc, _+_, _*_, _/_, _≤_, _<_, min}
+use Prim.Native.Nat.{ℕ, _+_, _*_, _≤_, _<_, min}
 use native.Mathlib.Omega.{arith}
 use native.Mathlib.Numerals.{add-one}
 use lib.ListN.{length, getD, set, replicate, getD-replicate, length-replicate, length-set}
 use lib.Seq.{getD-set-same, getD-set-other}
-use lib.Dec.{leb, ltb, eqb}
+use lib.Dec.{ltb, eqb}
 use borrow.Author.Tests.{ltb-true, eqb-true, eqb-false, not-true}
-use Rattle.buffers.specs.Ranges.{flag, sum, allBelow, anyBelow}
+use Rattle.buffers.specs.Ranges.{flag}
 use Rattle.buffers.proofs.Tests.{and-left, and-right, and-both}
-use Rattle.buffers.proofs.Ranges.{any-zero, any-step, all-zero, all-next, all-stop, all-iff, sum-next, sum-mono, sum-same}
+use Rattle.buffers.proofs.Ranges.{any-step, all-next, all-stop, all-iff, sum-next, sum-mono, sum-same}
 use Rattle.buffers.proofs.Distinct.{distinct-le}
 use Rattle.roll_sweep.specs.Sweep.{chunks}
-use Rattle.journal.specs.Hex.{areDigits, hexValue}
+use Rattle.journal.specs.Hex.{areDigits}
 use Rattle.journal.specs.Lines.{lineStart, chunkAt, maskAt, probesAt, hasChunk, heldMask, heldProbes}
 use Rattle.journal.specs.Right.{wholeLines, agree, possible, lineFits, lineRight, linesRight, right}
 use Rattle.journal.specs.Pass.{lineAt, fits, checkedOf, Tables}

@@ -1,50 +1,37 @@
-use Rattle.journal.proofs.Chains.{wrong-of, collect-11, collect-12, collect-15, collect-7, collect-0, collect-refused, collect-accepted}
-use Rattle.journal.proofs.Scan.{told-wrong, told-right}
-use Rattle.journal.specs.Right.{wholeLines, torn}
-use Rattle.journal.specs.Calls.{wrong, heldBit}
-use Rattle.roll_sweep.specs.Sweep.{Sweep, cells, chunks}
-use Rattle.buffers.specs.Refusal.{replyOf}
-use lib.ListN.{length}
-use Prim.Native.Nat.{ℕ, _+_, _≤_, _<_}
-use native.Mathlib.Omega.{arith}
+-- `journal::accepted::collect_lines` meets its contract. Assumes nothing.
 use mathlib.Core.Bool.{true, false}
-use mathlib.Core.List.{List}
 use mathlib.Core.Path.{_≡_, sym, ap, _∙_}
-use Rattle.journal.proofs.Cells.{all-have-lines, held-bits}
-use Rattle.journal.specs.Lines.{hasChunks}
-use Rattle.buffers.specs.Lent.{filled}
+use Prim.Native.Nat.{ℕ}
+use native.Mathlib.Omega.{arith}
 use borrow.Author.Tests.{not-true, not-false}
 use borrow.Author.Needs.{needs}
+use Rattle.buffers.specs.Refusal.{replyOf}
+use Rattle.buffers.specs.Lent.{filled}
+use Rattle.roll_sweep.specs.Sweep.{Sweep, cells, chunks}
+use Rattle.journal.specs.Right.{wholeLines, torn}
+use Rattle.journal.specs.Calls.{heldBit}
+use Rattle.journal.specs.Lines.{hasChunks}
+use Rattle.journal.proofs.Chains.{wrong-of, collect-11, collect-12, collect-15, collect-7, collect-0, collect-refused, collect-accepted}
+use Rattle.journal.proofs.Scan.{told-wrong, told-right}
+use Rattle.journal.proofs.Cells.{all-have-lines, held-bits}
 use Rattle.journal.proofs.accepted.collect_lines.Statement.{statement}
 use Rattle.journal.proofs.accepted.collect_lines.Tie as tie
-use Rattle.journal.proofs.accepted.collect_lines.Reads as reads
-use Rattle.journal.proofs.accepted.collect_lines.Lts as lts
-use Rattle.journal.proofs.mask.all_seen.Reads as all-seen-reads
-use Rattle.journal.proofs.mask.write_cells.Reads as write-cells-reads
-use Rattle.journal.proofs.pass.check_journal.Reads as check-journal-reads
-use Rattle.journal.proofs.pass.is_torn.Reads as is-torn-reads
 
--- src/accepted.rt:60:90
 slice-aggregate-check-journal : tie.Need-slice-aggregate-check-journal
 slice-aggregate-check-journal c = search needs
 
--- src/accepted.rt:60:101
 slice-aggregate-check-journal-2 : tie.Need-slice-aggregate-check-journal-2
 slice-aggregate-check-journal-2 c = search needs
 
--- src/accepted.rt:60:34
 check-journal-requires : tie.Need-check-journal-requires
 check-journal-requires c κs = search needs
 
--- src/accepted.rt:60:24
 enum-known-probes : tie.Need-enum-known-probes
 enum-known-probes c = search needs
 
--- src/accepted.rt:61:9
 enum-told : tie.Need-enum-told
 enum-told c = search needs
 
--- src/accepted.rt:61:9
 returns : tie.Need-returns
 unfolding replyOf
 returns c =
@@ -54,11 +41,9 @@ returns c =
     λ s p. collect-refused s b (a .used) (a .mask .now) 11 (omega arith) (collect-11 s b (a .used) (a .mask .now) (p .plan)
     (wrong-of s (a .cells) (a .n) (a .header .now) b (a .used) _ p (told-wrong _ _ (sym (c .before .before .before .before .check-journal .ensures .0) ∙ c .enum-told .given .1))))
 
--- src/accepted.rt:63:8
 is-torn-requires : tie.Need-is-torn-requires
 is-torn-requires c κs = search needs
 
--- src/accepted.rt:64:9
 returns-2 : tie.Need-returns-2
 unfolding replyOf
 returns-2 c =
@@ -69,19 +54,15 @@ returns-2 c =
     let tables = c .before .before .before .before .before .before .before .check-journal .ensures .1 (r .0) in
     λ s p. collect-refused s b (a .used) (a .mask .now) 12 (omega arith) (collect-12 s b (a .used) (a .mask .now) (p .plan) (wrong-of s (a .cells) (a .n) (a .header .now) b (a .used) _ p (r .0)) (sym (c .before .is-torn .ensures) ∙ c .if1 .taken))
 
--- src/accepted.rt:67:18
 slice-aggregate-all-seen : tie.Need-slice-aggregate-all-seen
 slice-aggregate-all-seen c = search needs
 
--- src/accepted.rt:67:26
 add-all-seen : tie.Need-add-all-seen
 add-all-seen c = search needs
 
--- src/accepted.rt:67:9
 all-seen-requires : tie.Need-all-seen-requires
 all-seen-requires c κs = search needs
 
--- src/accepted.rt:68:9
 returns-3 : tie.Need-returns-3
 unfolding replyOf chunks
 returns-3 c =
@@ -97,7 +78,6 @@ returns-3 c =
     λ s e. ap (λ (k : ℕ). hasChunks b (wholeLines (a .used)) (chunks k)) e ∙ v in
     λ s p. collect-refused s b (a .used) (a .mask .now) 15 (omega arith) (collect-15 s b (a .used) (a .mask .now) (p .plan) (wrong-of s (a .cells) (a .n) (a .header .now) b (a .used) _ p (r .0)) m (has s (p .all)))
 
--- src/accepted.rt:71:9
 returns-4 : tie.Need-returns-4
 unfolding replyOf chunks
 returns-4 c =
@@ -113,19 +93,15 @@ returns-4 c =
     λ s e. ap (λ (k : ℕ). hasChunks b (wholeLines (a .used)) (chunks k)) e ∙ v in
     λ s p. collect-refused s b (a .used) (a .mask .now) 7 (omega arith) (collect-7 s b (a .used) (a .mask .now) (p .plan) (wrong-of s (a .cells) (a .n) (a .header .now) b (a .used) _ p (r .0)) m (has s (p .all)) (omega (arith, c .if3 .taken, p .all)))
 
--- src/accepted.rt:73:30
 slice-aggregate-write-cells : tie.Need-slice-aggregate-write-cells
 slice-aggregate-write-cells c = search needs
 
--- src/accepted.rt:73:5
 write-cells-requires : tie.Need-write-cells-requires
 write-cells-requires c κs = search needs
 
--- src/accepted.rt:54:1
 same-length : tie.Need-same-length
 same-length c = search needs
 
--- src/accepted.rt:54:1
 returns-5 : tie.Need-returns-5
 unfolding replyOf chunks heldBit
 returns-5 c =

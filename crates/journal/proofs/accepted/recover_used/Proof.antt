@@ -1,48 +1,32 @@
+-- `journal::accepted::recover_used` meets its contract. Assumes nothing.
+use mathlib.Core.Path.{sym, _∙_}
+use native.Mathlib.Omega.{arith}
+use borrow.Author.Needs.{needs}
+use Rattle.buffers.specs.Refusal.{replyOf}
+use Rattle.roll_sweep.specs.Sweep.{cells}
 use Rattle.journal.proofs.Chains.{wrong-of, recover-11, recover-0, recover-refused, recover-accepted}
 use Rattle.journal.proofs.Scan.{told-wrong, told-right}
-use Rattle.journal.specs.Right.{wholeLines, torn}
-use Rattle.journal.specs.Calls.{wrong, heldBit}
-use Rattle.roll_sweep.specs.Sweep.{Sweep, cells, chunks}
-use Rattle.buffers.specs.Refusal.{replyOf}
-use lib.ListN.{length}
-use Prim.Native.Nat.{ℕ, _+_, _≤_, _<_}
-use native.Mathlib.Omega.{arith}
-use mathlib.Core.Bool.{true, false}
-use mathlib.Core.List.{List}
-use mathlib.Core.Path.{_≡_, sym, ap, _∙_}
-use borrow.Author.Needs.{needs}
 use Rattle.journal.proofs.accepted.recover_used.Statement.{statement}
 use Rattle.journal.proofs.accepted.recover_used.Tie as tie
-use Rattle.journal.proofs.accepted.recover_used.Reads as reads
-use Rattle.journal.proofs.accepted.recover_used.Lts as lts
-use Rattle.journal.proofs.pass.check_journal.Reads as check-journal-reads
-use Rattle.journal.proofs.pass.kept_length.Reads as kept-length-reads
 
--- src/accepted.rt:47:67
 slice-aggregate-check-journal : tie.Need-slice-aggregate-check-journal
 slice-aggregate-check-journal c = search needs
 
--- src/accepted.rt:47:78
 slice-aggregate-check-journal-2 : tie.Need-slice-aggregate-check-journal-2
 slice-aggregate-check-journal-2 c = search needs
 
--- src/accepted.rt:47:11
 check-journal-requires : tie.Need-check-journal-requires
 check-journal-requires c κs = search needs
 
--- src/accepted.rt:48:59
 enum-told : tie.Need-enum-told
 enum-told c = search needs
 
--- src/accepted.rt:48:47
 kept-length-requires : tie.Need-kept-length-requires
 kept-length-requires c κs = search needs
 
--- src/accepted.rt:49:27
 enum-told-2 : tie.Need-enum-told-2
 enum-told-2 c = search needs
 
--- src/accepted.rt:41:1
 returns : tie.Need-returns
 unfolding replyOf
 returns c =
@@ -53,7 +37,6 @@ returns c =
     let tables = c .before .before .before .before .before .check-journal .ensures .1 (r .0) in
     λ s p. recover-accepted s b (a .used) _ (c .kept-length .ensures) (recover-0 s b (a .used) (p .plan) (wrong-of s (a .cells) (a .n) (a .header .now) b (a .used) _ p (r .0)))
 
--- src/accepted.rt:41:1
 returns-2 : tie.Need-returns-2
 unfolding replyOf
 returns-2 c =

@@ -1,30 +1,19 @@
+-- `journal::accepted::work_refusal` meets its contract. Assumes nothing.
+use mathlib.Core.Bool.{false}
+use mathlib.Core.Path.{_≡_, sym, _∙_}
+use Prim.Native.Nat.{_<_}
+use native.Mathlib.Omega.{arith}
+use borrow.Author.Needs.{needs}
+use Rattle.roll_sweep.specs.Sweep.{Sweep, cells, chunks}
+use Rattle.journal.specs.Right.{wholeLines, torn}
 use Rattle.journal.proofs.Chains.{wrong-of, work-9, work-11, work-12, work-10, work-7, work-0}
 use Rattle.journal.proofs.Scan.{told-wrong, told-right, has-line, unseen}
-use Rattle.journal.specs.Right.{wholeLines, torn}
-use Rattle.journal.specs.Calls.{wrong, heldBit}
-use Rattle.roll_sweep.specs.Sweep.{Sweep, cells, chunks}
-use Rattle.buffers.specs.Refusal.{replyOf}
-use lib.ListN.{length}
-use Prim.Native.Nat.{ℕ, _+_, _≤_, _<_}
-use native.Mathlib.Omega.{arith}
-use mathlib.Core.Bool.{true, false}
-use mathlib.Core.List.{List}
-use mathlib.Core.Path.{_≡_, sym, ap, _∙_}
-use Rattle.journal.specs.Lines.{hasChunk}
-use Rattle.journal.specs.Pass.{Passed}
-use borrow.Author.Needs.{needs}
 use Rattle.journal.proofs.accepted.work_refusal.Statement.{statement}
 use Rattle.journal.proofs.accepted.work_refusal.Tie as tie
-use Rattle.journal.proofs.accepted.work_refusal.Reads as reads
-use Rattle.journal.proofs.accepted.work_refusal.Lts as lts
-use Rattle.journal.proofs.pass.check_journal.Reads as check-journal-reads
-use Rattle.journal.proofs.pass.is_torn.Reads as is-torn-reads
 
--- src/accepted.rt:22:9
 add-if1 : tie.Need-add-if1
 add-if1 c = search needs
 
--- src/accepted.rt:23:9
 returns : tie.Need-returns
 unfolding chunks
 returns c =
@@ -33,26 +22,21 @@ returns c =
     let b = a .journal .now in
     λ s p. sym (work-9 s b (a .used) (a .chunk) (p .plan) (omega (arith, c .if1 .taken, p .all)))
 
--- src/accepted.rt:27:85
 slice-aggregate-check-journal : tie.Need-slice-aggregate-check-journal
 slice-aggregate-check-journal c = search needs
 
--- src/accepted.rt:27:96
 slice-aggregate-check-journal-2 : tie.Need-slice-aggregate-check-journal-2
 slice-aggregate-check-journal-2 c = search needs
 
--- src/accepted.rt:27:29
 check-journal-requires : tie.Need-check-journal-requires
 check-journal-requires c κs = search needs
 
 enum-told : tie.Need-enum-told
 enum-told c = search needs
 
--- src/accepted.rt:28:9
 enum-told-2 : tie.Need-enum-told-2
 enum-told-2 c = search needs
 
--- src/accepted.rt:28:9
 returns-2 : tie.Need-returns-2
 unfolding chunks
 returns-2 c =
@@ -64,11 +48,9 @@ returns-2 c =
     λ s p. sym (work-11 s b (a .used) (a .chunk) (p .plan) (g s (p .all))
     (wrong-of s (a .cells) (a .n) (a .header .now) b (a .used) _ p (told-wrong _ _ (sym (c .before .before .before .before .check-journal .ensures .0) ∙ c .enum-told2 .given .1))))
 
--- src/accepted.rt:30:8
 is-torn-requires : tie.Need-is-torn-requires
 is-torn-requires c κs = search needs
 
--- src/accepted.rt:31:9
 returns-3 : tie.Need-returns-3
 unfolding chunks
 returns-3 c =
@@ -81,11 +63,9 @@ returns-3 c =
     let tables = c .before .before .before .before .before .before .check-journal .ensures .1 (r .0) in
     λ s p. sym (work-12 s b (a .used) (a .chunk) (p .plan) (g s (p .all)) (wrong-of s (a .cells) (a .n) (a .header .now) b (a .used) _ p (r .0)) (sym (c .before .is-torn .ensures) ∙ c .if2 .taken))
 
--- src/accepted.rt:34:8
 array-read-if3 : tie.Need-array-read-if3
 array-read-if3 c = search needs
 
--- src/accepted.rt:35:9
 returns-4 : tie.Need-returns-4
 unfolding chunks
 returns-4 c =
@@ -100,11 +80,9 @@ returns-4 c =
     λ s p. sym (work-10 s b (a .used) (a .chunk) (p .plan) (g s (p .all)) (wrong-of s (a .cells) (a .n) (a .header .now) b (a .used) _ p (r .0)) m
     (has-line b _ _ (wholeLines (a .used)) (a .chunk) tables i (c .if3 .taken)))
 
--- src/accepted.rt:37:8
 sub-if4 : tie.Need-sub-if4
 sub-if4 c = search needs
 
--- src/accepted.rt:18:1
 returns-5 : tie.Need-returns-5
 unfolding chunks
 returns-5 c =
@@ -118,7 +96,6 @@ returns-5 c =
     let m : torn (a .used) ≡ false = sym (c .before .before .before .is-torn .ensures) ∙ c .before .before .if2 .left in
     λ s p. sym (work-7 s b (a .used) (a .chunk) (p .plan) (g s (p .all)) (wrong-of s (a .cells) (a .n) (a .header .now) b (a .used) _ p (r .0)) m (unseen b _ _ (wholeLines (a .used)) (a .chunk) tables i (c .before .if3 .left)) (omega (arith, c .if4 .taken, x .pre .3)))
 
--- src/accepted.rt:18:1
 returns-6 : tie.Need-returns-6
 unfolding chunks
 returns-6 c =

@@ -1,32 +1,25 @@
-use Rattle.journal.proofs.Chains.{begin-plan, begin-13, begin-7, begin-0, begin-refused, begin-accepted}
-use Rattle.journal.proofs.Planned.{refusal-said, header-put}
-use Rattle.journal.specs.Plan.{sweepOf}
-use Rattle.solar_roll.specs.Plan.{Plan, planOf, headTolerance, headConfigured, headPanel}
-use Rattle.roll_sweep.specs.Sweep.{Sweep}
-use Rattle.buffers.specs.Refusal.{replyOf}
+-- `journal::calls::begin` meets its contract. Assumes nothing.
+use mathlib.Core.Path.{_≡_, sym, _∙_}
+use Prim.Native.Nat.{_<_}
+use native.Mathlib.Omega.{arith}
 use lib.Dec.{ltb}
 use lib.ListN.{length}
-use Prim.Native.Nat.{ℕ, _*_, _≤_, _<_}
-use native.Mathlib.Omega.{arith}
-use mathlib.Core.Path.{_≡_, sym, ap, _∙_}
 use borrow.Author.Needs.{needs}
+use Rattle.buffers.specs.Refusal.{replyOf}
+use Rattle.solar_roll.specs.Plan.{Plan, planOf, headTolerance, headConfigured, headPanel}
+use Rattle.roll_sweep.specs.Sweep.{Sweep}
+use Rattle.journal.specs.Plan.{sweepOf}
+use Rattle.journal.proofs.Chains.{begin-plan, begin-13, begin-7, begin-0, begin-refused, begin-accepted}
+use Rattle.journal.proofs.Planned.{refusal-said, header-put}
 use Rattle.journal.proofs.calls.begin.Statement.{statement}
 use Rattle.journal.proofs.calls.begin.Tie as tie
-use Rattle.journal.proofs.calls.begin.Reads as reads
-use Rattle.journal.proofs.calls.begin.Lts as lts
-use Rattle.journal.proofs.header.write_header.Reads as write-header-reads
-use Rattle.solar_roll.proofs.plan_refusal.Reads as plan-refusal-reads
-use Rattle.solar_roll.proofs.sampling.Reads as sampling-reads
 
--- src/calls.rt:42:66
 sampling-requires : tie.Need-sampling-requires
 sampling-requires c κs = search needs
 
--- src/calls.rt:42:9
 plan-refusal-requires : tie.Need-plan-refusal-requires
 plan-refusal-requires c κs = search needs
 
--- src/calls.rt:44:9
 returns : tie.Need-returns
 unfolding replyOf
 returns c =
@@ -40,7 +33,6 @@ returns c =
     let h : 0 < k = omega (arith, c .if1 .taken) in
     begin-refused s b (a .used) k h (begin-plan s b (a .used) k e h)
 
--- src/calls.rt:47:9
 returns-2 : tie.Need-returns-2
 unfolding replyOf
 returns-2 c =
@@ -53,7 +45,6 @@ returns-2 c =
     refusal-said p (a .n) (c .before .before .before .sampling .result) k (ltb (length b) (a .used)) (c .before .before .before .sampling .ensures) (c .before .before .plan-refusal .ensures) in
     begin-refused s b (a .used) 13 (omega arith) (begin-13 s b (a .used) (sym e ∙ c .before .if1 .left) (c .if2 .taken))
 
--- src/calls.rt:50:9
 returns-3 : tie.Need-returns-3
 unfolding replyOf
 returns-3 c =
@@ -66,15 +57,12 @@ returns-3 c =
     refusal-said p (a .n) (c .before .before .before .before .sampling .result) k (ltb (length b) (a .used)) (c .before .before .before .before .sampling .ensures) (c .before .before .before .plan-refusal .ensures) in
     begin-refused s b (a .used) 7 (omega arith) (begin-7 s b (a .used) (sym e ∙ c .before .before .if1 .left) (c .before .if2 .left) (c .if3 .taken))
 
--- src/calls.rt:52:5
 write-header-requires : tie.Need-write-header-requires
 write-header-requires c κs = search needs
 
--- src/calls.rt:37:1
 same-length : tie.Need-same-length
 same-length c = search needs
 
--- src/calls.rt:37:1
 returns-4 : tie.Need-returns-4
 unfolding replyOf headTolerance headConfigured headPanel
 returns-4 c =

@@ -1,33 +1,25 @@
-use Rattle.journal.proofs.Chains.{collect-plan, collect-refused}
-use Rattle.journal.proofs.Planned.{refusal-said, passed, passed-with, length-header-of}
-use Rattle.journal.specs.Plan.{sweepOf}
-use Rattle.solar_roll.specs.Plan.{Plan, planOf, headTolerance, headConfigured, headPanel}
-use Rattle.roll_sweep.specs.Sweep.{Sweep}
-use Rattle.buffers.specs.Refusal.{replyOf}
+-- `journal::calls::collect` meets its contract. Assumes nothing.
+use mathlib.Core.Path.{_≡_, sym, ap, _∙_}
+use Prim.Native.Nat.{_<_}
+use native.Mathlib.Omega.{arith}
 use lib.Dec.{ltb}
 use lib.ListN.{length}
-use Prim.Native.Nat.{ℕ, _*_, _≤_, _<_}
-use native.Mathlib.Omega.{arith}
-use mathlib.Core.Path.{_≡_, sym, ap, _∙_}
 use borrow.Author.Needs.{needs}
+use Rattle.buffers.specs.Refusal.{replyOf}
+use Rattle.solar_roll.specs.Plan.{Plan, planOf, headTolerance, headConfigured, headPanel}
+use Rattle.roll_sweep.specs.Sweep.{Sweep}
+use Rattle.journal.specs.Plan.{sweepOf}
+use Rattle.journal.proofs.Chains.{collect-plan, collect-refused}
+use Rattle.journal.proofs.Planned.{refusal-said, passed, passed-with, length-header-of}
 use Rattle.journal.proofs.calls.collect.Statement.{statement}
 use Rattle.journal.proofs.calls.collect.Tie as tie
-use Rattle.journal.proofs.calls.collect.Reads as reads
-use Rattle.journal.proofs.calls.collect.Lts as lts
-use Rattle.journal.proofs.accepted.collect_lines.Reads as collect-lines-reads
-use Rattle.journal.proofs.header.write_header.Reads as write-header-reads
-use Rattle.solar_roll.proofs.plan_refusal.Reads as plan-refusal-reads
-use Rattle.solar_roll.proofs.sampling.Reads as sampling-reads
 
--- src/calls.rt:102:66
 sampling-requires : tie.Need-sampling-requires
 sampling-requires c κs = search needs
 
--- src/calls.rt:102:9
 plan-refusal-requires : tie.Need-plan-refusal-requires
 plan-refusal-requires c κs = search needs
 
--- src/calls.rt:104:9
 returns : tie.Need-returns
 unfolding replyOf
 returns c =
@@ -41,19 +33,15 @@ returns c =
     let h : 0 < k = omega (arith, c .if1 .taken) in
     collect-refused s b (a .used) (a .mask .now) k h (collect-plan s b (a .used) (a .mask .now) k e h)
 
--- src/calls.rt:109:18
 slice-aggregate-write-header : tie.Need-slice-aggregate-write-header
 slice-aggregate-write-header c = search needs
 
--- src/calls.rt:109:5
 write-header-requires : tie.Need-write-header-requires
 write-header-requires c κs = search needs
 
--- src/calls.rt:110:19
 slice-aggregate-collect-lines : tie.Need-slice-aggregate-collect-lines
 slice-aggregate-collect-lines c = search needs
 
--- src/calls.rt:110:28
 mul-collect-lines : tie.Need-mul-collect-lines
 mul-collect-lines c =
     let a = c .before .before .before .before .before .before .before .before .before .before .before .before .args in
@@ -66,7 +54,6 @@ mul-collect-lines c =
     let q = passed p (a .n) (length b) (a .used) (sym e ∙ c .before .before .before .before .if1 .left) in
     omega (arith, q .facts .few-cells)
 
--- src/calls.rt:110:5
 collect-lines-requires : tie.Need-collect-lines-requires
 unfolding headTolerance headConfigured headPanel sweepOf
 collect-lines-requires c κs =
@@ -83,11 +70,9 @@ collect-lines-requires c κs =
     let o = passed-with p (a .n) b h (a .used) z (c .before .before .before .write-header .ensures) in
     (ap length (sym (o .header)) ∙ length-header-of p (a .n), q .facts .few-cells, q .most, q .used)
 
--- src/calls.rt:98:1
 same-length : tie.Need-same-length
 same-length c = search needs
 
--- src/calls.rt:98:1
 returns-2 : tie.Need-returns-2
 unfolding headTolerance headConfigured headPanel sweepOf
 returns-2 c =

@@ -1,33 +1,25 @@
-use Rattle.journal.proofs.Chains.{recover-plan, recover-refused}
-use Rattle.journal.proofs.Planned.{refusal-said, passed, passed-with, length-header-of}
-use Rattle.journal.specs.Plan.{sweepOf}
-use Rattle.solar_roll.specs.Plan.{Plan, planOf, headTolerance, headConfigured, headPanel}
-use Rattle.roll_sweep.specs.Sweep.{Sweep}
-use Rattle.buffers.specs.Refusal.{replyOf}
+-- `journal::calls::recover` meets its contract. Assumes nothing.
+use mathlib.Core.Path.{_≡_, sym, ap, _∙_}
+use Prim.Native.Nat.{_<_}
+use native.Mathlib.Omega.{arith}
 use lib.Dec.{ltb}
 use lib.ListN.{length}
-use Prim.Native.Nat.{ℕ, _*_, _≤_, _<_}
-use native.Mathlib.Omega.{arith}
-use mathlib.Core.Path.{_≡_, sym, ap, _∙_}
 use borrow.Author.Needs.{needs}
+use Rattle.buffers.specs.Refusal.{replyOf}
+use Rattle.solar_roll.specs.Plan.{Plan, planOf, headTolerance, headConfigured, headPanel}
+use Rattle.roll_sweep.specs.Sweep.{Sweep}
+use Rattle.journal.specs.Plan.{sweepOf}
+use Rattle.journal.proofs.Chains.{recover-plan, recover-refused}
+use Rattle.journal.proofs.Planned.{refusal-said, passed, passed-with, length-header-of}
 use Rattle.journal.proofs.calls.recover.Statement.{statement}
 use Rattle.journal.proofs.calls.recover.Tie as tie
-use Rattle.journal.proofs.calls.recover.Reads as reads
-use Rattle.journal.proofs.calls.recover.Lts as lts
-use Rattle.journal.proofs.accepted.recover_used.Reads as recover-used-reads
-use Rattle.journal.proofs.header.write_header.Reads as write-header-reads
-use Rattle.solar_roll.proofs.plan_refusal.Reads as plan-refusal-reads
-use Rattle.solar_roll.proofs.sampling.Reads as sampling-reads
 
--- src/calls.rt:86:66
 sampling-requires : tie.Need-sampling-requires
 sampling-requires c κs = search needs
 
--- src/calls.rt:86:9
 plan-refusal-requires : tie.Need-plan-refusal-requires
 plan-refusal-requires c κs = search needs
 
--- src/calls.rt:88:9
 returns : tie.Need-returns
 unfolding replyOf
 returns c =
@@ -41,19 +33,15 @@ returns c =
     let h : 0 < k = omega (arith, c .if1 .taken) in
     recover-refused s b (a .used) k h (recover-plan s b (a .used) k e h)
 
--- src/calls.rt:93:18
 slice-aggregate-write-header : tie.Need-slice-aggregate-write-header
 slice-aggregate-write-header c = search needs
 
--- src/calls.rt:93:5
 write-header-requires : tie.Need-write-header-requires
 write-header-requires c κs = search needs
 
--- src/calls.rt:94:18
 slice-aggregate-recover-used : tie.Need-slice-aggregate-recover-used
 slice-aggregate-recover-used c = search needs
 
--- src/calls.rt:94:27
 mul-recover-used : tie.Need-mul-recover-used
 mul-recover-used c =
     let a = c .before .before .before .before .before .before .before .before .before .before .before .args in
@@ -66,7 +54,6 @@ mul-recover-used c =
     let q = passed p (a .n) (length b) (a .used) (sym e ∙ c .before .before .before .before .if1 .left) in
     omega (arith, q .facts .few-cells)
 
--- src/calls.rt:94:5
 recover-used-requires : tie.Need-recover-used-requires
 unfolding headTolerance headConfigured headPanel sweepOf
 recover-used-requires c κs =
@@ -83,7 +70,6 @@ recover-used-requires c κs =
     let o = passed-with p (a .n) b h (a .used) z (c .before .before .write-header .ensures) in
     (ap length (sym (o .header)) ∙ length-header-of p (a .n), q .facts .few-cells, q .most, q .used)
 
--- src/calls.rt:83:1
 returns-2 : tie.Need-returns-2
 unfolding headTolerance headConfigured headPanel sweepOf
 returns-2 c =

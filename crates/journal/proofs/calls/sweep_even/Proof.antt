@@ -1,39 +1,28 @@
-use Rattle.journal.proofs.Planned.{even-swept, even-never}
-use Rattle.journal.specs.Plan.{sweepOf}
-use Rattle.solar_roll.specs.Plan.{Plan, planOf}
-use Rattle.roll_sweep.specs.Rolls.{evenRolls, evenRoll}
-use Rattle.roll_sweep.proofs.Even.{length-even, even-lent}
+-- `journal::calls::sweep_even` meets its contract. Assumes nothing.
+use mathlib.Core.Path.{_≡_, sym, ap, _∙_}
+use native.Mathlib.Omega.{arith}
 use lib.Ieee.{Float, binary64, ofBits}
 use lib.ListN.{length, take, replicate, length-replicate}
-use Prim.Native.Nat.{ℕ, _≤_}
-use native.Mathlib.Omega.{arith}
-use mathlib.Core.List.{List}
-use mathlib.Core.Path.{_≡_, sym, ap, _∙_}
 use borrow.Author.Needs.{needs}
+use Rattle.solar_roll.specs.Plan.{Plan, planOf}
+use Rattle.roll_sweep.specs.Rolls.{evenRolls}
+use Rattle.roll_sweep.proofs.Even.{length-even, even-lent}
+use Rattle.journal.proofs.Planned.{even-swept, even-never}
 use Rattle.journal.proofs.calls.sweep_even.Statement.{statement}
 use Rattle.journal.proofs.calls.sweep_even.Tie as tie
-use Rattle.journal.proofs.calls.sweep_even.Reads as reads
-use Rattle.journal.proofs.calls.sweep_even.Lts as lts
-use Rattle.roll_sweep.proofs.sweep_chunk.Reads as sweep-chunk-reads
-use Rattle.roll_sweep.proofs.even_rolls.Reads as even-rolls-reads
 
--- src/calls.rt:93:16
 cast-even-rolls : tie.Need-cast-even-rolls
 cast-even-rolls c = search needs
 
--- src/calls.rt:93:26
 slice-aggregate-even-rolls : tie.Need-slice-aggregate-even-rolls
 slice-aggregate-even-rolls c = search needs
 
--- src/calls.rt:93:5
 even-rolls-requires : tie.Need-even-rolls-requires
 even-rolls-requires c κs = search needs
 
--- src/calls.rt:95:57
 array-share-prefix-rolls : tie.Need-array-share-prefix-rolls
 array-share-prefix-rolls c = search needs
 
--- src/calls.rt:95:57
 slice-aggregate-sweep-chunk : tie.Need-slice-aggregate-sweep-chunk
 slice-aggregate-sweep-chunk c =
     let x = c .before .before .before .before .before .before .before in
@@ -43,19 +32,15 @@ slice-aggregate-sweep-chunk c =
     ap (take (a .n)) (lent .ensures) ∙ even-lent (a .n) (replicate 3600 (ofBits binary64 0)) (omega (arith, length-replicate {A = Float} 3600 (ofBits binary64 0), x .pre .2)) in
     sym (ap length even ∙ length-even (a .n))
 
--- src/calls.rt:95:11
 sweep-chunk-requires : tie.Need-sweep-chunk-requires
 sweep-chunk-requires c κs = search needs
 
--- src/calls.rt:96:31
 enum-known-swept : tie.Need-enum-known-swept
 enum-known-swept c = search needs
 
--- src/calls.rt:98:36
 enum-told : tie.Need-enum-told
 enum-told c = search needs
 
--- src/calls.rt:88:1
 returns : tie.Need-returns
 returns c =
     let x = c .before .before .before .before .before .before .before .before .before .before .before in
@@ -66,7 +51,6 @@ returns c =
     let p : Plan = planOf (a .targets .now) (a .suns .now) (a .observers .now) (a .config) in
     even-swept p (a .n) (a .chunk) (x .pre .0) (x .pre .1) (x .pre .2) (x .pre .3) _ even _ (c .before .before .before .sweep-chunk .ensures) _ (c .before .swept .given .1)
 
--- src/calls.rt:88:1
 returns-2 : tie.Need-returns-2
 returns-2 c =
     let x = c .before .before .before .before .before .before .before .before .before .before in

@@ -1,39 +1,27 @@
-use Rattle.journal.proofs.Chains.{work-plan, work-clear, work-refused, work-accepted}
-use Rattle.journal.proofs.Planned.{refusal-said, passed, passed-with, length-header-of}
-use Rattle.journal.specs.Plan.{sweepOf}
-use Rattle.solar_roll.specs.Plan.{Plan, planOf, headTolerance, headConfigured, headPanel}
-use Rattle.roll_sweep.specs.Sweep.{Sweep}
-use Rattle.buffers.specs.Refusal.{replyOf}
+-- `journal::calls::work` meets its contract. Assumes nothing.
+use mathlib.Core.Path.{_≡_, sym, ap, _∙_}
+use Prim.Native.Nat.{_<_}
+use native.Mathlib.Omega.{arith}
 use lib.Dec.{ltb}
 use lib.ListN.{length}
-use Prim.Native.Nat.{ℕ, _*_, _≤_, _<_}
-use native.Mathlib.Omega.{arith}
-use mathlib.Core.Path.{_≡_, sym, ap, _∙_}
-use Rattle.journal.specs.Calls.{workRefusal}
-use Rattle.roll_sweep.specs.Sweep.{cells, chunks}
-use Rattle.roll_sweep.specs.declared.chunk.Swept.{Swept}
-use Prim.Native.Nat.{_+_}
 use borrow.Author.Needs.{needs}
+use Rattle.buffers.specs.Refusal.{replyOf}
+use Rattle.solar_roll.specs.Plan.{Plan, planOf, headTolerance, headConfigured, headPanel}
+use Rattle.roll_sweep.specs.Sweep.{Sweep}
+use Rattle.roll_sweep.specs.declared.chunk.Swept.{Swept}
+use Rattle.journal.specs.Plan.{sweepOf}
+use Rattle.journal.specs.Calls.{workRefusal}
+use Rattle.journal.proofs.Chains.{work-plan, work-clear, work-refused, work-accepted}
+use Rattle.journal.proofs.Planned.{refusal-said, passed, passed-with, length-header-of}
 use Rattle.journal.proofs.calls.work.Statement.{statement}
 use Rattle.journal.proofs.calls.work.Tie as tie
-use Rattle.journal.proofs.calls.work.Reads as reads
-use Rattle.journal.proofs.calls.work.Lts as lts
-use Rattle.journal.proofs.accepted.work_refusal.Reads as work-refusal-reads
-use Rattle.journal.proofs.calls.sweep_even.Reads as sweep-even-reads
-use Rattle.journal.proofs.header.write_header.Reads as write-header-reads
-use Rattle.journal.proofs.line.append_line.Reads as append-line-reads
-use Rattle.solar_roll.proofs.plan_refusal.Reads as plan-refusal-reads
-use Rattle.solar_roll.proofs.sampling.Reads as sampling-reads
 
--- src/calls.rt:65:66
 sampling-requires : tie.Need-sampling-requires
 sampling-requires c κs = search needs
 
--- src/calls.rt:65:9
 plan-refusal-requires : tie.Need-plan-refusal-requires
 plan-refusal-requires c κs = search needs
 
--- src/calls.rt:67:9
 returns : tie.Need-returns
 unfolding replyOf
 returns c =
@@ -47,19 +35,15 @@ returns c =
     let h : 0 < k = omega (arith, c .if1 .taken) in
     work-refused s b (a .used) (a .chunk) k h (work-plan s b (a .used) (a .chunk) k e h)
 
--- src/calls.rt:72:18
 slice-aggregate-write-header : tie.Need-slice-aggregate-write-header
 slice-aggregate-write-header c = search needs
 
--- src/calls.rt:72:5
 write-header-requires : tie.Need-write-header-requires
 write-header-requires c κs = search needs
 
--- src/calls.rt:73:32
 slice-aggregate-work-refusal : tie.Need-slice-aggregate-work-refusal
 slice-aggregate-work-refusal c = search needs
 
--- src/calls.rt:73:41
 mul-work-refusal : tie.Need-mul-work-refusal
 mul-work-refusal c =
     let a = c .before .before .before .before .before .before .before .before .before .before .before .args in
@@ -72,7 +56,6 @@ mul-work-refusal c =
     let q = passed p (a .n) (length b) (a .used) (sym e ∙ c .before .before .before .before .if1 .left) in
     omega (arith, q .facts .few-cells)
 
--- src/calls.rt:73:9
 work-refusal-requires : tie.Need-work-refusal-requires
 unfolding headTolerance headConfigured headPanel sweepOf
 work-refusal-requires c κs =
@@ -89,11 +72,9 @@ work-refusal-requires c κs =
     let o = passed-with p (a .n) b h (a .used) z (c .before .before .before .write-header .ensures) in
     (ap length (sym (o .header)) ∙ length-header-of p (a .n), q .facts .few-cells, q .most, q .used)
 
--- src/calls.rt:75:9
 same-length : tie.Need-same-length
 same-length c = search needs
 
--- src/calls.rt:75:9
 returns-2 : tie.Need-returns-2
 unfolding replyOf headTolerance headConfigured headPanel sweepOf
 returns-2 c =
@@ -111,7 +92,6 @@ returns-2 c =
     let g : 0 < c .before .work-refusal .result = omega (arith, c .if2 .taken) in
     work-refused s b (a .used) (a .chunk) (c .before .work-refusal .result) g (sym (c .before .work-refusal .ensures s o))
 
--- src/calls.rt:77:9
 sweep-even-requires : tie.Need-sweep-even-requires
 unfolding headTolerance headConfigured headPanel sweepOf
 sweep-even-requires c κs =
@@ -130,7 +110,6 @@ sweep-even-requires c κs =
     let room = work-clear s b (a .used) (a .chunk) no in
     (q .facts, q .one, q .most, room .0)
 
--- src/calls.rt:78:5
 append-line-requires : tie.Need-append-line-requires
 unfolding headTolerance headConfigured headPanel sweepOf
 append-line-requires c κs =
@@ -149,7 +128,6 @@ append-line-requires c κs =
     let room = work-clear s b (a .used) (a .chunk) no in
     room .1
 
--- src/calls.rt:79:22
 add-t17 : tie.Need-add-t17
 unfolding headTolerance headConfigured headPanel sweepOf
 add-t17 c =
@@ -168,11 +146,9 @@ add-t17 c =
     let room = work-clear s b (a .used) (a .chunk) no in
     omega (arith, room .1, c .before .before .before .before .before .before .before .before .before .before .before .before .before .before .before .before .before .before .before .good .1 .1 .1 .1 .1 .1 .0 .0)
 
--- src/calls.rt:60:1
 same-length-2 : tie.Need-same-length-2
 same-length-2 c = search needs
 
--- src/calls.rt:60:1
 returns-3 : tie.Need-returns-3
 unfolding replyOf headTolerance headConfigured headPanel sweepOf
 returns-3 c =

@@ -1,61 +1,44 @@
-use Rattle.journal.specs.Header.{headerText, settingsHeader}
-use Rattle.buffers.specs.Lent.{over}
+-- `journal::header::write_header` meets its contract. Assumes nothing.
 use mathlib.Core.Path.{_∙_}
 use borrow.Author.Needs.{needs}
+use Rattle.buffers.specs.Lent.{over}
+use Rattle.journal.specs.Header.{headerText, settingsHeader}
 use Rattle.journal.proofs.header.write_header.Statement.{statement}
 use Rattle.journal.proofs.header.write_header.Tie as tie
-use Rattle.journal.proofs.header.write_header.Reads as reads
-use Rattle.journal.proofs.header.write_header.Lts as lts
-use Rattle.float.proofs.bits.Reads as bits-reads
-use Rattle.journal.proofs.header.has_roll.Reads as has-roll-reads
-use Rattle.journal.proofs.header.roll_bits.Reads as roll-bits-reads
-use Rattle.journal.proofs.header.write_numbers.Reads as write-numbers-reads
 
--- src/header.rt:50:9
 bits-requires : tie.Need-bits-requires
 bits-requires c κs = search needs
 
--- src/header.rt:51:9
 has-roll-requires : tie.Need-has-roll-requires
 has-roll-requires c κs = search needs
 
--- src/header.rt:52:9
 roll-bits-requires : tie.Need-roll-bits-requires
 roll-bits-requires c κs = search needs
 
--- src/header.rt:53:18
 array-read-bits : tie.Need-array-read-bits
 array-read-bits c = search needs
 
--- src/header.rt:53:9
 bits-requires-2 : tie.Need-bits-requires-2
 bits-requires-2 c κs = search needs
 
--- src/header.rt:54:18
 array-read-bits-2 : tie.Need-array-read-bits-2
 array-read-bits-2 c = search needs
 
--- src/header.rt:54:9
 bits-requires-3 : tie.Need-bits-requires-3
 bits-requires-3 c κs = search needs
 
--- src/header.rt:55:18
 array-read-bits-3 : tie.Need-array-read-bits-3
 array-read-bits-3 c = search needs
 
--- src/header.rt:55:9
 bits-requires-4 : tie.Need-bits-requires-4
 bits-requires-4 c κs = search needs
 
--- src/header.rt:56:5
 write-numbers-requires : tie.Need-write-numbers-requires
 write-numbers-requires c κs = search needs
 
--- src/header.rt:44:1
 same-length : tie.Need-same-length
 same-length c = search needs
 
--- src/header.rt:44:1
 returns : tie.Need-returns
 unfolding settingsHeader
 returns c =

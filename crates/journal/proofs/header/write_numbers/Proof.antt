@@ -1,28 +1,21 @@
-use Rattle.journal.proofs.Write.{header-written}
+-- `journal::header::write_numbers` meets its contract. Assumes nothing.
 use borrow.Author.Needs.{needs}
+use Rattle.journal.proofs.Write.{header-written}
 use Rattle.journal.proofs.header.write_numbers.Statement.{statement}
 use Rattle.journal.proofs.header.write_numbers.Tie as tie
-use Rattle.journal.proofs.header.write_numbers.Reads as reads
-use Rattle.journal.proofs.header.write_numbers.Lts as lts
-use Rattle.journal.proofs.hex.write_fields.Reads as write-fields-reads
 
--- src/header.rt:14:5
 write-fields-requires : tie.Need-write-fields-requires
 write-fields-requires c κs = search needs
 
--- src/header.rt:15:5
 write-fields-requires-2 : tie.Need-write-fields-requires-2
 write-fields-requires-2 c κs = search needs
 
--- src/header.rt:16:5
 write-fields-requires-3 : tie.Need-write-fields-requires-3
 write-fields-requires-3 c κs = search needs
 
--- src/header.rt:17:5
 slice-write-out : tie.Need-slice-write-out
 slice-write-out c = search needs
 
--- src/header.rt:10:1
 same-length : tie.Need-same-length
 same-length c =
     let s = c .before .before .before .before .before .before .before .before .before .before .before .before .before in
@@ -32,7 +25,6 @@ same-length c =
     (c .before .before .before .before .before .before .write-fields2 .ensures)
     (c .before .before .write-fields3 .ensures)) .1
 
--- src/header.rt:10:1
 returns : tie.Need-returns
 returns c =
     let s = c .before .before .before .before .before .before .before .before .before .before .before .before .before in

@@ -1,23 +1,18 @@
+-- `journal::hex::digit_value` meets its contract. Assumes nothing.
 use borrow.Author.Tests.{lt-ltb, le-ltb}
 use borrow.Author.Needs.{needs}
 use Rattle.journal.proofs.hex.digit_value.Statement.{statement}
 use Rattle.journal.proofs.hex.digit_value.Tie as tie
-use Rattle.journal.proofs.hex.digit_value.Reads as reads
-use Rattle.journal.proofs.hex.digit_value.Lts as lts
 
--- src/lib.rt:11:17
 cast-result : tie.Need-cast-result
 cast-result c = search needs
 
--- src/lib.rt:11:43
 add-result : tie.Need-add-result
 add-result c = search needs
 
--- src/lib.rt:8:1
 returns : tie.Need-returns
 returns c = simp (lt-ltb _ _ (c .if1 .taken))
 
--- src/lib.rt:8:1
 returns-2 : tie.Need-returns-2
 returns-2 c = simp (le-ltb _ _ (c .if1 .left))
 

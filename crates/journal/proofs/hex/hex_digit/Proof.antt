@@ -1,31 +1,24 @@
+-- `journal::hex::hex_digit` meets its contract. Assumes nothing.
 use borrow.Author.Tests.{lt-ltb, le-ltb}
 use borrow.Author.Needs.{needs}
 use Rattle.journal.proofs.hex.hex_digit.Statement.{statement}
 use Rattle.journal.proofs.hex.hex_digit.Tie as tie
-use Rattle.journal.proofs.hex.hex_digit.Reads as reads
-use Rattle.journal.proofs.hex.hex_digit.Lts as lts
 
--- src/lib.rt:168:22
 cast-result : tie.Need-cast-result
 cast-result c = search needs
 
--- src/lib.rt:168:17
 add-result : tie.Need-add-result
 add-result c = search needs
 
--- src/lib.rt:168:44
 cast-result-2 : tie.Need-cast-result-2
 cast-result-2 c = search needs
 
--- src/lib.rt:168:39
 add-result-2 : tie.Need-add-result-2
 add-result-2 c = search needs
 
--- src/lib.rt:164:1
 returns : tie.Need-returns
 returns c = simp (lt-ltb _ _ (c .if1 .taken))
 
--- src/lib.rt:164:1
 returns-2 : tie.Need-returns-2
 returns-2 c = simp (le-ltb _ _ (c .if1 .left))
 

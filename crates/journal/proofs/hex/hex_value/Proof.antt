@@ -1,17 +1,12 @@
-use Prim.Native.Nat.{_+_}
-use lib.ListN.{getD}
-use mathlib.Core.Path.{_∙_, ap}
-use Rattle.journal.proofs.Text.{value-step, value-fits, digit-lt}
-use Rattle.journal.specs.Hex.{hexValue, digitValue}
-use borrow.Author.Needs.{needs}
+-- `journal::hex::hex_value` meets its contract. Assumes nothing.
+use mathlib.Core.Path.{_∙_, ap, _≡_, refl}
+use Prim.Native.Nat.{_+_, _≤_, _-_}
 use native.Mathlib.Omega.{arith}
-use Prim.Native.Nat.{_≤_, _-_}
-use mathlib.Core.Path.{_≡_, refl}
+use lib.ListN.{getD}
+use Rattle.journal.specs.Hex.{hexValue}
+use Rattle.journal.proofs.Text.{value-step, value-fits, digit-lt}
 use Rattle.journal.proofs.hex.hex_value.Statement.{statement}
 use Rattle.journal.proofs.hex.hex_value.Tie as tie
-use Rattle.journal.proofs.hex.hex_value.Reads as reads
-use Rattle.journal.proofs.hex.hex_value.Lts as lts
-use Rattle.journal.proofs.hex.digit_value.Reads as digit-value-reads
 
 abbrev Inv-loop : tie.InvT-loop
 Inv-loop b i w v₀ j₀ v j = (j ≤ w) × (v ≡ hexValue b i j)
@@ -19,28 +14,22 @@ Inv-loop b i w v₀ j₀ v j = (j ≤ w) × (v ≡ hexValue b i j)
 abbrev μ-loop : tie.MeasureT-loop
 μ-loop b i w v₀ j₀ v j = w - j
 
--- src/lib.rt:37:5
 loop-holds : tie.Need-loop-holds Inv-loop μ-loop
 unfolding hexValue
 loop-holds c = (omega arith, refl)
 
--- src/lib.rt:38:13
 mul-v : tie.Need-mul-v Inv-loop μ-loop
 mul-v c = omega (arith, value-fits (c .before .before .before .args .b .now) (c .before .before .before .args .i) (c .before .loop .j) (omega arith))
 
--- src/lib.rt:38:36
 add-digit-value : tie.Need-add-digit-value Inv-loop μ-loop
 add-digit-value c = omega arith
 
--- src/lib.rt:38:34
 shared-slice-read-digit-value : tie.Need-shared-slice-read-digit-value Inv-loop μ-loop
 shared-slice-read-digit-value c = omega arith
 
--- src/lib.rt:38:22
 digit-value-requires : tie.Need-digit-value-requires Inv-loop μ-loop
 digit-value-requires c κs = tt
 
--- src/lib.rt:38:13
 add-v : tie.Need-add-v Inv-loop μ-loop
 add-v c =
     let b = c .before .before .before .before .before .args .b .now in
@@ -48,22 +37,18 @@ add-v c =
     let j = c .before .before .before .loop .j in
     omega (arith, value-fits b i j (omega arith), digit-lt (getD b (i + j) 0), c .digit-value .ensures)
 
--- src/lib.rt:39:9
 add-j : tie.Need-add-j Inv-loop μ-loop
 add-j c = omega arith
 
--- src/lib.rt:37:5
 loop-less : tie.Need-loop-less Inv-loop μ-loop
 loop-less c = omega arith
 
--- src/lib.rt:37:5
 loop-again : tie.Need-loop-again Inv-loop μ-loop
 loop-again c = (
   omega arith,
   cc (value-step (c .before .before .before .before .before .args .b .now) (c .before .before .before .before .before .args .i) (c .before .before .before .loop .j)),
 )
 
--- src/lib.rt:31:1
 returns : tie.Need-returns Inv-loop μ-loop
 returns c =
     let e : c .before .loop .j ≡ c .before .before .before .args .w = omega arith in

@@ -1,23 +1,18 @@
-use borrow.Author.Tests.{lt-leb, le-leb}
+-- `journal::hex::is_digit` meets its contract. Assumes nothing.
 use native.Mathlib.Omega.{arith}
+use borrow.Author.Tests.{lt-leb, le-leb}
 use Rattle.journal.proofs.hex.is_digit.Statement.{statement}
 use Rattle.journal.proofs.hex.is_digit.Tie as tie
-use Rattle.journal.proofs.hex.is_digit.Reads as reads
-use Rattle.journal.proofs.hex.is_digit.Lts as lts
 
--- src/lib.rt:19:9
 returns : tie.Need-returns
 returns c = simp (lt-leb 48 (c .before .args .x) (omega arith), lt-leb 97 (c .before .args .x) (omega arith))
 
--- src/lib.rt:22:9
 returns-2 : tie.Need-returns-2
 returns-2 c = simp (le-leb 48 (c .before .before .args .x) (omega arith), le-leb (c .before .before .args .x) 57 (omega arith))
 
--- src/lib.rt:25:9
 returns-3 : tie.Need-returns-3
 returns-3 c = simp (le-leb 48 (c .before .before .before .args .x) (omega arith), lt-leb (c .before .before .before .args .x) 57 (omega arith), lt-leb 97 (c .before .before .before .args .x) (omega arith))
 
--- src/lib.rt:15:1
 returns-4 : tie.Need-returns-4
 returns-4 c = simp (le-leb 48 (c .before .before .before .args .x) (omega arith), lt-leb (c .before .before .before .args .x) 57 (omega arith), le-leb 97 (c .before .before .before .args .x) (omega arith))
 

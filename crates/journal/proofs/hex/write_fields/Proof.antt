@@ -1,40 +1,30 @@
-use Rattle.journal.proofs.Write.{fields-written}
+-- `journal::hex::write_fields` meets its contract. Assumes nothing.
 use borrow.Author.Needs.{needs}
+use Rattle.journal.proofs.Write.{fields-written}
 use Rattle.journal.proofs.hex.write_fields.Statement.{statement}
 use Rattle.journal.proofs.hex.write_fields.Tie as tie
-use Rattle.journal.proofs.hex.write_fields.Reads as reads
-use Rattle.journal.proofs.hex.write_fields.Lts as lts
-use Rattle.journal.proofs.hex.write_hex.Reads as write-hex-reads
 
--- src/hex.rt:36:5
 write-hex-requires : tie.Need-write-hex-requires
 write-hex-requires c κs = search needs
 
--- src/hex.rt:37:20
 add-write-hex : tie.Need-add-write-hex
 add-write-hex c = search needs
 
--- src/hex.rt:37:5
 write-hex-requires-2 : tie.Need-write-hex-requires-2
 write-hex-requires-2 c κs = search needs
 
--- src/hex.rt:38:20
 add-write-hex-2 : tie.Need-add-write-hex-2
 add-write-hex-2 c = search needs
 
--- src/hex.rt:38:20
 add-write-hex-3 : tie.Need-add-write-hex-3
 add-write-hex-3 c = search needs
 
--- src/hex.rt:38:5
 write-hex-requires-3 : tie.Need-write-hex-requires-3
 write-hex-requires-3 c κs = search needs
 
--- src/hex.rt:32:1
 same-length : tie.Need-same-length
 same-length c = search needs
 
--- src/hex.rt:32:1
 returns : tie.Need-returns
 returns c =
     let s = c .before .before .before .before .before .before .before .before .before .before .before .before .before in

@@ -1,58 +1,44 @@
-use Rattle.journal.specs.Lines.{lineStart, chunkAt, maskAt, probesAt}
-use Rattle.journal.specs.Pass.{lineAt}
+-- `journal::line::read_line` meets its contract. Assumes nothing.
+use mathlib.Core.Bool.{_&&_}
 use Prim.Native.Nat.{_+_, _*_}
 use lib.Dec.{eqb}
 use lib.ListN.{getD}
-use mathlib.Core.Bool.{_&&_}
 use borrow.Author.Needs.{needs}
+use Rattle.journal.specs.Lines.{lineStart, chunkAt, maskAt, probesAt}
+use Rattle.journal.specs.Pass.{lineAt}
 use Rattle.journal.proofs.line.read_line.Statement.{statement}
 use Rattle.journal.proofs.line.read_line.Tie as tie
-use Rattle.journal.proofs.line.read_line.Reads as reads
-use Rattle.journal.proofs.line.read_line.Lts as lts
-use Rattle.journal.proofs.hex.are_digits.Reads as are-digits-reads
-use Rattle.journal.proofs.hex.hex_value.Reads as hex-value-reads
 
--- src/line.rt:44:20
 mul-at : tie.Need-mul-at
 mul-at c = search needs
 
--- src/line.rt:44:14
 add-at : tie.Need-add-at
 add-at c = search needs
 
--- src/line.rt:45:9
 are-digits-requires : tie.Need-are-digits-requires
 are-digits-requires c κs = search needs
 
--- src/line.rt:46:23
 add-end : tie.Need-add-end
 add-end c = search needs
 
--- src/line.rt:46:15
 shared-slice-read-end : tie.Need-shared-slice-read-end
 shared-slice-read-end c = search needs
 
--- src/line.rt:47:9
 hex-value-requires : tie.Need-hex-value-requires
 hex-value-requires c κs = search needs
 
--- src/line.rt:48:35
 add-hex-value : tie.Need-add-hex-value
 add-hex-value c = search needs
 
--- src/line.rt:48:9
 hex-value-requires-2 : tie.Need-hex-value-requires-2
 hex-value-requires-2 c κs = search needs
 
--- src/line.rt:49:37
 add-hex-value-2 : tie.Need-add-hex-value-2
 add-hex-value-2 c = search needs
 
--- src/line.rt:49:9
 hex-value-requires-3 : tie.Need-hex-value-requires-3
 hex-value-requires-3 c κs = search needs
 
--- src/line.rt:40:1
 returns : tie.Need-returns
 unfolding lineAt lineStart chunkAt maskAt probesAt
 returns c =

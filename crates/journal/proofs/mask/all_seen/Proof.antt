@@ -1,16 +1,15 @@
-use Rattle.buffers.specs.Ranges.{allBelow}
-use Rattle.buffers.proofs.Ranges.{all-zero, all-next, all-stop}
-use borrow.Author.Tests.{eq-eqb, ne-eqb}
+-- `journal::mask::all_seen` meets its contract. Assumes nothing.
+use mathlib.Core.Bool.{true, not}
+use mathlib.Core.Path.{_≡_, sym, ap, _∙_}
+use Prim.Native.Nat.{ℕ, _≤_, _-_}
+use native.Mathlib.Omega.{arith}
 use lib.Dec.{eqb}
 use lib.ListN.{getD}
-use native.Mathlib.Omega.{arith}
-use Prim.Native.Nat.{ℕ, _≤_, _-_}
-use mathlib.Core.Bool.{Bool, true, not}
-use mathlib.Core.Path.{_≡_, sym, ap, _∙_}
+use borrow.Author.Tests.{eq-eqb, ne-eqb}
+use Rattle.buffers.specs.Ranges.{allBelow}
+use Rattle.buffers.proofs.Ranges.{all-zero, all-next, all-stop}
 use Rattle.journal.proofs.mask.all_seen.Statement.{statement}
 use Rattle.journal.proofs.mask.all_seen.Tie as tie
-use Rattle.journal.proofs.mask.all_seen.Reads as reads
-use Rattle.journal.proofs.mask.all_seen.Lts as lts
 
 abbrev Inv-loop : tie.InvT-loop
 Inv-loop seen m c₀ c = (c ≤ m) × (allBelow c (λ k. not (eqb (getD seen k 0) 0)) ≡ true)
@@ -18,37 +17,30 @@ Inv-loop seen m c₀ c = (c ≤ m) × (allBelow c (λ k. not (eqb (getD seen k 0
 abbrev μ-loop : tie.MeasureT-loop
 μ-loop seen m c₀ c = m - c
 
--- src/mask.rt:17:5
 loop-holds : tie.Need-loop-holds Inv-loop μ-loop
 loop-holds c = (omega arith, all-zero (λ k. not (eqb (getD (c .args .seen .now) k 0) 0)))
 
--- src/mask.rt:18:12
 shared-slice-read-if1 : tie.Need-shared-slice-read-if1 Inv-loop μ-loop
 shared-slice-read-if1 c = omega arith
 
--- src/mask.rt:19:13
 returns : tie.Need-returns Inv-loop μ-loop
 returns c =
     let a = c .before .before .before .before .args in
     let p = c .before .before .before .loop in
     sym (all-stop (a .m) (λ k. not (eqb (getD (a .seen .now) k 0) 0)) (p .c) (omega arith) (ap not (eq-eqb _ _ (c .if1 .taken))))
 
--- src/mask.rt:21:9
 add-c : tie.Need-add-c Inv-loop μ-loop
 add-c c = omega arith
 
--- src/mask.rt:17:5
 loop-less : tie.Need-loop-less Inv-loop μ-loop
 loop-less c = omega arith
 
--- src/mask.rt:17:5
 loop-again : tie.Need-loop-again Inv-loop μ-loop
 loop-again c =
     let a = c .before .before .before .before .args in
     let p = c .before .before .before .loop in
     (omega arith, all-next (p .c) (λ k. not (eqb (getD (a .seen .now) k 0) 0)) (p .inv .1) (ap not (ne-eqb _ _ (c .if1 .left))))
 
--- src/mask.rt:12:1
 returns-2 : tie.Need-returns-2 Inv-loop μ-loop
 returns-2 c =
     let a = c .before .before .args in

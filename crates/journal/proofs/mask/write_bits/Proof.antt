@@ -1,17 +1,16 @@
-use Rattle.journal.proofs.Cells.{half-next}
+-- `journal::mask::write_bits` meets its contract. Assumes nothing.
+use mathlib.Core.List.{List}
+use mathlib.Core.Path.{_≡_, ap, _∙_}
+use Prim.Native.Nat.{ℕ, _+_, _-_, _/_, _%_, _^_, _≤_}
+use native.Mathlib.Omega.{arith}
+use lib.ListN.{length, set}
 use Rattle.buffers.specs.Ranges.{tab}
 use Rattle.buffers.specs.Lent.{put}
 use Rattle.buffers.proofs.Lent.{table-zero, table-next, length-table}
 use Rattle.journal.specs.Lines.{bitOf}
-use lib.ListN.{length, set}
-use Prim.Native.Nat.{ℕ, _+_, _-_, _/_, _%_, _^_, _≤_}
-use native.Mathlib.Omega.{arith}
-use mathlib.Core.List.{List}
-use mathlib.Core.Path.{_≡_, ap, _∙_}
+use Rattle.journal.proofs.Cells.{half-next}
 use Rattle.journal.proofs.mask.write_bits.Statement.{statement}
 use Rattle.journal.proofs.mask.write_bits.Tie as tie
-use Rattle.journal.proofs.mask.write_bits.Reads as reads
-use Rattle.journal.proofs.mask.write_bits.Lts as lts
 
 abbrev Inv-loop : tie.InvT-loop
 Inv-loop out₀ at w word v₀ k₀ out v k = (k ≤ w) × (v ≡ word / 2 ^ k) × (out ≡ put at (tab k (bitOf word)) out₀)
@@ -19,19 +18,15 @@ Inv-loop out₀ at w word v₀ k₀ out v k = (k ≤ w) × (v ≡ word / 2 ^ k) 
 abbrev μ-loop : tie.MeasureT-loop
 μ-loop out₀ at w word v₀ k₀ out v k = w - k
 
--- src/mask.rt:33:5
 loop-holds : tie.Need-loop-holds Inv-loop μ-loop
 loop-holds c = let a = c .args in (omega arith, omega arith, table-zero (a .at) (bitOf (a .word)) (a .out .now))
 
--- src/mask.rt:34:23
 cast-out : tie.Need-cast-out Inv-loop μ-loop
 cast-out c = omega arith
 
--- src/mask.rt:34:13
 add-out : tie.Need-add-out Inv-loop μ-loop
 add-out c = omega arith
 
--- src/mask.rt:34:9
 slice-write-out : tie.Need-slice-write-out Inv-loop μ-loop
 slice-write-out c =
     let s = c .before .before in
@@ -39,15 +34,12 @@ slice-write-out c =
     let p = c .before .loop in
     omega (arith, ap length (p .inv .2), length-table (a .at) (bitOf (a .word)) (a .out .now) (p .k) (omega arith))
 
--- src/mask.rt:36:9
 add-k : tie.Need-add-k Inv-loop μ-loop
 add-k c = omega arith
 
--- src/mask.rt:33:5
 loop-less : tie.Need-loop-less Inv-loop μ-loop
 loop-less c = omega arith
 
--- src/mask.rt:33:5
 loop-again : tie.Need-loop-again Inv-loop μ-loop
 loop-again c =
     let a = c .before .before .args in
@@ -58,14 +50,12 @@ loop-again c =
           ∙ table-next (a .at) (bitOf (a .word)) (a .out .now) (p .k) (p .v % 2) (omega arith) (ap (λ (x : ℕ). x % 2) (p .inv .1)),
     )
 
--- src/mask.rt:27:1
 same-length : tie.Need-same-length Inv-loop μ-loop
 same-length c =
     let a = c .before .before .args in
     let p = c .before .loop in
     ap length (p .inv .2) ∙ length-table (a .at) (bitOf (a .word)) (a .out .now) (p .k) (omega arith)
 
--- src/mask.rt:27:1
 returns : tie.Need-returns Inv-loop μ-loop
 returns c =
     let a = c .before .before .args in

@@ -1,19 +1,16 @@
-use Rattle.journal.proofs.Cells.{cellBit, cells-next}
+-- `journal::mask::write_cells` meets its contract. Assumes nothing.
+use mathlib.Core.Logic.{⊎-elim}
+use mathlib.Core.Path.{_≡_, ap, _∙_}
+use Prim.Native.Nat.{ℕ, _+_, _-_, _/_, _%_, _≤_, _<_}
+use native.Mathlib.Omega.{arith}
+use lib.ListN.{length, getD}
 use Rattle.buffers.specs.Ranges.{tab}
 use Rattle.buffers.specs.Lent.{filled, put}
 use Rattle.buffers.proofs.Lent.{filled-zero, length-filled}
 use Rattle.journal.specs.Lines.{bitOf}
-use lib.ListN.{length, getD}
-use Prim.Native.Nat.{ℕ, _+_, _-_, _*_, _/_, _%_, _≤_, _<_}
-use native.Mathlib.Omega.{arith}
-use mathlib.Core.List.{List}
-use mathlib.Core.Logic.{⊎-elim}
-use mathlib.Core.Path.{_≡_, sym, ap, _∙_}
+use Rattle.journal.proofs.Cells.{cellBit, cells-next}
 use Rattle.journal.proofs.mask.write_cells.Statement.{statement}
 use Rattle.journal.proofs.mask.write_cells.Tie as tie
-use Rattle.journal.proofs.mask.write_cells.Reads as reads
-use Rattle.journal.proofs.mask.write_cells.Lts as lts
-use Rattle.journal.proofs.mask.write_bits.Reads as write-bits-reads
 
 abbrev Inv-loop : tie.InvT-loop
 Inv-loop out₀ cells masks at₀ out at = (at ≤ cells) × (at < cells → at % 64 ≡ 0) × (out ≡ filled at (cellBit masks) out₀)
@@ -21,23 +18,18 @@ Inv-loop out₀ cells masks at₀ out at = (at ≤ cells) × (at < cells → at 
 abbrev μ-loop : tie.MeasureT-loop
 μ-loop out₀ cells masks at₀ out at = cells - at
 
--- src/mask.rt:46:5
 loop-holds : tie.Need-loop-holds Inv-loop μ-loop
 loop-holds c = (omega arith, λ h. omega arith, filled-zero _ _)
 
--- src/mask.rt:47:20
 sub-left : tie.Need-sub-left Inv-loop μ-loop
 sub-left c = omega arith
 
--- src/mask.rt:49:32
 mul-write-bits : tie.Need-mul-write-bits Inv-loop μ-loop
 mul-write-bits c = omega arith
 
--- src/mask.rt:49:32
 shared-slice-read-write-bits : tie.Need-shared-slice-read-write-bits Inv-loop μ-loop
 shared-slice-read-write-bits c = omega arith
 
--- src/mask.rt:49:9
 write-bits-requires : tie.Need-write-bits-requires Inv-loop μ-loop
 write-bits-requires c κs =
     let a = c .before .before .before .before .before .before .before .args in
@@ -45,15 +37,12 @@ write-bits-requires c κs =
     let n : length (p .out) ≡ length (a .out .now) = ap length (p .inv .2) ∙ length-filled (cellBit (a .masks .now)) (p .at) (a .out .now) (omega arith) in
     ⊎-elim (λ w. omega arith) (λ w. omega arith) (c .before .before .if1 .came)
 
--- src/mask.rt:50:9
 add-at : tie.Need-add-at Inv-loop μ-loop
 add-at c = ⊎-elim (λ w. omega arith) (λ w. omega arith) (c .before .before .before .before .before .before .if1 .came)
 
--- src/mask.rt:46:5
 loop-less : tie.Need-loop-less Inv-loop μ-loop
 loop-less c = ⊎-elim (λ w. omega arith) (λ w. omega arith) (c .before .before .before .before .before .before .if1 .came)
 
--- src/mask.rt:46:5
 loop-again : tie.Need-loop-again Inv-loop μ-loop
 loop-again c =
     let a = c .before .before .before .before .before .before .before .before .before .before .before .args in
@@ -68,14 +57,12 @@ loop-again c =
           ∙ cells-next (p .at) (j .w) (a .masks .now) (a .out .now) (p .inv .1 (omega arith)) (w .0) (omega arith),
     )
 
--- src/mask.rt:41:1
 same-length : tie.Need-same-length Inv-loop μ-loop
 same-length c =
     let a = c .before .before .before .before .args in
     let p = c .before .loop in
     ap length (p .inv .2) ∙ length-filled (cellBit (a .masks .now)) (p .at) (a .out .now) (omega arith)
 
--- src/mask.rt:41:1
 returns : tie.Need-returns Inv-loop μ-loop
 returns c =
     let a = c .before .before .before .before .args in

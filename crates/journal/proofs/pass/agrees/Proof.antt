@@ -1,16 +1,15 @@
-use Rattle.buffers.proofs.Ranges.{all-zero, all-next, all-stop}
-use Rattle.journal.specs.Right.{agree}
-use borrow.Author.Tests.{eq-eqb, ne-eqb}
-use lib.Dec.{eqb}
-use lib.ListN.{getD}
-use native.Mathlib.Omega.{arith}
-use Prim.Native.Nat.{_≤_, _-_}
+-- `journal::pass::agrees` meets its contract. Assumes nothing.
 use mathlib.Core.Bool.{true}
 use mathlib.Core.Path.{_≡_, refl, sym, ap, _∙_}
+use Prim.Native.Nat.{_≤_, _-_}
+use native.Mathlib.Omega.{arith}
+use lib.Dec.{eqb}
+use lib.ListN.{getD}
+use borrow.Author.Tests.{eq-eqb, ne-eqb}
+use Rattle.buffers.proofs.Ranges.{all-next, all-stop}
+use Rattle.journal.specs.Right.{agree}
 use Rattle.journal.proofs.pass.agrees.Statement.{statement}
 use Rattle.journal.proofs.pass.agrees.Tie as tie
-use Rattle.journal.proofs.pass.agrees.Reads as reads
-use Rattle.journal.proofs.pass.agrees.Lts as lts
 
 abbrev Inv-loop : tie.InvT-loop
 Inv-loop journal header m j₀ j = (j ≤ m) × (agree journal header j ≡ true)
@@ -18,20 +17,16 @@ Inv-loop journal header m j₀ j = (j ≤ m) × (agree journal header j ≡ true
 abbrev μ-loop : tie.MeasureT-loop
 μ-loop journal header m j₀ j = m - j
 
--- src/pass.rt:103:5
 loop-holds : tie.Need-loop-holds Inv-loop μ-loop
 unfolding agree
 loop-holds c = (omega arith, refl)
 
--- src/pass.rt:104:12
 shared-slice-read-if1 : tie.Need-shared-slice-read-if1 Inv-loop μ-loop
 shared-slice-read-if1 c = omega arith
 
--- src/pass.rt:104:26
 shared-slice-read-if1-2 : tie.Need-shared-slice-read-if1-2 Inv-loop μ-loop
 shared-slice-read-if1-2 c = omega arith
 
--- src/pass.rt:105:13
 returns : tie.Need-returns Inv-loop μ-loop
 unfolding agree
 returns c =
@@ -39,15 +34,12 @@ returns c =
     let j = c .before .before .before .before .loop .j in
     sym (all-stop (a .m) (λ k. eqb (getD (a .journal .now) k 0) (getD (a .header .now) k 0)) j (omega arith) (ne-eqb _ _ (c .if1 .taken)))
 
--- src/pass.rt:107:9
 add-j : tie.Need-add-j Inv-loop μ-loop
 add-j c = omega arith
 
--- src/pass.rt:103:5
 loop-less : tie.Need-loop-less Inv-loop μ-loop
 loop-less c = omega arith
 
--- src/pass.rt:103:5
 loop-again : tie.Need-loop-again Inv-loop μ-loop
 unfolding agree
 loop-again c =
@@ -55,7 +47,6 @@ loop-again c =
     let p = c .before .before .before .before .loop in
     (omega arith, all-next (p .j) (λ k. eqb (getD (a .journal .now) k 0) (getD (a .header .now) k 0)) (p .inv .1) (eq-eqb _ _ (c .if1 .left)))
 
--- src/pass.rt:98:1
 returns-2 : tie.Need-returns-2 Inv-loop μ-loop
 returns-2 c =
     let a = c .before .before .args in

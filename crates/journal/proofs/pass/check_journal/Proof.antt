@@ -1,27 +1,21 @@
-use Rattle.journal.proofs.Scan.{is-wrong, right-off, right-on}
-use Rattle.journal.specs.Lines.{heldProbes}
-use Rattle.journal.specs.Right.{wholeLines, agree, linesRight, right}
-use Rattle.journal.specs.Pass.{checkedOf, Tables}
-use borrow.Author.Tests.{not-true, not-false}
-use Prim.Native.Nat.{ℕ, _≤_, min}
-use native.Mathlib.Omega.{arith}
-use mathlib.Core.Bool.{Bool, true, false}
+-- `journal::pass::check_journal` meets its contract. Assumes nothing.
+use mathlib.Core.Bool.{Bool}
 use mathlib.Core.Logic.{⊎-elim}
-use mathlib.Core.Path.{_≡_, sym, ap, ap₂, subst, _∙_}
+use mathlib.Core.Path.{_≡_, sym, ap, subst, _∙_}
+use Prim.Native.Nat.{ℕ, min}
+use native.Mathlib.Omega.{arith}
+use borrow.Author.Tests.{not-true, not-false}
 use borrow.Author.Needs.{needs}
+use Rattle.journal.specs.Lines.{heldProbes}
+use Rattle.journal.specs.Right.{wholeLines, linesRight, right}
+use Rattle.journal.specs.Pass.{checkedOf, Tables}
+use Rattle.journal.proofs.Scan.{is-wrong, right-off, right-on}
 use Rattle.journal.proofs.pass.check_journal.Statement.{statement}
 use Rattle.journal.proofs.pass.check_journal.Tie as tie
-use Rattle.journal.proofs.pass.check_journal.Reads as reads
-use Rattle.journal.proofs.pass.check_journal.Lts as lts
-use Rattle.journal.proofs.pass.agrees.Reads as agrees-reads
-use Rattle.journal.proofs.pass.check_lines.Reads as check-lines-reads
-use Rattle.journal.proofs.pass.whole_lines.Reads as whole-lines-reads
 
--- src/pass.rt:139:9
 agrees-requires : tie.Need-agrees-requires
 agrees-requires c κs = ⊎-elim (λ w. (omega arith, omega arith)) (λ w. (omega arith, omega arith)) (c .if1 .came)
 
--- src/pass.rt:140:9
 returns : tie.Need-returns
 returns c =
     let a = c .before .before .before .before .before .before .before .args in
@@ -29,26 +23,21 @@ returns c =
     is-wrong _ _ _ (right-off (a .cells) (a .n) (a .header .now) (a .journal .now) (a .used) (c .before .before .if1 .m) m
     (sym (c .before .agrees .ensures) ∙ not-true (c .before .agrees .result) (c .if2 .taken)))
 
--- src/pass.rt:142:26
 whole-lines-requires : tie.Need-whole-lines-requires
 whole-lines-requires c κs = search needs
 
--- src/pass.rt:142:5
 check-lines-requires : tie.Need-check-lines-requires
 unfolding wholeLines
 check-lines-requires c κs =
     let s = c .before .before .before .before .before .before .before .before .before .before in
     (λ l h. omega (arith, c .before .before .whole-lines .ensures), s .pre .1, s .pre .2, s .pre .4, s .pre .5)
 
--- src/pass.rt:133:1
 same-length : tie.Need-same-length
 same-length c = search needs
 
--- src/pass.rt:133:1
 same-length-2 : tie.Need-same-length-2
 same-length-2 c = search needs
 
--- src/pass.rt:133:1
 returns-2 : tie.Need-returns-2
 returns-2 c =
     let s = c .before .before .before .before .before .before .before .before .before .before .before .before .before .before .before in

@@ -1,21 +1,16 @@
-use Rattle.journal.proofs.Scan.{fits-read, fits-exists, chunks-le, lines-zero, lines-next, lines-unfit, lines-repeat, lines-few, probes-zero, probes-next, probes-lt, probes-fit, tables-zero, tables-next, unseen, has-line, is-wrong, is-right, blank-length}
+-- `journal::pass::check_lines` meets its contract. Assumes nothing.
+use mathlib.Core.Bool.{true, false}
+use mathlib.Core.Path.{_≡_, sym, ap, _∙_, subst}
+use Prim.Native.Nat.{ℕ, _-_, _≤_, _<_}
+use native.Mathlib.Omega.{arith}
+use borrow.Author.Tests.{not-true, not-false}
 use Rattle.journal.specs.Lines.{chunkAt, maskAt, probesAt, hasChunk, heldProbes}
 use Rattle.journal.specs.Right.{lineFits, linesRight}
 use Rattle.journal.specs.Pass.{lineAt, fits, Tables}
 use Rattle.journal.specs.declared.line.Line.{Line}
-use borrow.Author.Tests.{not-true, not-false}
-use borrow.Author.Needs.{needs}
-use lib.ListN.{length, getD, set, length-set}
-use Prim.Native.Nat.{ℕ, _+_, _-_, _*_, _≤_, _<_}
-use native.Mathlib.Omega.{arith}
-use mathlib.Core.Bool.{true, false}
-use mathlib.Core.Path.{_≡_, refl, sym, ap, _∙_, subst}
+use Rattle.journal.proofs.Scan.{fits-read, fits-exists, chunks-le, lines-zero, lines-next, lines-unfit, lines-repeat, lines-few, probes-zero, probes-next, probes-lt, probes-fit, tables-zero, tables-next, unseen, has-line, is-wrong, is-right, blank-length}
 use Rattle.journal.proofs.pass.check_lines.Statement.{statement}
 use Rattle.journal.proofs.pass.check_lines.Tie as tie
-use Rattle.journal.proofs.pass.check_lines.Reads as reads
-use Rattle.journal.proofs.pass.check_lines.Lts as lts
-use Rattle.journal.proofs.line.read_line.Reads as read-line-reads
-use Rattle.journal.proofs.pass.line_fits.Reads as line-fits-reads
 
 abbrev Inv-loop : tie.InvT-loop
 Inv-loop journal lines cells n seen₀ masks₀ probes₀ l₀ seen masks probes l = (l ≤ lines) × (linesRight cells n journal l ≡ true) × (probes ≡ heldProbes journal l) × Tables journal l seen masks
@@ -23,35 +18,29 @@ Inv-loop journal lines cells n seen₀ masks₀ probes₀ l₀ seen masks probes
 abbrev μ-loop : tie.MeasureT-loop
 μ-loop journal lines cells n seen₀ masks₀ probes₀ l₀ seen masks probes l = lines - l
 
--- src/pass.rt:80:5
 loop-holds : tie.Need-loop-holds Inv-loop μ-loop
 loop-holds c =
     let s = c .before .before .before in
     (omega arith, lines-zero _ _ _, sym (probes-zero (s .args .journal .now)), tables-zero (s .args .journal .now) _ _ (s .pre .3) (s .pre .4))
 
--- src/pass.rt:81:13
 read-line-requires : tie.Need-read-line-requires Inv-loop μ-loop
 read-line-requires c κs = c .before .before .before .before .before .pre .0 (c .before .loop .l) (omega arith)
 
--- src/pass.rt:82:13
 line-fits-requires : tie.Need-line-fits-requires Inv-loop μ-loop
 line-fits-requires c κs = (c .before .before .before .before .before .before .pre .1, c .before .before .before .before .before .before .pre .2)
 
--- src/pass.rt:83:13
 same-length : tie.Need-same-length Inv-loop μ-loop
 same-length c =
     let s = c .before .before .before .before .before .before .before .before in
     let p = c .before .before .before .before .loop in
     blank-length (p .seen) (s .args .seen .now) (p .inv .3 .flags) (s .pre .3)
 
--- src/pass.rt:83:13
 same-length-2 : tie.Need-same-length-2 Inv-loop μ-loop
 same-length-2 c =
     let s = c .before .before .before .before .before .before .before .before in
     let p = c .before .before .before .before .loop in
     blank-length (p .masks) (s .args .masks .now) (p .inv .3 .words) (s .pre .4)
 
--- src/pass.rt:83:13
 returns : tie.Need-returns Inv-loop μ-loop
 returns c =
     let a = c .before .before .before .before .before .before .before .before .args in
@@ -96,25 +85,21 @@ within c =
     let p = c .before .before .before .before .before .loop in
     omega (arith, chunk-read c, fits-exists (a .cells) (a .n) (a .journal .now) (p .l) (fitting c), chunks-le (a .cells) (s .pre .1))
 
--- src/pass.rt:86:12
 slice-read-if2 : tie.Need-slice-read-if2 Inv-loop μ-loop
 slice-read-if2 c = omega (arith, within c, c .before .before .before .before .before .loop .inv .3 .flags)
 
--- src/pass.rt:87:13
 same-length-3 : tie.Need-same-length-3 Inv-loop μ-loop
 same-length-3 c =
     let s = c .before .before .before .before .before .before .before .before .before .before in
     let p = c .before .before .before .before .before .before .loop in
     blank-length (p .seen) (s .args .seen .now) (p .inv .3 .flags) (s .pre .3)
 
--- src/pass.rt:87:13
 same-length-4 : tie.Need-same-length-4 Inv-loop μ-loop
 same-length-4 c =
     let s = c .before .before .before .before .before .before .before .before .before .before in
     let p = c .before .before .before .before .before .before .loop in
     blank-length (p .masks) (s .args .masks .now) (p .inv .3 .words) (s .pre .4)
 
--- src/pass.rt:87:13
 returns-2 : tie.Need-returns-2 Inv-loop μ-loop
 returns-2 c =
     let k = c .before in
@@ -125,19 +110,15 @@ returns-2 c =
     ap (hasChunk b (p .l)) (sym (chunk-read k)) ∙ has-line b (p .seen) (p .masks) (p .l) (k .before .before .before .read-line .result .chunk) (p .inv .3) (within k) (c .if2 .taken) in
     is-wrong _ _ _ (lines-repeat (a .cells) (a .n) b (p .l) (a .lines) (omega arith) (fitting k) r)
 
--- src/pass.rt:89:9
 slice-write-seen : tie.Need-slice-write-seen Inv-loop μ-loop
 slice-write-seen c = slice-read-if2 (c .before)
 
--- src/pass.rt:90:9
 mul-masks : tie.Need-mul-masks Inv-loop μ-loop
 mul-masks c = omega (arith, within (c .before))
 
--- src/pass.rt:90:9
 slice-write-masks : tie.Need-slice-write-masks Inv-loop μ-loop
 slice-write-masks c = omega (arith, within (c .before), c .before .before .before .before .before .before .loop .inv .3 .words)
 
--- src/pass.rt:91:9
 add-probes : tie.Need-add-probes Inv-loop μ-loop
 add-probes c =
     let k = c .before .before in
@@ -155,15 +136,12 @@ add-probes c =
       chunks-le (a .cells) (s .pre .1),
     )
 
--- src/pass.rt:92:9
 add-l : tie.Need-add-l Inv-loop μ-loop
 add-l c = omega arith
 
--- src/pass.rt:80:5
 loop-less : tie.Need-loop-less Inv-loop μ-loop
 loop-less c = omega arith
 
--- src/pass.rt:80:5
 loop-again : tie.Need-loop-again Inv-loop μ-loop
 loop-again c =
     let k = c .before .before in
@@ -179,21 +157,18 @@ loop-again c =
       tables-next b (p .seen) (p .masks) (p .l) (d .chunk) (d .mask) (chunk-read k) (mask-read k) (within k) (p .inv .3),
     )
 
--- src/pass.rt:73:1
 same-length-5 : tie.Need-same-length-5 Inv-loop μ-loop
 same-length-5 c =
     let s = c .before .before .before .before .before in
     let p = c .before .loop in
     blank-length (p .seen) (s .args .seen .now) (p .inv .3 .flags) (s .pre .3)
 
--- src/pass.rt:73:1
 same-length-6 : tie.Need-same-length-6 Inv-loop μ-loop
 same-length-6 c =
     let s = c .before .before .before .before .before in
     let p = c .before .loop in
     blank-length (p .masks) (s .args .masks .now) (p .inv .3 .words) (s .pre .4)
 
--- src/pass.rt:73:1
 returns-3 : tie.Need-returns-3 Inv-loop μ-loop
 returns-3 c =
     let a = c .before .before .before .before .before .args in

@@ -1,28 +1,22 @@
-use Rattle.journal.proofs.Possible.{possible-at, marked-le, least-le, most-le, cells-le}
+-- `journal::pass::is_possible` meets its contract. Assumes nothing.
+use mathlib.Core.Bool.{Bool, true, false, _&&_}
+use mathlib.Core.Path.{_≡_, sym, ap, ap₂, _∙_}
+use Prim.Native.Nat.{_+_, _-_, _*_, _≤_, _^_}
+use native.Mathlib.Omega.{arith}
 use lib.Dec.{leb, ltb}
 use lib.Count.{ones}
 use borrow.Author.Tests.{lt-leb, le-leb, not-true, not-false}
-use Prim.Native.Nat.{ℕ, _+_, _-_, _*_, _≤_, _<_, _^_}
-use native.Mathlib.Omega.{arith}
-use mathlib.Core.Bool.{Bool, true, false, _&&_}
-use mathlib.Core.Path.{_≡_, sym, ap, ap₂, _∙_}
 use borrow.Author.Needs.{needs}
+use Rattle.journal.proofs.Possible.{possible-at, marked-le, least-le, most-le, cells-le}
 use Rattle.journal.proofs.pass.is_possible.Statement.{statement}
 use Rattle.journal.proofs.pass.is_possible.Tie as tie
-use Rattle.journal.proofs.pass.is_possible.Reads as reads
-use Rattle.journal.proofs.pass.is_possible.Lts as lts
-use Rattle.roll_sweep.proofs.cells_in.Reads as cells-in-reads
-use Rattle.journal.proofs.pass.no_bit_from.Reads as no-bit-from-reads
 
--- src/pass.rt:47:9
 cells-in-requires : tie.Need-cells-in-requires
 cells-in-requires c κs = search needs
 
--- src/pass.rt:48:9
 no-bit-from-requires : tie.Need-no-bit-from-requires
 no-bit-from-requires c κs = omega (arith, c .cells-in .ensures, cells-le (c .before .args .cells) (c .before .args .chunk))
 
--- src/pass.rt:49:9
 returns : tie.Need-returns
 returns c =
     let a = c .before .before .before .args in
@@ -31,31 +25,26 @@ returns c =
     sym (possible-at (a .cells) (a .n) (a .chunk) (a .mask) (a .probes) w (c .before .before .cells-in .ensures)
     ∙ ap (λ (t : Bool). t && leb (w - ones (a .mask) + a .n * ones (a .mask)) (a .probes) && leb (a .probes) (a .n * w)) e)
 
--- src/pass.rt:52:17
 sub-if2 : tie.Need-sub-if2
 sub-if2 c = marked-le (c .before .before .before .args .mask) (c .before .before .cells-in .result) (sym (c .before .no-bit-from .ensures) ∙ not-false (c .before .no-bit-from .result) (c .if1 .left))
 
--- src/pass.rt:51:18
 cast-marked : tie.Need-cast-marked
 cast-marked c =
     let o : ones (c .before .before .before .args .mask) ≤ c .before .before .cells-in .result = sub-if2 c in
     omega (arith, c .before .before .cells-in .ensures, cells-le (c .before .before .before .args .cells) (c .before .before .before .args .chunk))
 
--- src/pass.rt:52:32
 mul-if2 : tie.Need-mul-if2
 mul-if2 c =
     let a = c .before .before .before .args in
     let w = c .before .before .cells-in .result in
     omega (arith, least-le (a .mask) (a .n) w (c .before .before .before .pre) (omega (arith, c .before .before .cells-in .ensures, cells-le (a .cells) (a .chunk))) (sub-if2 c))
 
--- src/pass.rt:52:17
 add-if2 : tie.Need-add-if2
 add-if2 c =
     let a = c .before .before .before .args in
     let w = c .before .before .cells-in .result in
     omega (arith, least-le (a .mask) (a .n) w (c .before .before .before .pre) (omega (arith, c .before .before .cells-in .ensures, cells-le (a .cells) (a .chunk))) (sub-if2 c))
 
--- src/pass.rt:53:9
 returns-2 : tie.Need-returns-2
 returns-2 c =
     let a = c .before .before .before .before .args in
@@ -65,14 +54,12 @@ returns-2 c =
     sym (possible-at (a .cells) (a .n) (a .chunk) (a .mask) (a .probes) w (c .before .before .before .cells-in .ensures)
     ∙ ap₂ (λ (t u : Bool). t && u && leb (a .probes) (a .n * w)) e f)
 
--- src/pass.rt:55:15
 mul-result : tie.Need-mul-result
 mul-result c =
     let a = c .before .before .before .before .args in
     let w = c .before .before .before .cells-in .result in
     omega (arith, most-le (a .n) w (c .before .before .before .before .pre) (omega (arith, c .before .before .before .cells-in .ensures, cells-le (a .cells) (a .chunk))))
 
--- src/pass.rt:43:1
 returns-3 : tie.Need-returns-3
 returns-3 c =
     let a = c .before .before .before .before .args in

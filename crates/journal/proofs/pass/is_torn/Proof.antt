@@ -1,16 +1,13 @@
-use Rattle.journal.specs.Right.{torn}
+-- `journal::pass::is_torn` meets its contract. Assumes nothing.
 use borrow.Author.Tests.{lt-ltb, le-ltb}
+use Rattle.journal.specs.Right.{torn}
 use Rattle.journal.proofs.pass.is_torn.Statement.{statement}
 use Rattle.journal.proofs.pass.is_torn.Tie as tie
-use Rattle.journal.proofs.pass.is_torn.Reads as reads
-use Rattle.journal.proofs.pass.is_torn.Lts as lts
 
--- src/pass.rt:127:9
 returns : tie.Need-returns
 unfolding torn
 returns c = simp (lt-ltb _ _ (c .if1 .taken))
 
--- src/pass.rt:123:1
 returns-2 : tie.Need-returns-2
 unfolding torn
 returns-2 c = simp (le-ltb _ _ (c .if1 .left))

@@ -1,36 +1,29 @@
-use Rattle.journal.specs.Right.{wholeLines}
-use Rattle.journal.specs.Calls.{kept}
-use borrow.Author.Tests.{lt-ltb, le-ltb}
+-- `journal::pass::kept_length` meets its contract. Assumes nothing.
+use mathlib.Core.Path.{sym, ap, _∙_}
 use Prim.Native.Nat.{ℕ, _+_, _*_}
 use native.Mathlib.Omega.{arith}
-use mathlib.Core.Path.{sym, ap, _∙_}
+use borrow.Author.Tests.{lt-ltb, le-ltb}
 use borrow.Author.Needs.{needs}
+use Rattle.journal.specs.Right.{wholeLines}
+use Rattle.journal.specs.Calls.{kept}
 use Rattle.journal.proofs.pass.kept_length.Statement.{statement}
 use Rattle.journal.proofs.pass.kept_length.Tie as tie
-use Rattle.journal.proofs.pass.kept_length.Reads as reads
-use Rattle.journal.proofs.pass.kept_length.Lts as lts
-use Rattle.journal.proofs.pass.whole_lines.Reads as whole-lines-reads
 
--- src/pass.rt:138:9
 returns : tie.Need-returns
 unfolding kept
 returns c = simp (lt-ltb _ _ (c .if1 .taken))
 
--- src/pass.rt:140:16
 whole-lines-requires : tie.Need-whole-lines-requires
 whole-lines-requires c κs = search needs
 
--- src/pass.rt:140:11
 mul-result : tie.Need-mul-result
 unfolding wholeLines
 mul-result c = omega (arith, c .whole-lines .ensures)
 
--- src/pass.rt:140:5
 add-result : tie.Need-add-result
 unfolding wholeLines
 add-result c = omega (arith, c .whole-lines .ensures)
 
--- src/pass.rt:134:1
 returns-2 : tie.Need-returns-2
 unfolding kept
 returns-2 c = ap (λ (l : ℕ). 107 + 33 * l) (c .whole-lines .ensures) ∙ sym (simp (le-ltb _ _ (c .before .if1 .left)))

@@ -1,25 +1,21 @@
-use Rattle.journal.proofs.Possible.{shr-zero}
-use borrow.Author.Tests.{lt-ltb}
+-- `journal::pass::no_bit_from` meets its contract. Assumes nothing.
+use mathlib.Core.Path.{sym, subst}
 use Prim.Native.Nat.{ℕ, _<_, _^_}
 use native.Mathlib.Omega.{arith}
-use mathlib.Core.Path.{_≡_, sym, subst}
+use borrow.Author.Tests.{lt-ltb}
 use borrow.Author.Needs.{needs}
+use Rattle.journal.proofs.Possible.{shr-zero}
 use Rattle.journal.proofs.pass.no_bit_from.Statement.{statement}
 use Rattle.journal.proofs.pass.no_bit_from.Tie as tie
-use Rattle.journal.proofs.pass.no_bit_from.Reads as reads
-use Rattle.journal.proofs.pass.no_bit_from.Lts as lts
 
--- src/pass.rt:37:9
 returns : tie.Need-returns
 returns c =
     let a = c .before .args in
     sym (lt-ltb (a .mask) (2 ^ a .k) (subst (λ (k : ℕ). a .mask < 2 ^ k) (sym (c .if1 .taken)) (omega arith)))
 
--- src/pass.rt:39:5
 shr-result : tie.Need-shr-result
 shr-result c = search needs
 
--- src/pass.rt:32:1
 returns-2 : tie.Need-returns-2
 returns-2 c = shr-zero (c .before .args .mask) (c .before .args .k)
 
