@@ -29,6 +29,13 @@ fn refused(calls: &dyn Calls, t: &mut Tally) {
     let p = plan([1.0, 0.0, 0.0], [0.0, 0.0, 1.0], 10.0, None);
     let ours = calls.swept(&p, 0, &[0]).map(|swept| swept.1);
     t.known("1: a sweep of no rolls", (ours, Oracle::new(&p, &[0]).sweep(0).0), (Err(3), vec![1]));
+
+    // A severity of difference - tolerance is +infinity where the tolerance is -infinity: 14 of the listing.
+    let p = plan([1.0, 0.0, 0.0], [0.0, 0.0, 1.0], f64::NEG_INFINITY, Some(0.0));
+    let ours = calls.evaluate(&p, 0, 1, 1).and_then(|(mask, severities)| calls.violation_windows(&mask, &[0], &severities, [1; 6]));
+    let ours = ours.map(|windows| windows.iter().map(|w| w.severity).collect());
+    let theirs = Oracle::new(&p, &[0]).row_windows(0).iter().map(|w| w.2).collect();
+    t.known("1: a tolerance of -infinity", (ours, theirs), (Err(14), vec![f64::INFINITY]));
 }
 
 /// The Sun in the y-z plane, a tolerance met exactly by section 1's arctangent and missed by the C library's.
