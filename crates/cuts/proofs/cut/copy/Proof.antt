@@ -1,0 +1,52 @@
+-- `cuts::cut::copy` writes inside the buffer. Assumes nothing.
+use Prim.Native.Nat.{_-_}
+use mathlib.Core.Path.{_≡_}
+use lib.ListN.{length}
+use borrow.Author.Needs.{needs}
+use Rattle.cuts.proofs.cut.copy.Statement.{statement}
+use Rattle.cuts.proofs.cut.copy.Tie as tie
+
+abbrev Inv-loop : tie.InvT-loop
+Inv-loop whole used journal₀ i₀ journal i = length journal ≡ length journal₀
+
+abbrev μ-loop : tie.MeasureT-loop
+μ-loop whole used journal₀ i₀ journal i = length journal₀ - i
+
+loop-holds : tie.Need-loop-holds Inv-loop μ-loop
+loop-holds c = search needs
+
+byte-at-requires : tie.Need-byte-at-requires Inv-loop μ-loop
+byte-at-requires c κs = search needs
+
+slice-write-journal : tie.Need-slice-write-journal Inv-loop μ-loop
+slice-write-journal c = search needs
+
+add-i : tie.Need-add-i Inv-loop μ-loop
+add-i c = search needs
+
+loop-less : tie.Need-loop-less Inv-loop μ-loop
+loop-less c = search needs
+
+loop-again : tie.Need-loop-again Inv-loop μ-loop
+loop-again c = search needs
+
+same-length : tie.Need-same-length Inv-loop μ-loop
+same-length c = search needs
+
+returns : tie.Need-returns Inv-loop μ-loop
+returns c = search needs
+
+pub copy-spec : {M : Type 1} → statement M
+copy-spec =
+    tie.close
+    (tie.spec
+    Inv-loop
+    μ-loop
+    loop-holds
+    byte-at-requires
+    slice-write-journal
+    add-i
+    loop-less
+    loop-again
+    same-length
+    returns)

@@ -1,0 +1,134 @@
+// Small plans, and the journal's calls on them. Every plan takes its targets from two and its Suns from seventy, seen from the
+// origin.
+use buffers::Answer;
+use solar_roll::ConfiguredRoll;
+use solar_roll::SolarRollConfig;
+
+// A plan, and how many writes its whole journal has: the header's and one for each chunk.
+pub(crate) struct Plan {
+    pub targets: usize,
+    pub times: usize,
+    pub writes: u64,
+    pub n: u64,
+    pub config: SolarRollConfig,
+}
+
+pub(crate) fn plan_of(
+    targets: usize,
+    times: usize,
+    writes: u64,
+    n: u64,
+    tolerance_deg: f64,
+    roll_deg: ConfiguredRoll,
+) -> Plan {
+    let config = SolarRollConfig {
+        tolerance_deg,
+        roll_deg,
+        panel_normal: [0.0, 1.0, 0.0],
+    };
+    Plan {
+        targets,
+        times,
+        writes,
+        n,
+        config,
+    }
+}
+
+// Coordinate k of the Suns. The first Sun lies along the first target, so that its cell is Free.
+fn coordinate(k: usize) -> f64 {
+    if k == 0 {
+        return 1.0;
+    }
+    if k < 3 {
+        return 0.0;
+    }
+    ((k % 101) * 7 % 19) as u32 as f64 - 9.0
+}
+
+fn fill_suns(suns: &mut [f64]) {
+    let mut k = 0;
+    while k < suns.len() {
+        suns[k] = coordinate(k);
+        k += 1;
+    }
+}
+
+// The first triples.
+fn first(triples: &[f64], count: usize) -> &[f64] {
+    if triples.len() / 3 < count {
+        return triples;
+    }
+    let end = 3 * count;
+    &triples[..end]
+}
+
+pub(crate) fn begin(plan: Plan, journal: &mut [u8], used: u64) -> Answer {
+    let targets = [1.0, 0.0, 0.0, 0.0, 0.6, 0.8];
+    let observers = [0.0; 210];
+    let mut suns = [0.0; 210];
+    fill_suns(&mut suns);
+    let config = plan.config;
+    journal::begin(
+        first(&targets, plan.targets),
+        first(&suns, plan.times),
+        first(&observers, plan.times),
+        config,
+        plan.n,
+        journal,
+        used,
+    )
+}
+
+pub(crate) fn work(plan: Plan, chunk: u64, journal: &mut [u8], used: u64) -> Answer {
+    let targets = [1.0, 0.0, 0.0, 0.0, 0.6, 0.8];
+    let observers = [0.0; 210];
+    let mut suns = [0.0; 210];
+    fill_suns(&mut suns);
+    let config = plan.config;
+    journal::work(
+        first(&targets, plan.targets),
+        first(&suns, plan.times),
+        first(&observers, plan.times),
+        config,
+        plan.n,
+        chunk,
+        journal,
+        used,
+    )
+}
+
+pub(crate) fn recover(plan: Plan, journal: &[u8], used: u64) -> Answer {
+    let targets = [1.0, 0.0, 0.0, 0.0, 0.6, 0.8];
+    let observers = [0.0; 210];
+    let mut suns = [0.0; 210];
+    fill_suns(&mut suns);
+    let config = plan.config;
+    journal::recover(
+        first(&targets, plan.targets),
+        first(&suns, plan.times),
+        first(&observers, plan.times),
+        config,
+        plan.n,
+        journal,
+        used,
+    )
+}
+
+pub(crate) fn collect(plan: Plan, journal: &[u8], used: u64, mask: &mut [u8]) -> Answer {
+    let targets = [1.0, 0.0, 0.0, 0.0, 0.6, 0.8];
+    let observers = [0.0; 210];
+    let mut suns = [0.0; 210];
+    fill_suns(&mut suns);
+    let config = plan.config;
+    journal::collect(
+        first(&targets, plan.targets),
+        first(&suns, plan.times),
+        first(&observers, plan.times),
+        config,
+        plan.n,
+        journal,
+        used,
+        mask,
+    )
+}
