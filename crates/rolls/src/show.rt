@@ -8,7 +8,7 @@ use libc::STDOUT_FILENO;
 use solar_roll::CellRoll;
 
 // What was asked.
-pub fn asked(question: &[u8]) {
+pub(crate) fn asked(question: &[u8]) {
     write_all(STDOUT_FILENO, question);
     write_all(STDOUT_FILENO, b": ");
 }
@@ -20,7 +20,7 @@ fn refused(number: u64) {
 }
 
 // A cell's answer: its roll by its bits.
-pub fn cell(c: CellRoll) {
+pub(crate) fn cell(c: CellRoll) {
     match c {
         CellRoll::Free => {
             write_all(STDOUT_FILENO, b"free\n");
@@ -34,7 +34,7 @@ pub fn cell(c: CellRoll) {
     }
 }
 
-pub fn answered(answer: Answer) {
+pub(crate) fn answered(answer: Answer) {
     match answer {
         Answer::Accepted(number) => {
             write_all(STDOUT_FILENO, b"accepted ");
@@ -50,7 +50,7 @@ fn wide(byte: u8) -> u64 {
 }
 
 // A mask, a digit a byte.
-pub fn bytes(mask: &[u8]) {
+pub(crate) fn bytes(mask: &[u8]) {
     write_all(STDOUT_FILENO, b"  ");
     let mut i = 0;
     while i < mask.len() {
@@ -61,7 +61,7 @@ pub fn bytes(mask: &[u8]) {
 }
 
 // Floats by their bits.
-pub fn bits(values: &[f64]) {
+pub(crate) fn bits(values: &[f64]) {
     let mut i = 0;
     while i < values.len() {
         let value = values[i];
