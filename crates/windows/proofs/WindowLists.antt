@@ -13,11 +13,11 @@ use lib.Dec.{eqb, ltb}
 use lib.IntN.{ℤ}
 use lib.Ieee.{Float}
 use borrow.Author.Tests.{ltb-false}
-use Rattle.buffers.specs.Ranges.{flag}
+use Rattle.buffers.specs.Ranges.{flag, any}
 use Rattle.buffers.specs.Lent.{over}
 use Rattle.buffers.specs.Refusal.{Reply, reply, unlessRefused}
 use Rattle.buffers.proofs.Tests.{flag-le, or-left, or-right}
-use Rattle.buffers.proofs.Lent.{over-next, length-over}
+use Rattle.buffers.proofs.Lent.{over-next, length-over, length-kept, over-more}
 use Rattle.buffers.proofs.Refusal.{written-none, written-some}
 use Rattle.windows.specs.Runs.{Run, run, violationRuns, visibilityRuns}
 use Rattle.windows.specs.Windows.{windowOf, violationWindows, visibilityWindows, Columns, written}
@@ -300,3 +300,78 @@ module _ (mask : List ℕ) (times : List ℤ) (severities : List Float) (d : Col
           w ∙ ap (λ (t : List Window). written (take count t) d) (visibility-are mask times severities)
               ∙ wrote (λ (t : List Window). written t d) d ws (why (differ (lengths d))) (length (visibilityRuns mask)) count r refl a h (length-visibility mask times),
         )
+
+-- ---- the listings into records: ys is the lent list of them, and zs what it is when k windows are stored
+
+pub record Recording (l : Listing) (mask : List ℕ) (times : List ℤ) (severities : List Float) (k from : ℕ) (ys zs : List Window) : Type 0 where
+  pub reached : Reached l mask times severities k from
+  pub are : zs ≡ over (take k (windowsLeft l mask times severities 0)) ys
+
+module _ (l : Listing) (mask : List ℕ) (times : List ℤ) (severities : List Float) where
+  pub recording-none : (ys : List Window) → Recording l mask times severities 0 0 ys ys
+  unfolding over
+  recording-none ys = record { reached = reached-none l mask times severities; are = refl }
+
+  -- n records are to be stored
+  module _ (n k from : ℕ) (ys zs : List Window) (h : n ≤ length (windowsLeft l mask times severities 0)) (room : n ≤ length ys) (s : Recording l mask times severities k from ys zs) where
+    pub recording-length : k ≤ n → length zs ≡ length ys
+    recording-length j =
+        length-kept zs (take k (left l mask times severities 0)) ys (s .are) (omega (arith, length-take-le k (left l mask times severities 0) (omega arith)))
+
+    pub recording-next : k < n → (w : Window) → left l mask times severities from ≡ w ∷ left l mask times severities (w .last + 1) → w .last < length mask → Recording l mask times severities (k + 1) (w .last + 1) ys (set zs k w)
+    recording-next j w e b = record {
+      reached = reached-next l mask times severities k from w (s .reached) e b;
+      are =
+          over-more zs (take k (left l mask times severities 0)) ys k w (s .are) (length-take-le k (left l mask times severities 0) (omega arith)) (omega arith)
+          ∙ ap (λ (t : List Window). over t ys) (sym (taken-next l mask times severities k from w (s .reached) e));
+    }
+
+-- what the answer r and the count allow, and what they make of a list zs at the end
+pub record Records (l : Listing) (mask : List ℕ) (times : List ℤ) (severities : List Float) (count places : ℕ) : Type 0 where
+  pub few : count ≤ length (windowsLeft l mask times severities 0)
+  pub row : 0 < count → Row l mask times severities
+  pub room : count ≤ places
+
+module _ (mask : List ℕ) (times : List ℤ) (ys : List Window) (count : ℕ) (r : Reply ℕ) (h : count ≡ countOf r) where
+  abbrev ask : List Float → Bool → List Run → ℕ
+  ask severities uneven runs = windowsRefusal (uneven || false) mask times severities (ltb (length ys) (length runs))
+
+  module _ (severities : List Float) (q : r ≡ reply (ask severities (differ (length mask ∷ length times ∷ length severities ∷ [])) (violationRuns mask)) (length (violationRuns mask))) where
+    pub violation-records-ready : Records Violations mask times severities count (length ys)
+    violation-records-ready =
+        let p = ready mask times severities (differ (length mask ∷ length times ∷ length severities ∷ []) || false) (length (violationRuns mask)) count (length ys) r q h in
+        record {
+          few = omega (arith, p .few, length-violations mask times severities, ap length (violations-are mask times severities));
+          row = λ z. violations-row mask times severities false (p .even z);
+          room = p .room;
+        }
+
+    pub violation-recorded : (zs : List Window) → zs ≡ over (take count (windowsLeft Violations mask times severities 0)) ys
+        → (r ≡ reply (violationRefusal mask times severities (length ys ∷ [])) (length (violationWindows mask times severities)))
+        × (zs ≡ unlessRefused (violationRefusal mask times severities (length ys ∷ [])) (over (violationWindows mask times severities) ys) ys)
+    unfolding violationRefusal differ any noRoom over
+    violation-recorded zs w = (
+      q ∙ ap (reply (ask severities (differ (length mask ∷ length times ∷ length severities ∷ [])) (violationRuns mask))) (length-violations mask times severities),
+      w ∙ ap (λ (t : List Window). over (take count t) ys) (violations-are mask times severities)
+          ∙ wrote (λ (t : List Window). over t ys) ys (violationWindows mask times severities) (ask severities (differ (length mask ∷ length times ∷ length severities ∷ [])) (violationRuns mask)) (length (violationRuns mask)) count r refl q h (length-violations mask times severities),
+    )
+
+  module _ (q : r ≡ reply (ask [] (differ (length mask ∷ length times ∷ [])) (visibilityRuns mask)) (length (visibilityRuns mask))) where
+    pub visibility-records-ready : Records Visibility mask times [] count (length ys)
+    visibility-records-ready =
+        let p = ready mask times [] (differ (length mask ∷ length times ∷ []) || false) (length (visibilityRuns mask)) count (length ys) r q h in
+        record {
+          few = omega (arith, p .few, length-visibility mask times, ap length (visibility-are mask times []));
+          row = λ z. visibility-row mask times [] false (p .even z);
+          room = p .room;
+        }
+
+    pub visibility-recorded : (zs : List Window) → zs ≡ over (take count (windowsLeft Visibility mask times [] 0)) ys
+        → (r ≡ reply (visibilityRefusal mask times (length ys ∷ [])) (length (visibilityWindows mask times)))
+        × (zs ≡ unlessRefused (visibilityRefusal mask times (length ys ∷ [])) (over (visibilityWindows mask times) ys) ys)
+    unfolding visibilityRefusal differ any noRoom over
+    visibility-recorded zs w = (
+      q ∙ ap (reply (ask [] (differ (length mask ∷ length times ∷ [])) (visibilityRuns mask))) (length-visibility mask times),
+      w ∙ ap (λ (t : List Window). over (take count t) ys) (visibility-are mask times [])
+          ∙ wrote (λ (t : List Window). over t ys) ys (visibilityWindows mask times) (ask [] (differ (length mask ∷ length times ∷ [])) (visibilityRuns mask)) (length (visibilityRuns mask)) count r refl q h (length-visibility mask times),
+    )

@@ -5,6 +5,7 @@
 // lent place by equality with the definitions of specs/.
 mod expansion;
 mod listings;
+mod records;
 mod refusal;
 mod runs;
 mod seconds;
@@ -12,6 +13,8 @@ mod seconds;
 pub use expansion::expand;
 pub use listings::violation_windows;
 pub use listings::visibility_windows;
+pub use records::violation_records;
+pub use records::visibility_records;
 pub use seconds::total_violation_duration;
 
 // A window: first and last sample number, their times in nanoseconds, the severity, and 1 if the window ends with the

@@ -96,6 +96,31 @@ pub(crate) fn next_window(
     window_at(times, first, last, severity)
 }
 
+// The next violation window, and the next visibility window.
+pub(crate) fn violation_window(
+    mask: &[u8],
+    times: &[i64],
+    severities: &[f64],
+    from: usize,
+) -> Window
+    requires { ⌜ (from ≤ length (now mask)) × Row Listing.Violations (now mask) (now times) (now severities) × (0 < length (windowsLeft Listing.Violations (now mask) (now times) (now severities) from)) ⌝ }
+    ensures { λ r. ⌜ (windowsLeft Listing.Violations (now (mask .entry)) (now (times .entry)) (now (severities .entry)) from
+        ≡ r ∷ windowsLeft Listing.Violations (now (mask .entry)) (now (times .entry)) (now (severities .entry)) (r .last + 1))
+        × (r .last < length (now (mask .entry))) ⌝ }
+{
+    next_window(Listing::Violations, mask, times, severities, from)
+}
+
+pub(crate) fn visibility_window(mask: &[u8], times: &[i64], from: usize) -> Window
+    requires { ⌜ (from ≤ length (now mask)) × Row Listing.Visibility (now mask) (now times) [] × (0 < length (windowsLeft Listing.Visibility (now mask) (now times) [] from)) ⌝ }
+    ensures { λ r. ⌜ (windowsLeft Listing.Visibility (now (mask .entry)) (now (times .entry)) [] from
+        ≡ r ∷ windowsLeft Listing.Visibility (now (mask .entry)) (now (times .entry)) [] (r .last + 1))
+        × (r .last < length (now (mask .entry))) ⌝ }
+{
+    let none = [0.0f64; 0];
+    next_window(Listing::Visibility, mask, times, &none, from)
+}
+
 // Stores a window at place k of the columns.
 fn store(
     k: usize,

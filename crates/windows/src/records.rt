@@ -1,0 +1,63 @@
+// The same listings, as records: each window comes by value, and is stored into a lent slice of structs.
+ghost use mathlib.Core.Path.{_≡_};
+ghost use mathlib.Core.List.{[], _∷_};
+ghost use Prim.Native.Nat.{_+_, _<_, _≤_};
+ghost use lib.ListN.{length};
+ghost use Rattle.buffers.specs.Lent.{over};
+ghost use Rattle.buffers.specs.Refusal.{reply, replyOf, unlessRefused};
+ghost use Rattle.windows.specs.Windows.{violationWindows, visibilityWindows};
+ghost use Rattle.windows.specs.Refusal.{violationRefusal, visibilityRefusal};
+use crate::Window;
+use crate::listings::accepted_count;
+use crate::listings::violation_answer;
+use crate::listings::violation_window;
+use crate::listings::visibility_answer;
+use crate::listings::visibility_window;
+use buffers::Answer;
+
+// The violation windows of a row, as records. Answers how many there are.
+pub fn violation_records(
+    mask: &[u8],
+    times: &[i64],
+    severities: &[f64],
+    out: &mut [Window],
+) -> Answer
+    ensures { λ r. ⌜ (replyOf r
+        ≡ reply (violationRefusal (now (mask .entry)) (now (times .entry)) (now (severities .entry)) (length (now (out .entry)) ∷ [])) (length (violationWindows (now (mask .entry)) (now (times .entry)) (now (severities .entry)))))
+        × (now (out .exit)
+        ≡ unlessRefused (violationRefusal (now (mask .entry)) (now (times .entry)) (now (severities .entry)) (length (now (out .entry)) ∷ []))
+        (over (violationWindows (now (mask .entry)) (now (times .entry)) (now (severities .entry))) (now (out .entry))) (now (out .entry))) ⌝ }
+{
+    let answer = violation_answer(mask, times, severities, false, out.len());
+    let count = accepted_count(answer);
+    let mut k = 0usize;
+    let mut from = 0usize;
+    while k < count {
+        let w = violation_window(mask, times, severities, from);
+        from = w.last as usize + 1;
+        out[k] = w;
+        k += 1;
+    }
+    answer
+}
+
+// The visibility windows of a row, as records. Answers how many there are.
+pub fn visibility_records(mask: &[u8], times: &[i64], out: &mut [Window]) -> Answer
+    ensures { λ r. ⌜ (replyOf r
+        ≡ reply (visibilityRefusal (now (mask .entry)) (now (times .entry)) (length (now (out .entry)) ∷ [])) (length (visibilityWindows (now (mask .entry)) (now (times .entry)))))
+        × (now (out .exit)
+        ≡ unlessRefused (visibilityRefusal (now (mask .entry)) (now (times .entry)) (length (now (out .entry)) ∷ []))
+        (over (visibilityWindows (now (mask .entry)) (now (times .entry))) (now (out .entry))) (now (out .entry))) ⌝ }
+{
+    let answer = visibility_answer(mask, times, false, out.len());
+    let count = accepted_count(answer);
+    let mut k = 0usize;
+    let mut from = 0usize;
+    while k < count {
+        let w = visibility_window(mask, times, from);
+        from = w.last as usize + 1;
+        out[k] = w;
+        k += 1;
+    }
+    answer
+}
