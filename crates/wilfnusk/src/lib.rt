@@ -8,4 +8,5 @@ mod journals;
 mod listings;
 mod masks;
 mod plans;
+mod records;
 mod rolls;
