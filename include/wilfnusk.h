@@ -190,9 +190,19 @@ int64_t wilfnusk_collect(WILFNUSK_PLAN, uint64_t n, const uint8_t *journal, size
 
 /* ---- Windows --------------------------------------------------------------------------------------------------------------------- */
 
-/* A window is a run of samples of one row: a part of a mask, one target's cells, with the samples' times in nanoseconds. The listings write six
- * columns: first and last sample number, their times, severity, and a flag: 1 if the window ends with the final sample, where the data
- * ended; else 0. */
+/* A window is a run of samples of one row: a part of a mask, one target's cells, with the samples' times in nanoseconds. Each listing
+ * writes six values a window, as six columns or as one list of records: first and last sample number, their times, severity, and a flag:
+ * 1 if the window ends with the final sample, where the data ended; else 0. */
+
+/* A window as a record: 48 bytes, 8 a field, and no byte between them. */
+typedef struct wilfnusk_window {
+    uint64_t first;     /* sample numbers, from 0 */
+    uint64_t last;
+    int64_t first_time; /* their times */
+    int64_t last_time;
+    double severity;
+    uint64_t is_last;   /* the flag: 0 or 1 */
+} wilfnusk_window;
 
 /* Lists the longest runs of marked samples, in order. A window's severity is the largest of its samples'. A row of s samples has at most
  * (s + 1) / 2 of them. Answers their number.
@@ -210,6 +220,13 @@ int64_t wilfnusk_visibility_windows(const uint8_t *mask, size_t mask_len, const 
                                     size_t first_len, uint64_t *last, size_t last_len, int64_t *first_time, size_t first_time_len,
                                     int64_t *last_time, size_t last_time_len, double *severity, size_t severity_len, uint8_t *is_last,
                                     size_t is_last_len);
+
+/* The same two lists as records, written into the first places of out. Both answer the number of windows.
+ * Refuse: -1 if mask, times and (the first) severities are not equally long; -2; -8; -14; -7 if there are more windows than out_len. */
+int64_t wilfnusk_violation_records(const uint8_t *mask, size_t mask_len, const int64_t *times, size_t times_len,
+                                   const double *severities, size_t severities_len, wilfnusk_window *out, size_t out_len);
+int64_t wilfnusk_visibility_records(const uint8_t *mask, size_t mask_len, const int64_t *times, size_t times_len, wilfnusk_window *out,
+                                    size_t out_len);
 
 /* Marks the samples whose times lie in a window, ends included. Answers 0. For windows from wilfnusk_violation_windows and strictly
  * increasing times this gives the mask back. If times never fall, windows that ended before a sample are passed for good; if they do

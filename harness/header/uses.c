@@ -26,6 +26,9 @@ int main(void)
     const uint8_t row[5] = {0, 1, 0, 1, 1};
     const int64_t times[5] = {0, 10, 20, 30, 40};
     const double severities[5] = {0, 1.5, 0, 2, 3};
+    /* The second of row's violation windows, as the six words of its record; 3.0's bits. */
+    const uint64_t second[6] = {3, 4, 30, 40, 0x4008000000000000ULL, 1};
+    wilfnusk_window records[3], untouched[3];
     uint8_t expanded[5];
 
     memcpy(&bits, &root, 8);
@@ -53,6 +56,24 @@ int main(void)
            "two violation windows");
     expect(first[1] == 3 && last[1] == 4 && first_time[1] == 30 && last_time[1] == 40 && severity[1] == 3 && flags[1] == 1,
            "the second: 3-4, last");
+
+    expect(sizeof(wilfnusk_window) == 48 && offsetof(wilfnusk_window, first) == 0 && offsetof(wilfnusk_window, last) == 8 &&
+               offsetof(wilfnusk_window, first_time) == 16 && offsetof(wilfnusk_window, last_time) == 24 &&
+               offsetof(wilfnusk_window, severity) == 32 && offsetof(wilfnusk_window, is_last) == 40,
+           "a record of six fields, 8 bytes each");
+    memset(untouched, 0xa5, sizeof untouched);
+    memcpy(records, untouched, sizeof records);
+    expect(wilfnusk_violation_records(row, 5, times, 5, severities, 4, records, 3) == -1, "records: severities of another length");
+    expect(wilfnusk_violation_records(row, 5, times, 5, severities, 5, records, 1) == -7, "records: one place for two windows");
+    expect(wilfnusk_visibility_records(row, 5, times, 5, records, 3) == 0, "records: no visibility window");
+    expect(memcmp(records, untouched, sizeof records) == 0, "records: refused or none, and every byte as it was");
+    expect(wilfnusk_violation_records(row, 5, times, 5, severities, 5, records, 3) == 2, "two violation records");
+    expect(records[0].first == 1 && records[0].last == 1 && records[0].first_time == 10 && records[0].last_time == 10 &&
+               records[0].severity == 1.5 && records[0].is_last == 0,
+           "the first record: 1-1, not last");
+    expect(memcmp(&records[1], second, sizeof second) == 0, "the second record, byte by byte");
+    expect(memcmp(&records[2], &untouched[2], sizeof records[2]) == 0, "the place beyond the records as it was");
+
     expect(wilfnusk_expand(first_time, 2, last_time, 2, times, 5, expanded, 5) == 0 && memcmp(expanded, row, 5) == 0, "expansion");
     expect(wilfnusk_total_violation_duration(first_time, 2, last_time, 2, severity) == 0 && severity[0] == 0, "seconds");
     return failed;

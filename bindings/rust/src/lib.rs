@@ -22,6 +22,7 @@ mod refusal;
 pub mod sys;
 
 pub use refusal::{Call, Refusal};
+pub use sys::Window;
 
 /// Bytes of a journal's header, and of each line after it.
 pub const HEADER_BYTES: u64 = 107;
@@ -201,6 +202,35 @@ pub fn visibility_windows(mask: &[u8], times: &[i64], out: Columns) -> Result<u6
             out.is_last.as_mut_ptr(),
             out.is_last.len(),
         )
+    })
+}
+/// `violation_windows` into records.
+///
+/// ```
+/// let mut out = [wilfnusk::Window::default(); 3];
+/// let count = wilfnusk::violation_records(&[0, 1, 0, 1, 1], &[0, 10, 20, 30, 40], &[0.0, 1.5, 0.0, 2.0, 3.0], &mut out)?;
+/// assert_eq!(count, 2);
+/// assert_eq!(out[1], wilfnusk::Window { first: 3, last: 4, first_time: 30, last_time: 40, severity: 3.0, is_last: 1 });
+/// # Ok::<(), wilfnusk::Refusal>(())
+/// ```
+pub fn violation_records(mask: &[u8], times: &[i64], severities: &[f64], out: &mut [Window]) -> Result<u64, Refusal> {
+    accepted(Call::Windows, unsafe {
+        sys::wilfnusk_violation_records(
+            mask.as_ptr(),
+            mask.len(),
+            times.as_ptr(),
+            times.len(),
+            severities.as_ptr(),
+            severities.len(),
+            out.as_mut_ptr(),
+            out.len(),
+        )
+    })
+}
+/// `visibility_windows` into records.
+pub fn visibility_records(mask: &[u8], times: &[i64], out: &mut [Window]) -> Result<u64, Refusal> {
+    accepted(Call::Windows, unsafe {
+        sys::wilfnusk_visibility_records(mask.as_ptr(), mask.len(), times.as_ptr(), times.len(), out.as_mut_ptr(), out.len())
     })
 }
 /// Marks the samples whose times lie in a window. With repeated or reordered times this is not always the way back from a listing.

@@ -14,7 +14,7 @@ pub enum Call {
     Work,
     Recover,
     Collect,
-    /// A listing of windows.
+    /// A listing of windows, as columns or as records.
     Windows,
     Expand,
     Seconds,

@@ -1,6 +1,21 @@
 //! The C names as include/wilfnusk.h documents them.
 use std::os::raw::c_double;
 
+/// A window record, as the calls for records write it: 48 bytes, 8 a field.
+#[repr(C)]
+#[derive(Clone, Copy, Debug, Default, PartialEq)]
+pub struct Window {
+    /// First and last sample number.
+    pub first: u64,
+    pub last: u64,
+    /// Their times, in nanoseconds.
+    pub first_time: i64,
+    pub last_time: i64,
+    pub severity: f64,
+    /// 1 if the window ends with the final sample because the data ended, else 0.
+    pub is_last: u64,
+}
+
 /// Declares the calls with a plan: the plan's parameters, then the call's own.
 macro_rules! with_plan {
     ($($name:ident($($p:ident: $t:ty),*);)*) => {
@@ -105,4 +120,43 @@ extern "C" {
         last_time_len: usize,
         seconds: *mut f64,
     ) -> i64;
+    pub fn wilfnusk_violation_records(
+        mask: *const u8,
+        mask_len: usize,
+        times: *const i64,
+        times_len: usize,
+        severities: *const f64,
+        severities_len: usize,
+        out: *mut Window,
+        out_len: usize,
+    ) -> i64;
+    pub fn wilfnusk_visibility_records(
+        mask: *const u8,
+        mask_len: usize,
+        times: *const i64,
+        times_len: usize,
+        out: *mut Window,
+        out_len: usize,
+    ) -> i64;
+}
+
+#[cfg(test)]
+mod tests {
+    use super::*;
+    use std::mem::transmute;
+
+    #[test]
+    fn a_record_is_six_words() {
+        // What the library writes into plain words: two records, and nothing beyond them.
+        let (mask, times, severities) = ([0u8, 1, 0, 1, 1], [0i64, 10, 20, 30, -40], [0.0, 1.5, 0.0, 2.0, 3.0]);
+        let mut words = [[!0u64; 6]; 3];
+        let answer = unsafe {
+            wilfnusk_violation_records(mask.as_ptr(), 5, times.as_ptr(), 5, severities.as_ptr(), 5, words.as_mut_ptr().cast(), 3)
+        };
+        assert_eq!(answer, 2);
+        assert_eq!(words, [[1, 1, 10, 10, 1.5f64.to_bits(), 0], [3, 4, 30, -40i64 as u64, 3f64.to_bits(), 1], [!0; 6]]);
+        // The same words as the struct, which `transmute` takes only if it has 48 bytes.
+        let record: Window = unsafe { transmute(words[1]) };
+        assert_eq!(record, Window { first: 3, last: 4, first_time: 30, last_time: -40, severity: 3.0, is_last: 1 });
+    }
 }
