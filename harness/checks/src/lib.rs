@@ -23,6 +23,8 @@ pub trait Calls {
     fn swept(&self, plan: &Plan, n: u64, order: &[u64]) -> Answer<(Vec<u8>, Vec<u8>, u64)>;
     fn violation_windows(&self, mask: &[u8], times: &[i64], severities: &[f64], columns: [usize; 6]) -> Answer<Vec<Window>>;
     fn visibility_windows(&self, mask: &[u8], times: &[i64], columns: [usize; 6]) -> Answer<Vec<Window>>;
+    fn violation_records(&self, mask: &[u8], times: &[i64], severities: &[f64], lent: usize) -> Answer<Vec<Window>>;
+    fn visibility_records(&self, mask: &[u8], times: &[i64], lent: usize) -> Answer<Vec<Window>>;
     fn expand(&self, first: &[i64], last: &[i64], times: &[i64], lent: usize) -> Answer<Vec<u8>>;
     fn seconds(&self, first: &[i64], last: &[i64]) -> Answer<f64>;
 }
@@ -71,6 +73,12 @@ impl Calls for Model {
     }
     fn visibility_windows(&self, mask: &[u8], times: &[i64], columns: [usize; 6]) -> Answer<Vec<Window>> {
         model::windows::visibility_windows(mask, times, columns)
+    }
+    fn violation_records(&self, mask: &[u8], times: &[i64], severities: &[f64], lent: usize) -> Answer<Vec<Window>> {
+        model::windows::violation_windows(mask, times, severities, [lent; 6])
+    }
+    fn visibility_records(&self, mask: &[u8], times: &[i64], lent: usize) -> Answer<Vec<Window>> {
+        model::windows::visibility_windows(mask, times, [lent; 6])
     }
     fn expand(&self, first: &[i64], last: &[i64], times: &[i64], lent: usize) -> Answer<Vec<u8>> {
         model::windows::expand(first, last, times, lent)

@@ -11,6 +11,9 @@ const BYTE: u8 = 0xa5;
 const FLOAT: f64 = -77.125;
 const NUMBER: u64 = 0xdead_beef_0bad_cafe;
 const TIME: i64 = -0x1234_5678_9abc;
+const RECORD: wilfnusk::Window =
+    wilfnusk::Window { first: NUMBER, last: NUMBER, first_time: TIME, last_time: TIME, severity: FLOAT, is_last: NUMBER };
+
 /// The plan, borrowed as the wrapper takes it.
 pub fn lent(p: &Plan) -> wilfnusk::Plan<'_> {
     wilfnusk::Plan {
@@ -68,6 +71,23 @@ fn columns(lent: [usize; 6], call: impl FnOnce(Columns) -> Result<u64, Refusal>)
         is_last: flag(is_last[k] as u64),
     };
     answer.map(|n| (0..n as usize).map(window).collect()).map_err(|r| r.number())
+}
+
+/// Lends records, and gives the windows that the call says it wrote.
+fn records(lent: usize, call: impl FnOnce(&mut [wilfnusk::Window]) -> Result<u64, Refusal>) -> Answer<Vec<Window>> {
+    let mut out = vec![RECORD; lent];
+    let answer = call(&mut out);
+    let n = answer.as_ref().map_or(0, |&n| n as usize);
+    assert!(out[n..].iter().all(|w| *w == RECORD), "{answer:?}, and a place that is not its to write has changed");
+    let window = |w: &wilfnusk::Window| Window {
+        first: w.first as usize,
+        last: w.last as usize,
+        first_time: w.first_time,
+        last_time: w.last_time,
+        severity: w.severity,
+        is_last: flag(w.is_last),
+    };
+    answer.map(|n| out[..n as usize].iter().map(window).collect()).map_err(|r| r.number())
 }
 
 fn flag(x: u64) -> bool {
@@ -138,6 +158,12 @@ impl Calls for Library {
     }
     fn visibility_windows(&self, mask: &[u8], times: &[i64], room: [usize; 6]) -> Answer<Vec<Window>> {
         columns(room, |out| wilfnusk::visibility_windows(mask, times, out))
+    }
+    fn violation_records(&self, mask: &[u8], times: &[i64], severities: &[f64], room: usize) -> Answer<Vec<Window>> {
+        records(room, |out| wilfnusk::violation_records(mask, times, severities, out))
+    }
+    fn visibility_records(&self, mask: &[u8], times: &[i64], room: usize) -> Answer<Vec<Window>> {
+        records(room, |out| wilfnusk::visibility_records(mask, times, out))
     }
     fn expand(&self, first: &[i64], last: &[i64], times: &[i64], room: usize) -> Answer<Vec<u8>> {
         output(room, BYTE, times.len(), |mask| wilfnusk::expand(first, last, times, mask))

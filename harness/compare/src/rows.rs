@@ -1,4 +1,4 @@
-//! Rows of samples: both listings, expansion in both branches, and seconds.
+//! Rows of samples: both listings, as columns and as records, expansion in both branches, and seconds.
 use crate::tally::Tally;
 use cases::{rows, Seeded};
 use checks::Calls;
@@ -37,7 +37,9 @@ fn one(calls: &dyn Calls, t: &mut Tally, s: &mut Seeded, mask: Vec<u8>) {
     let violations = oracle::violation_windows(&mask, &severities, &times);
     let clear = oracle::visibility_windows(&mask, &times);
     t.same("violation windows", calls.violation_windows(&mask, &times, &severities, [places; 6]), violations.clone(), &shown);
-    t.same("visibility windows", calls.visibility_windows(&mask, &times, [places; 6]), clear, &shown);
+    t.same("visibility windows", calls.visibility_windows(&mask, &times, [places; 6]), clear.clone(), &shown);
+    t.same("violation records", calls.violation_records(&mask, &times, &severities, places), violations.clone(), &shown);
+    t.same("visibility records", calls.visibility_records(&mask, &times, places), clear, &shown);
 
     // Expansion of the row's own windows at its times, and of any list of windows at these times.
     let (first, last) = ends(&violations);

@@ -29,7 +29,7 @@ impl Tally {
 }
 
 /// The numbers that each call lists.
-const LISTED: [(&str, &[u8]); 16] = [
+const LISTED: [(&str, &[u8]); 18] = [
     ("cell", &[0, 4, 5, 6]),
     ("named values", &[0, 1, 2, 4, 5, 6, 7]),
     ("batch", &[0, 1, 2, 4, 5, 6, 7]),
@@ -44,6 +44,8 @@ const LISTED: [(&str, &[u8]); 16] = [
     ("collect", &[0, 1, 2, 3, 4, 5, 6, 7, 11, 12, 15]),
     ("violation windows", &[0, 1, 2, 7, 8, 14]),
     ("visibility windows", &[0, 1, 2, 7, 8, 14]),
+    ("violation records", &[0, 1, 2, 7, 8, 14]),
+    ("visibility records", &[0, 1, 2, 7, 8, 14]),
     ("expand", &[0, 1, 2, 7, 8]),
     ("seconds", &[0, 1, 2, 8]),
 ];
@@ -284,6 +286,11 @@ fn of_rows(s: &mut Seeded, t: &mut Tally) {
     t.same("violation windows", columns_of(&Library), columns_of(&Model), &shown);
     let columns_of = |c: &dyn Calls| c.visibility_windows(&mask, &times, columns);
     t.same("visibility windows", columns_of(&Library), columns_of(&Model), &shown);
+    let records_of = |c: &dyn Calls| c.violation_records(&mask, &times, &severities, places);
+    t.same("violation records", records_of(&Library), records_of(&Model), &shown);
+    let records_of = |c: &dyn Calls| c.visibility_records(&mask, &times, places);
+    t.same("visibility records", records_of(&Library), records_of(&Model), &shown);
+
     let (mut first, mut last) = rows::windows(s, &times, 6);
     if s.once_in(1500) {
         first.resize(65_537, 0);
