@@ -4,14 +4,11 @@ use crate::answers::minus;
 use windows::Duration;
 use windows::total_violation_duration;
 ghost use mathlib.Core.Path.{_≡_};
-ghost use lib.ListN.{length};
 ghost use lib.Ieee.{binary64, ofInt};
-ghost use Rattle.buffers.specs.Lent.{over};
-ghost use Rattle.buffers.specs.Refusal.{reply, unlessRefused};
-ghost use Rattle.windows.specs.Expand.{spans, expanded, expandRefusal};
-ghost use Rattle.windows.specs.Refusal.{lengths, violationRefusal, visibilityRefusal};
+ghost use Rattle.buffers.specs.Refusal.{reply};
+ghost use Rattle.windows.specs.Calls.{violationReply, violationColumns, visibilityReply, visibilityColumns, expandReply, expandMask};
 ghost use Rattle.windows.specs.Seconds.{totalSeconds, durationRefusal};
-ghost use Rattle.windows.specs.Windows.{violationWindows, visibilityWindows, columns, written};
+ghost use Rattle.windows.specs.Windows.{columns};
 ghost use Rattle.wilfnusk.specs.Answers.{int64, numberAnswer, numberWritten};
 
 #[no_mangle]
@@ -26,10 +23,10 @@ pub extern "C" fn wilfnusk_violation_windows(
     severity: &mut [f64],
     is_last: &mut [u8],
 ) -> u64
-    ensures { λ r. ⌜ r ≡ int64 (reply (violationRefusal (now (mask .entry)) (now (times .entry)) (now (severities .entry)) (lengths (columns (now (first .entry)) (now (last .entry)) (now («first_time» .entry)) (now («last_time» .entry)) (now (severity .entry)) (now («is_last» .entry))))) (length (violationWindows (now (mask .entry)) (now (times .entry)) (now (severities .entry))))) ⌝ }
+    ensures { λ r. ⌜ r ≡ int64 (violationReply (now (mask .entry)) (now (times .entry)) (now (severities .entry))
+        (columns (now (first .entry)) (now (last .entry)) (now («first_time» .entry)) (now («last_time» .entry)) (now (severity .entry)) (now («is_last» .entry)))) ⌝ }
     ensures { λ _. ⌜ columns (now (first .exit)) (now (last .exit)) (now («first_time» .exit)) (now («last_time» .exit)) (now (severity .exit)) (now («is_last» .exit))
-        ≡ unlessRefused (violationRefusal (now (mask .entry)) (now (times .entry)) (now (severities .entry)) (lengths (columns (now (first .entry)) (now (last .entry)) (now («first_time» .entry)) (now («last_time» .entry)) (now (severity .entry)) (now («is_last» .entry)))))
-        (written (violationWindows (now (mask .entry)) (now (times .entry)) (now (severities .entry))) (columns (now (first .entry)) (now (last .entry)) (now («first_time» .entry)) (now («last_time» .entry)) (now (severity .entry)) (now («is_last» .entry))))
+        ≡ violationColumns (now (mask .entry)) (now (times .entry)) (now (severities .entry))
         (columns (now (first .entry)) (now (last .entry)) (now («first_time» .entry)) (now («last_time» .entry)) (now (severity .entry)) (now («is_last» .entry))) ⌝ }
 {
     int64(windows::violation_windows(
@@ -56,10 +53,10 @@ pub extern "C" fn wilfnusk_visibility_windows(
     severity: &mut [f64],
     is_last: &mut [u8],
 ) -> u64
-    ensures { λ r. ⌜ r ≡ int64 (reply (visibilityRefusal (now (mask .entry)) (now (times .entry)) (lengths (columns (now (first .entry)) (now (last .entry)) (now («first_time» .entry)) (now («last_time» .entry)) (now (severity .entry)) (now («is_last» .entry))))) (length (visibilityWindows (now (mask .entry)) (now (times .entry))))) ⌝ }
+    ensures { λ r. ⌜ r ≡ int64 (visibilityReply (now (mask .entry)) (now (times .entry))
+        (columns (now (first .entry)) (now (last .entry)) (now («first_time» .entry)) (now («last_time» .entry)) (now (severity .entry)) (now («is_last» .entry)))) ⌝ }
     ensures { λ _. ⌜ columns (now (first .exit)) (now (last .exit)) (now («first_time» .exit)) (now («last_time» .exit)) (now (severity .exit)) (now («is_last» .exit))
-        ≡ unlessRefused (visibilityRefusal (now (mask .entry)) (now (times .entry)) (lengths (columns (now (first .entry)) (now (last .entry)) (now («first_time» .entry)) (now («last_time» .entry)) (now (severity .entry)) (now («is_last» .entry)))))
-        (written (visibilityWindows (now (mask .entry)) (now (times .entry))) (columns (now (first .entry)) (now (last .entry)) (now («first_time» .entry)) (now («last_time» .entry)) (now (severity .entry)) (now («is_last» .entry))))
+        ≡ visibilityColumns (now (mask .entry)) (now (times .entry))
         (columns (now (first .entry)) (now (last .entry)) (now («first_time» .entry)) (now («last_time» .entry)) (now (severity .entry)) (now («is_last» .entry))) ⌝ }
 {
     int64(windows::visibility_windows(
@@ -81,9 +78,8 @@ pub extern "C" fn wilfnusk_expand(
     times: &[i64],
     mask: &mut [u8],
 ) -> u64
-    ensures { λ r. ⌜ r ≡ int64 (reply (expandRefusal (now («first_time» .entry)) (now («last_time» .entry)) (now (times .entry)) (length (now (mask .entry)))) 0) ⌝ }
-    ensures { λ _. ⌜ now (mask .exit) ≡ unlessRefused (expandRefusal (now («first_time» .entry)) (now («last_time» .entry)) (now (times .entry)) (length (now (mask .entry))))
-        (over (expanded (now (times .entry)) (spans (now («first_time» .entry)) (now («last_time» .entry)))) (now (mask .entry))) (now (mask .entry)) ⌝ }
+    ensures { λ r. ⌜ r ≡ int64 (expandReply (now («first_time» .entry)) (now («last_time» .entry)) (now (times .entry)) (now (mask .entry))) ⌝ }
+    ensures { λ _. ⌜ now (mask .exit) ≡ expandMask (now («first_time» .entry)) (now («last_time» .entry)) (now (times .entry)) (now (mask .entry)) ⌝ }
 {
     int64(windows::expand(first_time, last_time, times, mask))
 }
