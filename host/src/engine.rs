@@ -1,20 +1,7 @@
 //! The proved library as this program calls it. Every line, mask and window comes from here, and nothing else calls it.
 use crate::plan::Plan;
 use wilfnusk::Columns;
-pub use wilfnusk::{Refusal, Roll, CHUNK_CELLS, HEADER_BYTES, LINE_BYTES};
-
-/// A window of one row.
-#[derive(Clone, Copy, Debug, Default, PartialEq)]
-pub struct Window {
-    /// First and last sample number, and their times in nanoseconds.
-    pub first: u64,
-    pub last: u64,
-    pub first_time: i64,
-    pub last_time: i64,
-    pub severity: f64,
-    /// 1 if the window ends with the final sample because the data ended, else 0.
-    pub is_last: u64,
-}
+pub use wilfnusk::{Refusal, Roll, Window, CHUNK_CELLS, HEADER_BYTES, LINE_BYTES};
 
 fn lent(plan: &Plan) -> wilfnusk::Plan<'_> {
     wilfnusk::Plan {
@@ -101,7 +88,8 @@ pub fn violations(mask: &[u8], times: &[i64], severities: &[f64]) -> Result<Vec<
     listed(mask, |out| wilfnusk::violation_windows(mask, times, severities, out))
 }
 
-/// Lends columns with room for the most windows that a row can have, and reads the windows from them.
+/// Lends columns with room for the most windows that a row can have, and reads the windows from them. A list of zeros costs nothing where no
+/// window is written, and a list of records would be filled first.
 fn listed(mask: &[u8], list: impl FnOnce(Columns) -> Result<u64, Refusal>) -> Result<Vec<Window>, Refusal> {
     let room = (mask.len() + 1) / 2;
     let (mut first, mut last) = (vec![0; room], vec![0; room]);
