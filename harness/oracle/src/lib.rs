@@ -14,7 +14,7 @@ use model::windows::Window;
 use model::Plan;
 use ndarray::Array2;
 use pyo3::prelude::*;
-use std::cell::RefCell;
+use std::cell::{Cell, RefCell};
 use std::rc::Rc;
 
 struct Ephemeris(EphemerisData);
@@ -88,10 +88,38 @@ impl Oracle {
     fn targets(&self) -> Array2<f64> {
         array(&self.vectors.concat())
     }
-    pub fn named_values(&self) -> Vec<f64> {
+    /// As the original hands it over, like the two below: harness/bench times these three.
+    pub fn named_array(&self) -> Array2<f64> {
         patch::lend(&self.vectors);
         let mut named = self.evaluator.compute_named_values(&self.ephemeris, &self.ras, &self.decs, None).unwrap();
-        named.remove("solar_optimal_roll_deg").unwrap().iter().copied().collect()
+        named.remove("solar_optimal_roll_deg").unwrap()
+    }
+    pub fn array_at_roll(&self, roll: model::Roll) -> Array2<bool> {
+        patch::lend(&self.vectors);
+        let roll = match roll {
+            model::Roll::Sweep(r) => EvaluationRoll::Sweep(r),
+            model::Roll::Fixed(r) => EvaluationRoll::Fixed(r),
+        };
+        self.evaluator.in_constraint_batch_at_roll(&self.ephemeris, &self.ras, &self.decs, None, roll).unwrap()
+    }
+    /// `sweep_chunks` from a mask all true, and the cells tried, counted once a roll and prepared chunk.
+    pub fn swept_array(&self, n: u64) -> (Array2<bool>, u64) {
+        patch::lend(&self.vectors);
+        let mut mask = Array2::from_elem((self.vectors.len(), self.times), true);
+        let tried = Rc::new(Cell::new(0));
+        let prepare = |cells: &[roll_sweep::RollCell]| {
+            let inner = roll_sweep::prepare(&*self.evaluator, &self.ephemeris, &self.ras, &self.decs, None, cells)?;
+            let tried = tried.clone();
+            Ok(PreparedRollEvaluator::new(move |cells, roll| {
+                tried.set(tried.get() + cells.len() as u64);
+                inner.evaluate(cells, roll)
+            }))
+        };
+        roll_sweep::sweep_chunks(&mut mask, true, n as usize, prepare).unwrap();
+        (mask, tried.get())
+    }
+    pub fn named_values(&self) -> Vec<f64> {
+        self.named_array().iter().copied().collect()
     }
     /// 1 where a cell is not Free: a tolerance below 0 violates every such cell.
     pub fn not_free(&self) -> Vec<u8> {
@@ -104,12 +132,7 @@ impl Oracle {
         bytes(&self.evaluator.in_constraint_batch(&self.ephemeris, &self.ras, &self.decs, None).unwrap())
     }
     pub fn in_constraint_batch_at_roll(&self, roll: model::Roll) -> Vec<u8> {
-        patch::lend(&self.vectors);
-        let roll = match roll {
-            model::Roll::Sweep(r) => EvaluationRoll::Sweep(r),
-            model::Roll::Fixed(r) => EvaluationRoll::Fixed(r),
-        };
-        bytes(&self.evaluator.in_constraint_batch_at_roll(&self.ephemeris, &self.ras, &self.decs, None, roll).unwrap())
+        bytes(&self.array_at_roll(roll))
     }
     pub fn constrained_at_every_roll(&self, n: u64) -> Vec<u8> {
         patch::lend(&self.vectors);
@@ -169,6 +192,22 @@ fn tracked(mask: &[u8], severities: &[f64], times: &[i64]) -> Vec<ConstraintViol
         |i| (mask[i] != 0, severities[i]),
         |_, at_end| if at_end { "at the end".to_string() } else { String::new() },
     )
+}
+
+/// A row as the original holds it, for timing `track_violations` alone, without descriptions.
+pub struct Row {
+    times: Vec<DateTime<Utc>>,
+    mask: Vec<bool>,
+    severities: Vec<f64>,
+}
+
+impl Row {
+    pub fn new(mask: &[u8], severities: &[f64], times: &[i64]) -> Row {
+        Row { times: instants(times), mask: mask.iter().map(|&b| b != 0).collect(), severities: severities.to_vec() }
+    }
+    pub fn violations(&self) -> Vec<ConstraintViolation> {
+        track_violations(&self.times, |i| (self.mask[i], self.severities[i]), |_, _| String::new())
+    }
 }
 
 /// `track_violations`: once with the times, and once with sample numbers in their place.

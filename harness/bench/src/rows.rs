@@ -1,0 +1,92 @@
+//! Windows of a row of 65,536 samples, lent as columns. A unit is a sample, which is a byte of the mask.
+use crate::case::{side, Case, Limit, Side};
+use crate::inputs;
+use wilfnusk::Columns;
+
+const SAMPLES: usize = 65_536;
+
+/// Which listing.
+#[derive(Clone, Copy, PartialEq)]
+pub enum Listing {
+    Violation,
+    Visibility,
+}
+
+struct Lists {
+    first: Vec<u64>,
+    last: Vec<u64>,
+    first_time: Vec<i64>,
+    last_time: Vec<i64>,
+    severity: Vec<f64>,
+    is_last: Vec<u8>,
+    count: usize,
+}
+
+impl Lists {
+    fn new(places: usize) -> Lists {
+        Lists {
+            first: vec![0; places],
+            last: vec![0; places],
+            first_time: vec![0; places],
+            last_time: vec![0; places],
+            severity: vec![0.0; places],
+            is_last: vec![0; places],
+            count: 0,
+        }
+    }
+    fn columns(&mut self) -> Columns<'_> {
+        Columns {
+            first: &mut self.first,
+            last: &mut self.last,
+            first_time: &mut self.first_time,
+            last_time: &mut self.last_time,
+            severity: &mut self.severity,
+            is_last: &mut self.is_last,
+        }
+    }
+}
+
+/// First and last times.
+fn ends(list: impl Iterator<Item = (i64, i64)>) -> Vec<u8> {
+    list.flat_map(|(a, b)| [a, b]).flat_map(|t| t.to_le_bytes()).collect()
+}
+
+/// `pattern`: the mask's bytes, over and over.
+pub fn windows_case(name: &'static str, listing: Listing, what: &str, pattern: &[u8], limit: Limit) -> Case {
+    let mask: Vec<u8> = pattern.iter().copied().cycle().take(SAMPLES).collect();
+    let times = inputs::times(SAMPLES);
+    let severities: Vec<f64> = (0..SAMPLES).map(|k| (k % 97) as f64 / 8.0).collect();
+    let original = oracle::Row::new(&mask, &severities, &times);
+    let row = move |lists: &mut Lists| {
+        let out = lists.columns();
+        let count = match listing {
+            Listing::Violation => wilfnusk::violation_windows(&mask, &times, &severities, out),
+            Listing::Visibility => wilfnusk::visibility_windows(&mask, &times, out),
+        };
+        lists.count = count.unwrap() as usize;
+    };
+    let found = |lists: &Lists| ends(lists.first_time.iter().copied().zip(lists.last_time.iter().copied()).take(lists.count));
+    // The original's visibility getter makes Python objects: no side here.
+    let other =
+        (listing == Listing::Violation).then(|| -> Box<dyn Side> {
+            side(
+                vec![],
+                move |list| *list = original.violations(),
+                |_| SAMPLES as u64,
+                |list| {
+                    ends(list.iter().map(|v| {
+                        (v.start_time_internal.timestamp_nanos_opt().unwrap(), v.end_time_internal.timestamp_nanos_opt().unwrap())
+                    }))
+                },
+            )
+        });
+    Case {
+        name,
+        title: format!("{} windows, {what}", if listing == Listing::Violation { "violation" } else { "visibility" }),
+        unit: "byte",
+        limit,
+        mask: false,
+        port: side(Lists::new(SAMPLES.div_ceil(2)), row, |_| SAMPLES as u64, found),
+        other,
+    }
+}
