@@ -15,6 +15,7 @@ mod sweeps;
 use case::{Case, Limit, Side};
 use rows::Listing::{Violation, Visibility};
 use std::collections::HashMap;
+use std::hint::black_box;
 use std::process::exit;
 
 const TIMES: usize = 1000;
@@ -55,19 +56,27 @@ const ENTRIES: &[Entry] = &[
     ("chunks-16384", |name, _| sweeps::chunks_case(name, 1024, Limit::Times(1.2, "chunks-1024"))),
 ];
 
-/// Callgrind collects inside of it.
+/// Callgrind collects inside of it: so its call must not be its last act, which would be a jump.
 #[no_mangle]
 #[inline(never)]
 extern "C" fn bench_measured(side: &mut Box<dyn Side>) {
-    side.run()
+    side.run();
+    black_box(());
 }
 
-fn nanoseconds(t: f64) -> String {
-    format!("{:.*} ns", if t * 1e9 < 10.0 { 2 } else { 1 }, t * 1e9)
+/// A unit's time; a byte's as bytes a second.
+fn shown(unit: &str, seconds: f64) -> String {
+    let ns = seconds * 1e9;
+    match unit {
+        "byte" => format!("{:.2} GB/s", 1.0 / ns),
+        _ if ns < 10.0 => format!("{ns:.2} ns"),
+        _ if ns < 1000.0 => format!("{ns:.1} ns"),
+        _ => format!("{:.1} µs", ns / 1000.0),
+    }
 }
 
-/// A row of the table, and whether the limit is met. `before`: the time of a unit of each case so far, on the library's side.
-fn row(case: &mut Case, before: &mut HashMap<&'static str, f64>) -> (String, bool) {
+/// A row of the table, and whether the limit is met. `before`: title and time of a unit, on the library's side, of each case so far.
+fn row(case: &mut Case, before: &mut HashMap<&'static str, (String, f64)>) -> (String, bool) {
     let mut other = case.other.take();
     let mut port = || case.port.run();
     let (ours, theirs) = match &mut other {
@@ -82,45 +91,31 @@ fn row(case: &mut Case, before: &mut HashMap<&'static str, f64>) -> (String, boo
         assert_eq!(units, other.units(), "{}: different work", case.name);
         assert!(answer == other.answer(), "{}: different answers", case.name);
     }
-    let ours = ours / units as f64;
-    let ratio = theirs.map(|t| ours / (t / units as f64));
-    before.insert(case.name, ours);
+    let (ours, theirs) = (ours / units as f64, theirs.map(|t| t / units as f64));
+    let ratio = theirs.map(|t| ours / t);
+    before.insert(case.name, (case.title.clone(), ours));
     let (limit, met) = match case.limit {
         Limit::Ratio(most) => (format!("{most}"), ratio.map(|r| r <= most)),
         Limit::Aim(most, aim) => (format!("{most}, aim {aim}"), ratio.map(|r| r <= most)),
         Limit::Rate(least) => (format!("at least {least} GB/s"), Some(1e-9 / ours >= least)),
         Limit::Times(most, name) => match before.get(name) {
-            Some(time) => (format!("{most} times {name}: is {:.2}", ours / time), Some(ours / time <= most)),
+            Some((title, time)) => (format!("{most} times {title}: is {:.2}", ours / time), Some(ours / time <= most)),
             None => (format!("{most} times {name}"), None),
         },
         Limit::None => (String::new(), None),
     };
-    let marked = if case.mask {
-        format!("{:.1} %", 100.0 * answer.iter().filter(|&&b| b == 1).count() as f64 / answer.len() as f64)
-    } else {
-        String::new()
-    };
-    let shown = if case.unit == "byte" { format!("{:.2} GB/s", 1e-9 / ours) } else { nanoseconds(ours) };
-    let line = format!(
-        "| {} | {} | {} | {} | {} | {} | {} | {} |",
-        case.title,
-        marked,
-        case.unit,
-        shown,
-        theirs.map_or(String::new(), |t| if case.unit == "byte" {
-            format!("{:.2} GB/s", 1e-9 * units as f64 / t)
-        } else {
-            nanoseconds(t / units as f64)
-        }),
+    let share = || 100.0 * answer.iter().filter(|&&b| b == 1).count() as f64 / answer.len() as f64;
+    let line = [
+        case.title.clone(),
+        if case.mask { format!("{:.1} %", share()) } else { String::new() },
+        case.unit.into(),
+        shown(case.unit, ours),
+        theirs.map_or(String::new(), |t| shown(case.unit, t)),
         ratio.map_or(String::new(), |r| format!("{r:.2}")),
         limit,
-        match met {
-            Some(true) => "yes",
-            Some(false) => "NO",
-            None => "",
-        }
-    );
-    (line, met != Some(false))
+        met.map_or("", |met| if met { "yes" } else { "NO" }).into(),
+    ];
+    (format!("| {} |", line.join(" | ")), met != Some(false))
 }
 
 fn usage() -> ! {

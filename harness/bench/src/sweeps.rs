@@ -67,7 +67,8 @@ pub fn sweep_case(name: &'static str, (targets, times): (usize, usize), n: u64, 
     Case {
         name,
         title: format!("sweep, n = {n}, tolerance {tolerance_deg}"),
-        unit: "probe",
+        // One probe a cell: the first, which is the only one or violates nothing.
+        unit: if n == 1 || tolerance_deg >= 180.0 { "cell" } else { "probe" },
         limit,
         mask: true,
         other: Some(original_sweep(&plan, n)),
@@ -83,7 +84,7 @@ pub fn chunks_case(name: &'static str, times: usize, limit: Limit) -> Case {
     let o = oracle(&plan);
     Case {
         name,
-        title: format!("sweep of {} chunks, n = {n}, tolerance 10", count),
+        title: format!("sweep of {count} chunks"),
         unit: "chunk",
         limit,
         mask: false,
