@@ -34,14 +34,17 @@ module _ {A : Type 0} (f : ℕ → A) where
       (set-at (tab n f) _ (drop (suc n) l) (f n) n (length-tab n f) ∙ sym (append-assoc (tab n f) (f n ∷ []) (drop (suc n) l)))
 
   -- what was written once is written over
-  pub filled-more : (n m : ℕ) (l : List A) → n ≤ m → filled m f (filled n f l) ≡ filled m f l
+  pub filled-anew : (g : ℕ → A) (n m : ℕ) (l : List A) → n ≤ m → filled m g (filled n f l) ≡ filled m g l
   unfolding filled
-  filled-more n m l h =
+  filled-anew g n m l h =
       let e : length (tab n f) + (m - n) ≡ m = simp length-tab (omega arith) in
-      let g : n + (m - n) ≡ m = omega arith in
-      ap (λ (t : List A). tab m f ++ t)
+      let i : n + (m - n) ≡ m = omega arith in
+      ap (λ (t : List A). tab m g ++ t)
       (subst (λ (k : ℕ). drop k (tab n f ++ drop n l) ≡ drop m l) e
-      (drop-append-add (tab n f) (drop n l) (m - n) ∙ drop-drop (m - n) n l ∙ ap (λ (k : ℕ). drop k l) g))
+      (drop-append-add (tab n f) (drop n l) (m - n) ∙ drop-drop (m - n) n l ∙ ap (λ (k : ℕ). drop k l) i))
+
+  pub filled-more : (n m : ℕ) (l : List A) → n ≤ m → filled m f (filled n f l) ≡ filled m f l
+  filled-more = filled-anew f
 
   -- a loop in a loop: what the outer one wrote, m, seen by the inner one as its start
   pub filled-settled : (n : ℕ) (l m : List A) → m ≡ filled n f l → m ≡ filled n f m
@@ -54,6 +57,17 @@ module _ {A : Type 0} (f : ℕ → A) where
   pub getD-filled : (n : ℕ) (l : List A) (d : A) (k : ℕ) → k < n → getD (filled n f l) k d ≡ f k
   unfolding filled
   getD-filled n l d k h = List·getD-append (tab n f) (drop n l) d k (omega (arith, length-tab n f)) ∙ getD-tab n f d k h
+
+  -- each value written, then each made from the one that stands
+  pub filled-then : (g : ℕ → A → A) (n : ℕ) (d : A) (l m r : List A) → m ≡ filled n f l → r ≡ filled n (λ k. g k (getD m k d)) m → r ≡ filled n (λ k. g k (f k)) l
+  unfolding filled
+  filled-then g n d l m r e h =
+      let n≤n : n ≤ n = omega arith in
+      let v : (k : ℕ) → k < n → g k (getD m k d) ≡ g k (f k) = λ k i. ap (g k) (ap (λ (t : List A). getD t k d) e ∙ getD-filled n l d k i) in
+      h
+      ∙ ap (λ (t : List A). t ++ drop n m) (tab-ext n (λ k. g k (getD m k d)) (λ k. g k (f k)) v)
+      ∙ ap (λ (t : List A). filled n (λ k. g k (f k)) t) e
+      ∙ filled-anew (λ k. g k (f k)) n n l n≤n
 
   pub getD-filled-beyond : (n : ℕ) (l : List A) (d : A) (k : ℕ) → n ≤ k → getD (filled n f l) k d ≡ getD l k d
   unfolding filled

@@ -9,7 +9,7 @@ use lib.IntN.{ℤ, pos}
 use lib.Dec.{ltb, eqb, lit<, lit≤}
 use lib.Ieee.{Float, nan, inf, fin, binary64, up, down, round, sub, mul, div, neg, lt, eq, ofBits, ofInt}
 use Rattle.float.specs.Arithmetic.{zero·0, one, two, eight, halfTurn, PI, signBitOf, absOf, finite, toDegrees}
-use Rattle.float.specs.Arctangent.{coefficient, halved, series, octantAngle, ratioAngle, quadrantAngle, arctangent}
+use Rattle.float.specs.Arctangent.{coefficient, halved, series, seriesAngle, ratio, quadrantAngle, turnedAngle, arctangent}
 use Rattle.float.proofs.Bounds.{Within, within-add, within-mul, within-quotient, within-neg, within-sub, weaken, Size, Least, loose, size-of, div-sign, size-mul, size-add, size-div, size-one, least-round, least-add, root-keeps}
 
 -- ---- the steps of the arctangent
@@ -50,11 +50,10 @@ eight-within : Within 3 eight
 unfolding ofBits
 eight-within = record { s = false; m = 1; e = pos 3; is = refl; size-le = lit≤ tt }
 
-pub within-octant : (t : Float) → Size 0 t → Within 11 (octantAngle t)
-unfolding octantAngle
-within-octant t z =
-    let q = size-halved _ (size-halved _ (size-halved t z)) in
-    within-mul 3 8 (lit< tt) eight-within (within-mul 0 8 (lit< tt) (loose 0 q) (within-series _ (loose 0 (size-mul 0 0 (lit< tt) q q)) 8 (lit≤ tt)))
+within-eighth : (q : Float) → Size 0 q → Within 11 (seriesAngle q)
+unfolding seriesAngle
+within-eighth q z =
+    within-mul 3 8 (lit< tt) eight-within (within-mul 0 8 (lit< tt) (loose 0 z) (within-series _ (loose 0 (size-mul 0 0 (lit< tt) z z)) 8 (lit≤ tt)))
 
 -- ---- the whole angle
 
@@ -76,23 +75,27 @@ same-zero zero d h =
     absurd (true≢false (sym e ∙ h))
 same-zero (suc n) d h = ne-eqb (suc n) 0 (λ (q : suc n ≡ 0). omega arith)
 
--- of the smaller and the larger
-within-ratio : (m n : ℕ) (e d : ℤ) → m * up e * down d ≤ n * up d * down e → Within 11 (ratioAngle (fin false m e) (fin false n d))
-unfolding ratioAngle eq ofBits
-within-ratio m n e d h = go (eqb (n * up d * 1) (0 * down d)) refl
+-- of the smaller and the larger, from their ratio after three rounds
+within-octant : (m n : ℕ) (e d : ℤ) → m * up e * down d ≤ n * up d * down e
+    → (let q = div binary64 (fin false m e) (fin false n d) in Within 11 (cond (eq (fin false n d) zero·0) zero·0 (seriesAngle (halved (halved (halved q))))))
+unfolding eq ofBits
+within-octant m n e d h = go (eqb (n * up d * 1) (0 * down d)) refl
   where
-    q : eqb (n * up d * 1) (0 * down d) ≡ false → Size 0 (div binary64 (fin false m e) (fin false n d))
+    t : Float
+    t = div binary64 (fin false m e) (fin false n d)
+
+    q : eqb (n * up d * 1) (0 * down d) ≡ false → Size 0 t
     q z =
         let p = same-zero n d z in
         let l : m * up e * down d ≤ 2 ^ 0 * (n * up d * down e) = omega arith in
         size-of 0 (div-sign m n e d p) (within-quotient false false m n e d 0 (lit< tt) p l)
 
-    go : (b : Bool) → eqb (n * up d * 1) (0 * down d) ≡ b → Within 11 (cond (b && true) zero·0 (octantAngle (div binary64 (fin false m e) (fin false n d))))
+    go : (b : Bool) → eqb (n * up d * 1) (0 * down d) ≡ b → Within 11 (cond (b && true) zero·0 (seriesAngle (halved (halved (halved t)))))
     go true z = zero-within 11
-    go false z = within-octant _ (q z)
+    go false z = within-eighth _ (size-halved _ (size-halved _ (size-halved t (q z))))
 
-within-quadrant : (m n : ℕ) (e d : ℤ) → Within 12 (quadrantAngle (fin false m e) (fin false n d))
-unfolding quadrantAngle lt
+within-quadrant : (m n : ℕ) (e d : ℤ) → (let a = fin false m e in let b = fin false n d in Within 12 (quadrantAngle a b (halved (halved (halved (ratio a b))))))
+unfolding quadrantAngle ratio lt
 within-quadrant m n e d = go (ltb (n * up d * down e) (m * up e * down d)) refl
   where
     a : Float
@@ -101,13 +104,17 @@ within-quadrant m n e d = go (ltb (n * up d * down e) (m * up e * down d)) refl
     b : Float
     b = fin false n d
 
-    go : (x : Bool) → ltb (n * up d * down e) (m * up e * down d) ≡ x → Within 12 (cond x (sub binary64 (div binary64 PI two) (ratioAngle (cond x b a) (cond x a b))) (ratioAngle (cond x b a) (cond x a b)))
-    go true z = within-sub 11 (lit< tt) (weaken 1 11 (lit≤ tt) half-PI-within) (within-ratio n m d e (le-of-lt (ltb-true _ _ z)))
-    go false z = weaken 11 12 (lit≤ tt) (within-ratio m n e d (ltb-false _ _ z))
+    -- the angle where x tells whether a > b
+    angle : Bool → Float
+    angle x = cond (eq (cond x a b) zero·0) zero·0 (seriesAngle (halved (halved (halved (div binary64 (cond x b a) (cond x a b))))))
+
+    go : (x : Bool) → ltb (n * up d * down e) (m * up e * down d) ≡ x → Within 12 (cond x (sub binary64 (div binary64 PI two) (angle x)) (angle x))
+    go true z = within-sub 11 (lit< tt) (weaken 1 11 (lit≤ tt) half-PI-within) (within-octant n m d e (le-of-lt (ltb-true _ _ z)))
+    go false z = weaken 11 12 (lit≤ tt) (within-octant m n e d (ltb-false _ _ z))
 
 -- the arctangent of finite numbers is finite
 pub within-arctangent : (y z : Float) → finite y ≡ true → finite z ≡ true → Within 13 (arctangent y z)
-unfolding finite arctangent absOf signBitOf
+unfolding finite arctangent turnedAngle absOf signBitOf
 within-arctangent nan z h g = absurd (true≢false (sym h))
 within-arctangent (inf s) z h g = absurd (true≢false (sym h))
 within-arctangent (fin s m e) nan h g = absurd (true≢false (sym g))
@@ -115,7 +122,7 @@ within-arctangent (fin s m e) (inf t) h g = absurd (true≢false (sym g))
 within-arctangent (fin s m e) (fin t n d) h g = signed s (half t)
   where
     r : Float
-    r = quadrantAngle (fin false m e) (fin false n d)
+    r = let a = fin false m e in let b = fin false n d in quadrantAngle a b (halved (halved (halved (ratio a b))))
 
     half : (b : Bool) → Within 13 (cond b (sub binary64 PI r) r)
     half true = within-sub 12 (lit< tt) (weaken 2 12 (lit≤ tt) PI-within) (within-quadrant m n e d)

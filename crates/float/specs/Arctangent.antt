@@ -20,23 +20,27 @@ unfoldable pub series : Float → ℕ → Float
 series s zero = coefficient 8
 series s (suc j) = add binary64 (coefficient (7 - j)) (mul binary64 s (series s j))
 
--- r = 8·(q·p), where q is t after three rounds, s = q·q and p the series' last
-unfoldable pub octantAngle : Float → Float
-octantAngle t = let q = halved (halved (halved t)) in mul binary64 eight (mul binary64 q (series (mul binary64 q q) 8))
+-- r = 8·(q·p), with s = q·q and p the series' last
+unfoldable pub seriesAngle : Float → Float
+seriesAngle q = mul binary64 eight (mul binary64 q (series (mul binary64 q q) 8))
 
--- r of m, the smaller, and M, the larger: 0 where M = 0
-unfoldable pub ratioAngle : Float → Float → Float
-ratioAngle m M = cond (eq M zero·0) zero·0 (octantAngle (div binary64 m M))
+-- m / M of a and b, M the larger: the first q, not looked at where M = 0
+unfoldable pub ratio : Float → Float → Float
+ratio a b = div binary64 (cond (lt b a) b a) (cond (lt b a) a b)
 
--- r of a and b, taken of the smaller and the larger; where a > b it becomes P/2 - r
-unfoldable pub quadrantAngle : Float → Float → Float
-quadrantAngle a b =
-    let r = ratioAngle (cond (lt b a) b a) (cond (lt b a) a b) in
+-- r of a and b, from the last q: 0 where M = 0; where a > b it becomes P/2 - r
+unfoldable pub quadrantAngle : Float → Float → Float → Float
+quadrantAngle a b q =
+    let r = cond (eq (cond (lt b a) a b) zero·0) zero·0 (seriesAngle q) in
     cond (lt b a) (sub binary64 (div binary64 PI two) r) r
 
--- of (y, z): r of their sizes; where z has its sign bit set, P - r; where y has, -r. NaN unless both are finite.
-unfoldable pub arctangent : Float → Float → Float
-arctangent y z =
-    let r = quadrantAngle (absOf y) (absOf z) in
+-- of (y, z), from the last q: r of their sizes; where z has its sign bit set, P - r; where y has, -r. NaN unless both are finite.
+unfoldable pub turnedAngle : Float → Float → Float → Float
+turnedAngle y z q =
+    let r = quadrantAngle (absOf y) (absOf z) q in
     let h = cond (signBitOf z) (sub binary64 PI r) r in
     cond (finite y && finite z) (cond (signBitOf y) (neg h) h) nan
+
+-- of (y, z): q = m / M of their sizes, three rounds, and the angle from the last q
+unfoldable pub arctangent : Float → Float → Float
+arctangent y z = turnedAngle y z (halved (halved (halved (ratio (absOf y) (absOf z)))))

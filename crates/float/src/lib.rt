@@ -2,10 +2,12 @@
 //
 // Every public function is total, and its contract gives its whole answer by a definition of specs/,
 // over the toolchain's account of IEEE 754.
+mod angles;
 mod arctangent;
 mod arithmetic;
 mod root;
 
+pub use angles::atan2_each;
 pub use arctangent::atan2;
 pub use arithmetic::abs;
 pub use arithmetic::bits;

@@ -135,6 +135,15 @@ fn sqrt_by_steps(x: f64) -> f64
     }
 }
 
+// About the root of f, from y, about 1 / root(f): the root to 26 digits, so that its square is exact; then what that leaves of f, divided by twice the
+// root. Nothing is promised of it.
+pub(crate) fn root_by_inverse(f: f64, y: f64) -> f64 {
+    let s = (f * y + 201326592.0) - 201326592.0;
+    let t = s * s;
+    let h = 0.5 * y;
+    s + (f - t) * h * (1.5 - (f + t) * (h * h))
+}
+
 // About the root of the normal pattern b's number times a power of four, from 1 to 2: its nearest f64 but for one operand in about 2,500.
 // Nothing is promised of it: `sqrt` checks it.
 fn guess(b: u64) -> f64
@@ -146,12 +155,7 @@ fn guess(b: u64) -> f64
     // 1 / root(f) to 4e-7: half the exponent, negated, and two steps of Newton's, with constants that spread the error to both sides.
     let y0 = f64::from_bits(0x5fe5_8b37_0000_0000 - n / 2);
     let y1 = y0 * (1.58114 - 0.584783 * f * y0 * y0);
-    let y = y1 * (1.5000004 - 0.5 * f * y1 * y1);
-    // The root to 26 digits, so that its square is exact; then what that leaves of f, divided by twice the root.
-    let s = (f * y + 201326592.0) - 201326592.0;
-    let t = s * s;
-    let h = 0.5 * y;
-    s + (f - t) * h * (1.5 - (f + t) * (h * h))
+    root_by_inverse(f, y1 * (1.5000004 - 0.5 * f * y1 * y1))
 }
 
 // Whether q is what steps 2 and 3 make of m: m * 2^52 lies above the square of q - 1/2 and below that of q + 1/2.
@@ -197,4 +201,35 @@ pub fn sqrt(x: f64) -> f64
         }
     }
     sqrt_by_steps(x)
+}
+
+// The square root of x, which is g if x lies from 1 to 2 and the guess is good. Nothing is asked of g.
+pub(crate) fn checked_to_two(x: f64, g: f64) -> f64
+    ensures { λ r. ⌜ r ≡ sqrtOf x ⌝ }
+{
+    if x > 0.0 {
+        if g == g {
+            let b = f64::to_bits(x);
+            let c = f64::to_bits(g);
+            if b >> 52 == 1023 {
+                if c >> 52 == 1023 {
+                    let s = scale(b);
+                    if s.half == 1048 {
+                        let q = 0x10_0000_0000_0000 + c % 0x10_0000_0000_0000;
+                        if is_rounded_root(s.significand, q) {
+                            return g;
+                        }
+                    }
+                }
+            }
+        }
+    }
+    sqrt(x)
+}
+
+// The square root of x, quick where x lies from 1 to 2 and y is about 1 / root(x). Nothing is asked of y.
+pub(crate) fn sqrt_by_inverse(x: f64, y: f64) -> f64
+    ensures { λ r. ⌜ r ≡ sqrtOf x ⌝ }
+{
+    checked_to_two(x, root_by_inverse(x, y))
 }

@@ -20,8 +20,11 @@ sub-y0 c = search needs
 float-from-bits-y0 : tie.Need-float-from-bits-y0
 float-from-bits-y0 c = low-pattern _ (omega arith)
 
+root-by-inverse-requires : tie.Need-root-by-inverse-requires
+root-by-inverse-requires c κs = search needs
+
 returns : tie.Need-returns
 returns c = search needs
 
 pub guess-spec : {M : Type 1} → statement M
-guess-spec = tie.close (tie.spec add-n add-n-2 float-from-bits-f sub-y0 float-from-bits-y0 returns)
+guess-spec = tie.close (tie.spec add-n add-n-2 float-from-bits-f sub-y0 float-from-bits-y0 root-by-inverse-requires returns)
