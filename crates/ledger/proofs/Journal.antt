@@ -10,7 +10,7 @@ use Rattle.buffers.specs.Ranges.{any}
 use Rattle.buffers.specs.Refusal.{first, carried, refused, accepted}
 use Rattle.float.specs.Root.{sqrtOf}
 use Rattle.float.specs.Arithmetic.{zero·0, absOf, remEuclid, toDegrees, signBitOf, finite}
-use Rattle.float.specs.Arctangent.{coefficient, halved, series, octantAngle, ratioAngle, quadrantAngle, arctangent}
+use Rattle.float.specs.Arctangent.{coefficient, halved, series, seriesAngle, ratio, quadrantAngle, turnedAngle, arctangent}
 use Rattle.solar_roll.specs.Vectors.{Vector, vector, dot3, norm3, cross3, over3, normalize3, unwrapOr}
 use Rattle.solar_roll.specs.Roll.{xHat, yHat, zHat, sunUnit, sunAlongBoresight, panelIsFree, panelAngle, rollIsUnconstrained, perpendicular, poleFallback, north, yAxis, bodyAxes, rollDegIn, solarOptimalRollDeg, circularDiffDeg}
 use Rattle.solar_roll.specs.Cell.{optimalRoll, violates, inForce, badPosition, badDirection, tooLarge}
@@ -46,7 +46,7 @@ unfolding headerOf headTolerance headPanel headConfigured toBits ofInt ofBits
 example-header = refl
 
 pub example-line : lineOf (sweepOf plan 1) 0 ≡ line
-unfolding lineOf sweepOf cellViolated triple rowDirection rowConfig sunAt cellOf violatesAt headConfigured violates inForce circularDiffDeg remEuclid absOf add sub mul div rem neg lt le eq ofInt ofBits sqrtOf sunUnit optimalRoll rollIsUnconstrained sunAlongBoresight panelIsFree panelAngle solarOptimalRollDeg rollDegIn bodyAxes yAxis north perpendicular poleFallback unwrapOr normalize3 over3 cross3 norm3 dot3 toDegrees arctangent quadrantAngle ratioAngle octantAngle series halved coefficient signBitOf finite
+unfolding lineOf sweepOf cellViolated triple rowDirection rowConfig sunAt cellOf violatesAt headConfigured violates inForce circularDiffDeg remEuclid absOf add sub mul div rem neg lt le eq ofInt ofBits sqrtOf sunUnit optimalRoll rollIsUnconstrained sunAlongBoresight panelIsFree panelAngle solarOptimalRollDeg rollDegIn bodyAxes yAxis north perpendicular poleFallback unwrapOr normalize3 over3 cross3 norm3 dot3 toDegrees arctangent quadrantAngle ratio turnedAngle seriesAngle series halved coefficient signBitOf finite
 example-line = refl
 
 -- ---- a list of entries, from an empty journal: every call is lent the plan, and 200 bytes beyond J
@@ -66,5 +66,5 @@ pub example-trace : trace (sweepOf plan 1) (begin room ∷ work 0 room ∷ cut 5
     ∷ record { reply = refused 10; bytes = header ++ line }
     ∷ record { reply = accepted (gathered (0 ∷ 1 ∷ []) 2); bytes = header ++ line }
     ∷ []
-unfolding trace hexText ones headerOf headTolerance headPanel toBits planRefusal samplingOf unlikeLengths tooMany first carried any badPosition badDirection tooLarge sweepOf cellViolated triple rowDirection rowConfig sunAt cellOf violatesAt headConfigured violates inForce circularDiffDeg remEuclid absOf add sub mul div rem neg lt le eq ofInt ofBits sqrtOf sunUnit optimalRoll rollIsUnconstrained sunAlongBoresight panelIsFree panelAngle solarOptimalRollDeg rollDegIn bodyAxes yAxis north perpendicular poleFallback unwrapOr normalize3 over3 cross3 norm3 dot3 toDegrees arctangent quadrantAngle ratioAngle octantAngle series halved coefficient signBitOf finite
+unfolding trace hexText ones headerOf headTolerance headPanel toBits planRefusal samplingOf unlikeLengths tooMany first carried any badPosition badDirection tooLarge sweepOf cellViolated triple rowDirection rowConfig sunAt cellOf violatesAt headConfigured violates inForce circularDiffDeg remEuclid absOf add sub mul div rem neg lt le eq ofInt ofBits sqrtOf sunUnit optimalRoll rollIsUnconstrained sunAlongBoresight panelIsFree panelAngle solarOptimalRollDeg rollDegIn bodyAxes yAxis north perpendicular poleFallback unwrapOr normalize3 over3 cross3 norm3 dot3 toDegrees arctangent quadrantAngle ratio turnedAngle seriesAngle series halved coefficient signBitOf finite
 example-trace = refl

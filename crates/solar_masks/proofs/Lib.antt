@@ -1,4 +1,4 @@
 -- Laws of specs/.
 pub mod Calls
 pub mod Shared
-pub mod Table
+pub mod Tiles

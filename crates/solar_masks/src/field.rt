@@ -11,6 +11,7 @@ use solar_roll::body_axes;
 use solar_roll::direction;
 use solar_roll::panel_of;
 use solar_roll::plan_refusal;
+use solar_roll::roll_in;
 use solar_roll::row_config;
 use solar_roll::sampling_or_none;
 use solar_roll::sun_unit;
@@ -46,7 +47,8 @@ fn mark_column(
     while row < rows {
         let axes = body_axes(direction(targets, row));
         let settings = row_config(config, row);
-        mask[row] = mark_byte(axes, unit, panel, rule, settings.tolerance_deg);
+        let cell = roll_in(axes, unit, panel);
+        mask[row] = mark_byte(cell, rule, settings.tolerance_deg);
         row += 1;
     }
 }

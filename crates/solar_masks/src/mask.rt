@@ -1,6 +1,7 @@
 // Masks: a byte a cell, 0 clear or 1 marked, in order of cell number; and the cells' named values.
 use crate::units::block_length;
 use crate::units::fill_units;
+use crate::units::tile_length;
 use buffers::Answer;
 use float::rem_euclid;
 use solar_roll::CellRoll;
@@ -10,17 +11,18 @@ use solar_roll::Panel;
 use solar_roll::SolarRollConfig;
 use solar_roll::body_axes;
 use solar_roll::direction;
+use solar_roll::free_or_at;
 use solar_roll::in_force;
 use solar_roll::panel_of;
 use solar_roll::plan_refusal;
-use solar_roll::roll_in;
+use solar_roll::rolls_deg_in;
 use solar_roll::row_config;
 use solar_roll::sampling_or_none;
-use solar_roll::triple;
 use solar_roll::violated;
 ghost use mathlib.Core.Path.{_≡_};
 ghost use Prim.Native.Nat.{_+_, _-_, _*_, _≤_};
-ghost use lib.ListN.{length};
+ghost use mathlib.Core.List.{[]};
+ghost use lib.ListN.{length, getD};
 ghost use Rattle.buffers.specs.Ranges.{flag};
 ghost use Rattle.buffers.specs.Lent.{filled};
 ghost use Rattle.buffers.specs.Rows.{Columns};
@@ -28,7 +30,7 @@ ghost use Rattle.buffers.specs.Refusal.{replyOf};
 ghost use Rattle.solar_roll.specs.Roll.{bodyAxes};
 ghost use Rattle.solar_roll.specs.Cell.{rollIn};
 ghost use Rattle.solar_roll.specs.Plan.{count as countOf};
-ghost use Rattle.solar_roll.specs.Plan.{planOf, triple, rowDirection, rowConfig, cells, samplingOrNone};
+ghost use Rattle.solar_roll.specs.Plan.{planOf, rowDirection, rowConfig, cells, samplingOrNone};
 ghost use Rattle.solar_masks.specs.Mask.{sampleStep, stepDistance, missesSteps, marked, atRoll, atConfigured, atEveryRoll, cellMark, cellsRefusal, cellsReply, maskAfter};
 
 // What marks a cell: a roll too far from its optimal roll, every multiple of a step too far from it,
@@ -72,27 +74,13 @@ pub(crate) fn byte(b: bool) -> u8
     if b { 1 } else { 0 }
 }
 
-// The byte of a cell by a rule. Where nothing is marked, no roll is worked out.
-pub(crate) fn mark_byte(
-    axes: [[f64; 3]; 3],
-    sun_unit: [f64; 3],
-    panel: Panel,
-    rule: MarkRule,
-    tolerance_deg: f64,
-) -> u8
-    ensures { λ r. ⌜ r ≡ flag (marked (rollIn axes «sun_unit» panel) rule «tolerance_deg») ⌝ }
+// The byte of a cell by a rule.
+pub(crate) fn mark_byte(cell: CellRoll, rule: MarkRule, tolerance_deg: f64) -> u8
+    ensures { λ r. ⌜ r ≡ flag (marked cell rule «tolerance_deg») ⌝ }
 {
     match rule {
-        MarkRule::AtRoll(roll) => byte(violated(
-            roll_in(axes, sun_unit, panel),
-            roll,
-            tolerance_deg,
-        )),
-        MarkRule::EveryStep(step) => byte(misses_steps(
-            roll_in(axes, sun_unit, panel),
-            step,
-            tolerance_deg,
-        )),
+        MarkRule::AtRoll(roll) => byte(violated(cell, roll, tolerance_deg)),
+        MarkRule::EveryStep(step) => byte(misses_steps(cell, step, tolerance_deg)),
         MarkRule::Nothing => 0,
     }
 }
@@ -131,25 +119,89 @@ pub(crate) fn at_every_roll(n: u64, configured: ConfiguredRoll) -> MarkRule
     }
 }
 
+// Writes the bytes of at most 64 cells of a row, a cell for each of the Sun's units, from their rolls, side by side.
+fn mark_cells(
+    axes: [[f64; 3]; 3],
+    units: &[[f64; 3]],
+    panel: Panel,
+    rule: MarkRule,
+    tolerance_deg: f64,
+    mask: &mut [u8],
+)
+    requires { ⌜ (length (now units) ≤ 64) × (length (now units) ≤ length (now mask)) ⌝ }
+    ensures { λ _. ⌜ now (mask .exit) ≡ filled (length (now (units .entry))) (λ k. flag (marked (rollIn axes (getD (now (units .entry)) k []) panel) rule «tolerance_deg»)) (now (mask .entry)) ⌝ }
+{
+    let mut rolls = [0.0; 64];
+    rolls_deg_in(axes, units, panel.angle, &mut rolls);
+    let mut k = 0;
+    while k < units.len() {
+        let unit = units[k];
+        let roll = rolls[k];
+        let cell = free_or_at(axes, unit, panel, roll);
+        mask[k] = mark_byte(cell, rule, tolerance_deg);
+        k += 1;
+    }
+}
+
 // Writes the bytes of `count` cells of a row, whose Sun units lie in `units`.
-fn mark_row(
-    target: [f64; 3],
+fn mark_tiles(
+    axes: [[f64; 3]; 3],
     tolerance_deg: f64,
     panel: Panel,
-    units: &[f64],
+    units: &[[f64; 3]],
     count: usize,
     rule: MarkRule,
     mask: &mut [u8],
 )
-    requires { ⌜ count ≤ length (now mask) ⌝ }
-    ensures { λ _. ⌜ now (mask .exit) ≡ filled count (λ j. flag (marked (rollIn (bodyAxes target) (triple (now (units .entry)) j) panel) rule «tolerance_deg»)) (now (mask .entry)) ⌝ }
+    requires { ⌜ (count ≤ length (now units)) × (count ≤ length (now mask)) ⌝ }
+    ensures { λ _. ⌜ now (mask .exit) ≡ filled count (λ j. flag (marked (rollIn axes (getD (now (units .entry)) j []) panel) rule «tolerance_deg»)) (now (mask .entry)) ⌝ }
 {
-    let axes = body_axes(target);
+    let mut from = 0;
+    while from < count {
+        let to = from + tile_length(count - from);
+        mark_cells(
+            axes,
+            &units[from..to],
+            panel,
+            rule,
+            tolerance_deg,
+            &mut mask[from..],
+        );
+        from = to;
+    }
+}
+
+// Marks none of `count` cells.
+fn clear_cells(count: usize, mask: &mut [u8])
+    requires { ⌜ count ≤ length (now mask) ⌝ }
+    ensures { λ _. ⌜ now (mask .exit) ≡ filled count (λ j. 0) (now (mask .entry)) ⌝ }
+{
     let mut j = 0;
     while j < count {
-        let unit = triple(units, j);
-        mask[j] = mark_byte(axes, unit, panel, rule, tolerance_deg);
+        mask[j] = 0;
         j += 1;
+    }
+}
+
+// Writes the bytes of `count` cells of a row, whose Sun units lie in `units`. Where nothing is marked, no roll is
+// worked out.
+fn mark_row(
+    target: [f64; 3],
+    tolerance_deg: f64,
+    panel: Panel,
+    units: &[[f64; 3]],
+    count: usize,
+    rule: MarkRule,
+    mask: &mut [u8],
+)
+    requires { ⌜ (count ≤ length (now units)) × (count ≤ length (now mask)) ⌝ }
+    ensures { λ _. ⌜ now (mask .exit) ≡ filled count (λ j. flag (marked (rollIn (bodyAxes target) (getD (now (units .entry)) j []) panel) rule «tolerance_deg»)) (now (mask .entry)) ⌝ }
+{
+    let axes = body_axes(target);
+    match rule {
+        MarkRule::AtRoll(_) => mark_tiles(axes, tolerance_deg, panel, units, count, rule, mask),
+        MarkRule::EveryStep(_) => mark_tiles(axes, tolerance_deg, panel, units, count, rule, mask),
+        MarkRule::Nothing => clear_cells(count, mask),
     }
 }
 
@@ -159,15 +211,15 @@ fn mark_block(
     targets: &[f64],
     config: SolarRollConfig,
     panel: Panel,
-    units: &[f64],
+    units: &[[f64; 3]],
     times: usize,
     from: usize,
     count: usize,
     rule: MarkRule,
     mask: &mut [u8],
 )
-    requires { ⌜ (countOf (now targets) * times ≤ length (now mask)) × (from + count ≤ times) ⌝ }
-    ensures { λ _. ⌜ Columns (countOf (now (targets .entry))) times (countOf (now (targets .entry))) from count (λ r j. flag (marked (rollIn (bodyAxes (rowDirection (now (targets .entry)) r)) (triple (now (units .entry)) (j - from)) panel) rule (rowConfig config r .«tolerance_deg»))) 0 (now (mask .entry)) (now (mask .exit)) ⌝ }
+    requires { ⌜ (countOf (now targets) * times ≤ length (now mask)) × (from + count ≤ times) × (count ≤ length (now units)) ⌝ }
+    ensures { λ _. ⌜ Columns (countOf (now (targets .entry))) times (countOf (now (targets .entry))) from count (λ r j. flag (marked (rollIn (bodyAxes (rowDirection (now (targets .entry)) r)) (getD (now (units .entry)) (j - from) []) panel) rule (rowConfig config r .«tolerance_deg»))) 0 (now (mask .entry)) (now (mask .exit)) ⌝ }
 {
     let rows = targets.len() / 3;
     let mut row = 0;
@@ -204,7 +256,7 @@ fn mark(
     let times = suns.len() / 3;
     let normal = config.panel_normal;
     let panel = panel_of(normal);
-    let mut units = [0.0; 6144];
+    let mut units = [[0.0; 3]; 2048];
     let mut from = 0;
     while from < times {
         let count = block_length(times, from);

@@ -1,10 +1,10 @@
-// The Sun's units of a block of times, in a table of triples.
+// The Sun's units of a block of times, in a table.
 use solar_roll::sun_unit;
 use solar_roll::triple;
 ghost use mathlib.Core.Path.{_≡_};
-ghost use Prim.Native.Nat.{ℕ, _+_, _*_, _≤_, _<_};
-ghost use lib.ListN.{length, set};
-ghost use Rattle.solar_roll.specs.Vectors.{x, y, z};
+ghost use Prim.Native.Nat.{_+_, _≤_, _<_, min};
+ghost use lib.ListN.{length};
+ghost use Rattle.buffers.specs.Lent.{filled};
 ghost use Rattle.solar_roll.specs.Roll.{sunUnit};
 ghost use Rattle.solar_roll.specs.Plan.{triple};
 
@@ -23,15 +23,11 @@ pub(crate) fn block_length(times: usize, from: usize) -> usize
     }
 }
 
-// Writes the i-th triple of xs.
-fn set_triple(xs: &mut [f64], i: usize, v: [f64; 3])
-    requires { ⌜ 3 * i + 2 < length (now xs) ⌝ }
-    ensures { λ _. ⌜ now (xs .exit) ≡ set (set (set (now (xs .entry)) (3 * i) (x v)) (3 * i + 1) (y v)) (3 * i + 2) (z v) ⌝ }
+// How many cells of `left` are worked side by side.
+pub(crate) fn tile_length(left: usize) -> usize
+    ensures { λ r. ⌜ r ≡ min 64 left ⌝ }
 {
-    let k = 3 * i;
-    xs[k] = v[0];
-    xs[k + 1] = v[1];
-    xs[k + 2] = v[2];
+    if left < 64 { left } else { 64 }
 }
 
 // Writes the Sun's units of `count` times, from the time `from` on.
@@ -40,16 +36,17 @@ pub(crate) fn fill_units(
     observers: &[f64],
     from: usize,
     count: usize,
-    units: &mut [f64],
+    units: &mut [[f64; 3]],
 )
-    requires { ⌜ (3 * count ≤ length (now units)) × (from + count ≤ 65536) ⌝ }
-    ensures { λ _. ⌜ ((t : ℕ) → t < count → triple (now (units .exit)) t ≡ sunUnit (triple (now (suns .entry)) (from + t)) (triple (now (observers .entry)) (from + t))) ⌝ }
+    requires { ⌜ (count ≤ length (now units)) × (from + count ≤ 65536) ⌝ }
+    ensures { λ _. ⌜ now (units .exit) ≡ filled count (λ t. sunUnit (triple (now (suns .entry)) (from + t)) (triple (now (observers .entry)) (from + t))) (now (units .entry)) ⌝ }
 {
     let mut j = 0;
     while j < count {
         let sun = triple(suns, from + j);
         let observer = triple(observers, from + j);
-        set_triple(units, j, sun_unit(sun, observer));
+        let unit = sun_unit(sun, observer);
+        units[j] = unit;
         j += 1;
     }
 }

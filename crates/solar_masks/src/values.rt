@@ -2,37 +2,44 @@
 use crate::mask::cells_refusal;
 use crate::units::block_length;
 use crate::units::fill_units;
+use crate::units::tile_length;
 use buffers::Answer;
 use solar_roll::Panel;
 use solar_roll::SolarRollConfig;
 use solar_roll::body_axes;
 use solar_roll::direction;
 use solar_roll::panel_of;
-use solar_roll::roll_deg_in;
-use solar_roll::triple;
+use solar_roll::rolls_deg_in;
 ghost use mathlib.Core.Path.{_≡_};
 ghost use Prim.Native.Nat.{_+_, _-_, _*_, _≤_};
-ghost use lib.ListN.{length};
+ghost use mathlib.Core.List.{[]};
+ghost use lib.ListN.{length, getD};
 ghost use Rattle.float.specs.Arithmetic.{zero·0};
 ghost use Rattle.buffers.specs.Lent.{filled};
 ghost use Rattle.buffers.specs.Rows.{Columns};
 ghost use Rattle.buffers.specs.Refusal.{replyOf};
 ghost use Rattle.solar_roll.specs.Roll.{bodyAxes, rollDegIn};
 ghost use Rattle.solar_roll.specs.Plan.{count as countOf};
-ghost use Rattle.solar_roll.specs.Plan.{planOf, triple, rowDirection, cells};
+ghost use Rattle.solar_roll.specs.Plan.{planOf, rowDirection, cells};
 ghost use Rattle.solar_masks.specs.Mask.{cellValue, cellsReply, valuesAfter};
 
 // Writes the rolls of `count` cells of a row, whose Sun units lie in `units`.
-fn value_row(target: [f64; 3], panel_angle: f64, units: &[f64], count: usize, values: &mut [f64])
-    requires { ⌜ count ≤ length (now values) ⌝ }
-    ensures { λ _. ⌜ now (values .exit) ≡ filled count (λ j. rollDegIn (bodyAxes target) (triple (now (units .entry)) j) «panel_angle») (now (values .entry)) ⌝ }
+fn value_row(
+    target: [f64; 3],
+    panel_angle: f64,
+    units: &[[f64; 3]],
+    count: usize,
+    values: &mut [f64],
+)
+    requires { ⌜ (count ≤ length (now units)) × (count ≤ length (now values)) ⌝ }
+    ensures { λ _. ⌜ now (values .exit) ≡ filled count (λ j. rollDegIn (bodyAxes target) (getD (now (units .entry)) j []) «panel_angle») (now (values .entry)) ⌝ }
 {
     let axes = body_axes(target);
-    let mut j = 0;
-    while j < count {
-        let unit = triple(units, j);
-        values[j] = roll_deg_in(axes, unit, panel_angle);
-        j += 1;
+    let mut from = 0;
+    while from < count {
+        let to = from + tile_length(count - from);
+        rolls_deg_in(axes, &units[from..to], panel_angle, &mut values[from..]);
+        from = to;
     }
 }
 
@@ -41,14 +48,14 @@ fn value_row(target: [f64; 3], panel_angle: f64, units: &[f64], count: usize, va
 fn value_block(
     targets: &[f64],
     panel_angle: f64,
-    units: &[f64],
+    units: &[[f64; 3]],
     times: usize,
     from: usize,
     count: usize,
     values: &mut [f64],
 )
-    requires { ⌜ (countOf (now targets) * times ≤ length (now values)) × (from + count ≤ times) ⌝ }
-    ensures { λ _. ⌜ Columns (countOf (now (targets .entry))) times (countOf (now (targets .entry))) from count (λ r j. rollDegIn (bodyAxes (rowDirection (now (targets .entry)) r)) (triple (now (units .entry)) (j - from)) «panel_angle») zero·0 (now (values .entry)) (now (values .exit)) ⌝ }
+    requires { ⌜ (countOf (now targets) * times ≤ length (now values)) × (from + count ≤ times) × (count ≤ length (now units)) ⌝ }
+    ensures { λ _. ⌜ Columns (countOf (now (targets .entry))) times (countOf (now (targets .entry))) from count (λ r j. rollDegIn (bodyAxes (rowDirection (now (targets .entry)) r)) (getD (now (units .entry)) (j - from) []) «panel_angle») zero·0 (now (values .entry)) (now (values .exit)) ⌝ }
 {
     let rows = targets.len() / 3;
     let mut row = 0;
@@ -75,7 +82,7 @@ fn write_values(
     let normal = config.panel_normal;
     let panel = panel_of(normal);
     let angle = panel.angle;
-    let mut units = [0.0; 6144];
+    let mut units = [[0.0; 3]; 2048];
     let mut from = 0;
     while from < times {
         let count = block_length(times, from);

@@ -8,7 +8,7 @@ use lib.IntN.{pos}
 use lib.Ieee.{Float, binary64, add, sub, mul, div, rem, neg, lt, le, eq, ofInt, ofBits, round}
 use Rattle.float.specs.Root.{sqrtOf}
 use Rattle.float.specs.Arithmetic.{zero·0, signBitOf, absOf, finite, remEuclid, toDegrees}
-use Rattle.float.specs.Arctangent.{coefficient, halved, series, octantAngle, ratioAngle, quadrantAngle, arctangent}
+use Rattle.float.specs.Arctangent.{coefficient, halved, series, seriesAngle, ratio, quadrantAngle, turnedAngle, arctangent}
 use Rattle.solar_roll.specs.Vectors.{Vector, vector, NEAR_ZERO, dot3, norm3, cross3, over3, normalize3, unwrapOr}
 use Rattle.solar_roll.specs.Roll.{nineTenths, xHat, yHat, zHat, sunUnit, sunAlongBoresight, panelIsFree, panelAngle, rollIsUnconstrained, perpendicular, poleFallback, north, yAxis, bodyAxes, rollDegIn, solarOptimalRollDeg, circularDiffDeg}
 use Rattle.solar_roll.specs.Cell.{LIMIT, optimalRoll}
@@ -37,5 +37,5 @@ Starred =
     × (optimalRoll xHat (sunUnit xHat origin) yHat ≡ Free)
 
 pub starred : Starred
-unfolding optimalRoll sunUnit rollIsUnconstrained sunAlongBoresight panelIsFree panelAngle solarOptimalRollDeg rollDegIn bodyAxes yAxis north perpendicular poleFallback unwrapOr normalize3 over3 cross3 norm3 dot3 circularDiffDeg toDegrees remEuclid arctangent quadrantAngle ratioAngle octantAngle series halved coefficient signBitOf absOf finite sqrtOf add sub mul div rem neg lt le eq ofInt ofBits
+unfolding optimalRoll sunUnit rollIsUnconstrained sunAlongBoresight panelIsFree panelAngle solarOptimalRollDeg rollDegIn bodyAxes yAxis north perpendicular poleFallback unwrapOr normalize3 over3 cross3 norm3 dot3 circularDiffDeg toDegrees remEuclid arctangent quadrantAngle ratio turnedAngle seriesAngle series halved coefficient signBitOf absOf finite sqrtOf add sub mul div rem neg lt le eq ofInt ofBits
 starred = (refl, refl, refl, refl, refl)

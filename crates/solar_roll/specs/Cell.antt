@@ -21,9 +21,13 @@ use Rattle.solar_roll.specs.declared.cell.EvaluationRoll.the-variants.{S
 unfoldable pub optimalRoll : Vector → Vector → Vector → CellRoll
 optimalRoll target sun normal = cond (rollIsUnconstrained target sun normal) Free (At (solarOptimalRollDeg target sun normal))
 
--- the same of what a target's cells share, its axes, and of what all cells share, the panel
+-- the same of what a target's cells share, its axes, and of what all cells share, the panel: from the roll, and whole
+unfoldable pub freeOrAt : Axes → Vector → Panel → Float → CellRoll
+freeOrAt axes sun panel roll = cond (sunAlongBoresight (axis 0 axes) sun || panel .free) Free (At roll)
+
 unfoldable pub rollIn : Axes → Vector → Panel → CellRoll
-rollIn axes sun panel = cond (sunAlongBoresight (axis 0 axes) sun || panel .free) Free (At (rollDegIn axes sun (panel .angle)))
+unfolding freeOrAt
+rollIn axes sun panel = freeOrAt axes sun panel (rollDegIn axes sun (panel .angle))
 
 -- the number and the value of each case of the answer
 unfoldable pub cellReply : CellRoll → Reply CellRoll

@@ -11,7 +11,7 @@ ghost use mathlib.Core.Path.{_≡_};
 ghost use Rattle.buffers.specs.Ranges.{any};
 ghost use Rattle.buffers.specs.Refusal.{reply};
 ghost use Rattle.solar_roll.specs.Roll.{sunUnit};
-ghost use Rattle.solar_roll.specs.Cell.{optimalRoll, rollIn, cellReply, violates, inForce, tooLarge, badPosition, badDirection, cellRefusal};
+ghost use Rattle.solar_roll.specs.Cell.{optimalRoll, freeOrAt, rollIn, cellReply, violates, inForce, tooLarge, badPosition, badDirection, cellRefusal};
 
 // The largest size of a position's or a panel's number.
 const LIMIT: f64 = 1.0e100;
@@ -35,9 +35,9 @@ pub enum CellRoll {
     Refused(u64),
 }
 
-// The cell's answer, from what its row and its panel share. A free cell costs no arctangent.
-pub fn roll_in(axes: [[f64; 3]; 3], sun_unit: [f64; 3], panel: Panel) -> CellRoll
-    ensures { λ r. ⌜ r ≡ rollIn axes «sun_unit» panel ⌝ }
+// The cell's answer, from what its row and its panel share and its roll.
+pub fn free_or_at(axes: [[f64; 3]; 3], sun_unit: [f64; 3], panel: Panel, roll_deg: f64) -> CellRoll
+    ensures { λ r. ⌜ r ≡ freeOrAt axes «sun_unit» panel «roll_deg» ⌝ }
 {
     let target = axes[0];
     if sun_along_boresight(target, sun_unit) {
@@ -46,7 +46,15 @@ pub fn roll_in(axes: [[f64; 3]; 3], sun_unit: [f64; 3], panel: Panel) -> CellRol
     if panel.free {
         return CellRoll::Free;
     }
-    CellRoll::At(roll_deg_in(axes, sun_unit, panel.angle))
+    CellRoll::At(roll_deg)
+}
+
+// The cell's answer, from what its row and its panel share.
+pub fn roll_in(axes: [[f64; 3]; 3], sun_unit: [f64; 3], panel: Panel) -> CellRoll
+    ensures { λ r. ⌜ r ≡ rollIn axes «sun_unit» panel ⌝ }
+{
+    let roll = roll_deg_in(axes, sun_unit, panel.angle);
+    free_or_at(axes, sun_unit, panel, roll)
 }
 
 fn optimal_roll(target: [f64; 3], sun_unit: [f64; 3], panel_normal: [f64; 3]) -> CellRoll

@@ -8,10 +8,18 @@ use crate::vectors::over3;
 use crate::vectors::unwrap_or;
 use float::abs;
 use float::atan2;
+use float::atan2_each;
 use float::rem_euclid_turn;
 use float::sqrt;
 use float::to_degrees;
 ghost use mathlib.Core.Path.{_≡_};
+ghost use mathlib.Core.List.{[]};
+ghost use Prim.Native.Nat.{_≤_, min};
+ghost use lib.Ieee.{binary64, nan, sub};
+ghost use lib.ListN.{length, getD};
+ghost use Rattle.buffers.specs.Lent.{filled};
+ghost use Rattle.float.specs.Arithmetic.{toDegrees};
+ghost use Rattle.solar_roll.specs.Vectors.{dot3};
 ghost use Rattle.solar_roll.specs.Roll.{sunUnit, sunAlongBoresight, panelIsFree, panelAngle, panelOf, rollIsUnconstrained, perpendicular, poleFallback, north, bodyAxes, rollDegIn, solarOptimalRollDeg, circularDiffDeg};
 
 // The unit vector from the observer to the Sun.
@@ -120,6 +128,54 @@ pub fn roll_deg_in(axes: [[f64; 3]; 3], sun_unit: [f64; 3], panel_angle: f64) ->
     let sun_y = dot3(sun_unit, y_axis);
     let sun_z = dot3(sun_unit, z_axis);
     to_degrees(atan2(sun_z, sun_y) - panel_angle)
+}
+
+// The part of each of the Sun's units along an axis.
+fn parts_along(units: &[[f64; 3]], axis: [f64; 3], count: usize, parts: &mut [f64])
+    requires { ⌜ (count ≤ length (now units)) × (count ≤ length (now parts)) ⌝ }
+    ensures { λ _. ⌜ now (parts .exit) ≡ filled count (λ k. dot3 (getD (now (units .entry)) k []) axis) (now (parts .entry)) ⌝ }
+{
+    let mut k = 0;
+    while k < count {
+        let unit = units[k];
+        parts[k] = dot3(unit, axis);
+        k += 1;
+    }
+}
+
+// Makes of each of the Sun's angles the roll.
+fn to_rolls(panel_angle: f64, count: usize, rolls: &mut [f64])
+    requires { ⌜ count ≤ length (now rolls) ⌝ }
+    ensures { λ _. ⌜ now (rolls .exit) ≡ filled count (λ k. toDegrees (sub binary64 (getD (now (rolls .entry)) k nan) «panel_angle»)) (now (rolls .entry)) ⌝ }
+{
+    let mut k = 0;
+    while k < count {
+        let angle = rolls[k];
+        rolls[k] = to_degrees(angle - panel_angle);
+        k += 1;
+    }
+}
+
+fn smaller(a: usize, b: usize) -> usize
+    ensures { λ r. ⌜ r ≡ min a b ⌝ }
+{
+    if a < b { a } else { b }
+}
+
+// The optimal rolls of cells of one row, side by side, a cell for each of the Sun's units: as many as the shorter list
+// has, and at most 64.
+pub fn rolls_deg_in(axes: [[f64; 3]; 3], units: &[[f64; 3]], panel_angle: f64, rolls: &mut [f64])
+    ensures { λ _. ⌜ now (rolls .exit) ≡ filled (min 64 (min (length (now (rolls .entry))) (length (now (units .entry))))) (λ k. rollDegIn axes (getD (now (units .entry)) k []) «panel_angle») (now (rolls .entry)) ⌝ }
+{
+    let count = smaller(64, smaller(rolls.len(), units.len()));
+    let y_axis = axes[1];
+    let z_axis = axes[2];
+    let mut sun_y = [0.0; 64];
+    parts_along(units, y_axis, count, &mut sun_y);
+    let mut sun_z = [0.0; 64];
+    parts_along(units, z_axis, count, &mut sun_z);
+    atan2_each(&sun_z[..count], &sun_y[..count], rolls);
+    to_rolls(panel_angle, count, rolls);
 }
 
 // The roll, in degrees from north, at which the panel gets the most light.

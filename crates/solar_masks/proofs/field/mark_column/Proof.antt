@@ -2,9 +2,11 @@ use Prim.Native.Nat.{ℕ, _-_, _≤_, _<_}
 use Rattle.buffers.proofs.Lent.{filled-zero, length-filled, filled-next}
 use Rattle.buffers.specs.Lent.{filled}
 use Rattle.solar_masks.proofs.Shared.{mark-shared}
-use Rattle.solar_masks.specs.Mask.{markAt}
+use Rattle.solar_masks.specs.Mask.{marked, markAt}
 use Rattle.solar_roll.specs.Plan.{Plan, planOf, rowsOf, sunAt, headPanel}
 use Rattle.solar_roll.specs.Roll.{sunUnit, bodyAxes}
+use Rattle.buffers.specs.Ranges.{flag}
+use Rattle.solar_roll.specs.declared.cell.CellRoll.{CellRoll}
 use Rattle.solar_roll.specs.declared.plan.SolarRollConfig.{SolarRollConfig}
 use borrow.Author.Needs.{needs}
 use denote.Ref.{now}
@@ -58,11 +60,14 @@ body-axes-requires c κs = search needs
 row-config-requires : tie.Need-row-config-requires Inv-loop μ-loop
 row-config-requires c κs = search needs
 
+roll-in-requires : tie.Need-roll-in-requires Inv-loop μ-loop
+roll-in-requires c κs = search needs
+
 mark-byte-requires : tie.Need-mark-byte-requires Inv-loop μ-loop
 mark-byte-requires c κs = search needs
 
 slice-write-mask : tie.Need-slice-write-mask Inv-loop μ-loop
-slice-write-mask c = let o = c .before .before .before .before .before in omega (arith, kept o, Start-of o .pre)
+slice-write-mask c = let o = c .before .before .before .before .before .before in omega (arith, kept o, Start-of o .pre)
 
 add-row : tie.Need-add-row Inv-loop μ-loop
 add-row c = omega arith
@@ -73,13 +78,13 @@ loop-less c = omega arith
 loop-again : tie.Need-loop-again Inv-loop μ-loop
 unfolding sunAt headPanel
 loop-again c =
-    let o = c .before .before .before .before .before in
+    let o = c .before .before .before .before .before .before in
     let m = now (Start-of o .args .mask) in
     let r = o .loop .row in
     let unit = o .before .sun-unit .ensures ∙ ap₂ sunUnit (o .before .before .before .triple .ensures) (o .before .before .triple2 .ensures) in
-    let axes = c .before .before .body-axes .ensures ∙ ap bodyAxes (c .before .before .before .direction .ensures) in
-    let settings = ap (λ (s : SolarRollConfig). s .«tolerance_deg») (c .before .row-config .ensures) in
-    let v = c .mark-byte .ensures ∙ mark-shared (plan o) r (Start-of o .args .time) _ _ _ axes unit (o .before .before .before .before .panel-of .ensures) (Start-of o .args .rule) _ settings in
+    let axes = c .before .before .before .body-axes .ensures ∙ ap bodyAxes (c .before .before .before .before .direction .ensures) in
+    let settings = ap (λ (s : SolarRollConfig). s .«tolerance_deg») (c .before .before .row-config .ensures) in
+    let v = c .mark-byte .ensures ∙ ap (λ (l : CellRoll). flag (marked l (Start-of o .args .rule) (c .before .before .row-config .result .«tolerance_deg»))) (c .before .roll-in .ensures) ∙ mark-shared (plan o) r (Start-of o .args .time) _ _ _ axes unit (o .before .before .before .before .panel-of .ensures) (Start-of o .args .rule) _ settings in
     let h : r < length m = omega (arith, Start-of o .pre) in
     (omega arith, ap (λ (l : List ℕ). set l r (c .mark-byte .result)) (o .loop .inv .1) ∙ filled-next (F o) r m _ h v)
 
@@ -106,6 +111,7 @@ mark-column-spec =
     direction-requires
     body-axes-requires
     row-config-requires
+    roll-in-requires
     mark-byte-requires
     slice-write-mask
     add-row

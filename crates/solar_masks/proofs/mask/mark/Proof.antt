@@ -5,18 +5,21 @@ use Rattle.buffers.specs.Rows.{Columns}
 use Rattle.solar_masks.proofs.Shared.{mark-shared}
 use Rattle.solar_roll.specs.Cell.{rollIn}
 use Rattle.solar_masks.specs.Mask.{marked, markAt, cellMark}
-use Rattle.solar_roll.specs.Plan.{Plan, planOf, count, triple, rowsOf, timesOf, directionOf, configOf, sunAt, headPanel}
+use Rattle.solar_roll.specs.Plan.{Plan, planOf, count, rowsOf, timesOf, directionOf, configOf, sunAt, headPanel}
 use Rattle.solar_roll.specs.Roll.{bodyAxes}
 use borrow.Author.Needs.{needs}
 use denote.Ref.{now}
-use lib.ListN.{length}
+use lib.ListN.{length, getD}
+use mathlib.Core.List.{List, []}
+use Rattle.buffers.proofs.Lent.{length-filled, getD-filled}
+use Rattle.solar_roll.specs.Vectors.{Vector}
 use mathlib.Core.Path.{_≡_, refl, ap, _∙_, subst}
 use native.Mathlib.Omega.{arith}
 use Rattle.solar_masks.proofs.mask.mark.Statement.{statement}
 use Rattle.solar_masks.proofs.mask.mark.Tie as tie
 
 abbrev Inv-loop : tie.InvT-loop
-Inv-loop targets suns observers config rule mask₀ times panel units₀ from₀ mask units from = (from ≤ times) × (length units ≡ 6144) × Columns (count targets) times (count targets) 0 from (markAt (planOf targets suns observers config) rule) 0 mask₀ mask
+Inv-loop targets suns observers config rule mask₀ times panel units₀ from₀ mask units from = (from ≤ times) × (length units ≡ 2048) × Columns (count targets) times (count targets) 0 from (markAt (planOf targets suns observers config) rule) 0 mask₀ mask
 
 abbrev μ-loop : tie.MeasureT-loop
 μ-loop targets suns observers config rule mask₀ times panel units₀ from₀ mask units from = times - from
@@ -30,6 +33,13 @@ plan o = let a = Start-of o .args in planOf (now (a .targets)) (now (a .suns)) (
 
 abbrev F : tie.At-loop Inv-loop μ-loop → ℕ → ℕ → ℕ
 F o = markAt (plan o) (Start-of o .args .rule)
+
+-- the table's length stays
+kept : (c : tie.After-fill-units Inv-loop μ-loop) → c .before .before .block-length .result ≤ length (c .fill-units .last .1 .1 .1 .1 .0)
+kept c =
+    let b = c .before .before .block-length in
+    let h : b .result ≤ length (c .before .before .before .before .loop .units) = omega (arith, c .before .before .before .before .loop .inv .1, b .ensures .1) in
+    omega (arith, ap length (c .fill-units .ensures) ∙ length-filled _ _ _ h, h)
 
 panel-of-requires : tie.Need-panel-of-requires Inv-loop μ-loop
 panel-of-requires c κs = search needs
@@ -50,7 +60,7 @@ slice-aggregate-mark-block : tie.Need-slice-aggregate-mark-block Inv-loop μ-loo
 slice-aggregate-mark-block c = search needs
 
 mark-block-requires : tie.Need-mark-block-requires Inv-loop μ-loop
-mark-block-requires c κs = let o = c .before .before .before .before .before .before .before in (omega (arith, o .loop .inv .2 .same, Start-of o .pre .0), c .before .before .before .before .before .block-length .ensures .2)
+mark-block-requires c κs = let o = c .before .before .before .before .before .before .before in (omega (arith, o .loop .inv .2 .same, Start-of o .pre .0), c .before .before .before .before .before .block-length .ensures .2, omega (arith, kept (c .before .before .before)))
 
 add-from : tie.Need-add-from Inv-loop μ-loop
 add-from c = omega (arith, c .before .before .before .before .before .before .before .before .block-length .ensures .2, Start-of (c .before .before .before .before .before .before .before .before .before .before) .pre .1)
@@ -68,11 +78,11 @@ loop-again c =
     let n = b .result in
     let units = c .before .before .before .before .before .before .fill-units .last .1 .1 .1 .1 .0 in
     let new = c .before .before .mark-block .last .1 .1 .1 .1 .1 .1 .1 .1 .0 in
-    let G : ℕ → ℕ → ℕ = λ r j. flag (marked (rollIn (bodyAxes (directionOf p r)) (triple units (j - o .loop .from)) (o .before .panel-of .result)) (a .rule) (configOf p r .«tolerance_deg»)) in
+    let G : ℕ → ℕ → ℕ = λ r j. flag (marked (rollIn (bodyAxes (directionOf p r)) (getD units (j - o .loop .from) []) (o .before .panel-of .result)) (a .rule) (configOf p r .«tolerance_deg»)) in
     let e : (r j : ℕ) → r < rowsOf p → o .loop .from ≤ j → j < o .loop .from + n → G r j ≡ F o r j = λ r j h l u.
     let q : o .loop .from + (j - o .loop .from) ≡ j = omega arith in
-    mark-shared p r j (bodyAxes (directionOf p r)) (triple units (j - o .loop .from)) (o .before .panel-of .result) refl
-    (c .before .before .before .before .before .before .fill-units .ensures (j - o .loop .from) (omega arith) ∙ ap (sunAt p) q)
+    mark-shared p r j (bodyAxes (directionOf p r)) (getD units (j - o .loop .from) []) (o .before .panel-of .result) refl
+    (ap (λ (x : List Vector). getD x (j - o .loop .from) []) (c .before .before .before .before .before .before .fill-units .ensures) ∙ getD-filled _ n _ [] (j - o .loop .from) (omega arith) ∙ ap (sunAt p) q)
     (o .before .panel-of .ensures) (a .rule) (configOf p r .«tolerance_deg») refl in (
       b .ensures .2,
       search needs,

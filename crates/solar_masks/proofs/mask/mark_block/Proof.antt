@@ -5,12 +5,12 @@ use Rattle.buffers.specs.Ranges.{flag}
 use Rattle.buffers.specs.Rows.{Columns}
 use Rattle.solar_roll.specs.Cell.{rollIn}
 use Rattle.solar_masks.specs.Mask.{marked}
-use Rattle.solar_roll.specs.Plan.{count, triple, rowDirection, rowConfig}
+use Rattle.solar_roll.specs.Plan.{count, rowDirection, rowConfig}
 use Rattle.solar_roll.specs.Roll.{bodyAxes}
 use borrow.Author.Needs.{needs}
 use denote.Ref.{now}
-use lib.ListN.{length-drop, length}
-use mathlib.Core.List.{List}
+use lib.ListN.{length-drop, length, getD}
+use mathlib.Core.List.{List, []}
 use mathlib.Core.Path.{_≡_, sym, subst}
 use native.Mathlib.Nat.{mul-le-mul-right, suc-mul}
 use native.Mathlib.Omega.{arith}
@@ -18,13 +18,13 @@ use Rattle.solar_masks.proofs.mask.mark_block.Statement.{statement}
 use Rattle.solar_masks.proofs.mask.mark_block.Tie as tie
 
 abbrev Inv-loop : tie.InvT-loop
-Inv-loop targets config panel units times from count rule mask₀ rows row₀ mask row = (row ≤ rows) × Columns rows times row from count (λ r j. flag (marked (rollIn (bodyAxes (rowDirection targets r)) (triple units (j - from)) panel) rule (rowConfig config r .«tolerance_deg»))) 0 mask₀ mask
+Inv-loop targets config panel units times from count rule mask₀ rows row₀ mask row = (row ≤ rows) × Columns rows times row from count (λ r j. flag (marked (rollIn (bodyAxes (rowDirection targets r)) (getD units (j - from) []) panel) rule (rowConfig config r .«tolerance_deg»))) 0 mask₀ mask
 
 abbrev μ-loop : tie.MeasureT-loop
 μ-loop targets config panel units times from count rule mask₀ rows row₀ mask row = rows - row
 
 abbrev Start-of : tie.At-loop Inv-loop μ-loop → tie.Start Inv-loop μ-loop
-Start-of o = o .before .before .before .before
+Start-of o = o .before .before .before
 
 abbrev rows : tie.At-loop Inv-loop μ-loop → ℕ
 rows o = count (now (Start-of o .args .targets))
@@ -33,7 +33,7 @@ rows o = count (now (Start-of o .args .targets))
 abbrev F : tie.At-loop Inv-loop μ-loop → ℕ → ℕ → ℕ
 F o r j =
     let a = Start-of o .args in
-    flag (marked (rollIn (bodyAxes (rowDirection (now (a .targets)) r)) (triple (now (a .units)) (j - a .from)) (a .panel)) (a .rule) (rowConfig (a .config) r .«tolerance_deg»))
+    flag (marked (rollIn (bodyAxes (rowDirection (now (a .targets)) r)) (getD (now (a .units)) (j - a .from) []) (a .panel)) (a .rule) (rowConfig (a .config) r .«tolerance_deg»))
 
 room : (o : tie.At-loop Inv-loop μ-loop) → rows o * Start-of o .args .times ≤ length (o .loop .mask)
 room o = omega (arith, o .loop .inv .1 .same, Start-of o .pre .0)
@@ -70,7 +70,7 @@ part-mark-row-end : tie.Need-part-mark-row-end Inv-loop μ-loop
 part-mark-row-end c = search needs
 
 mark-row-requires : tie.Need-mark-row-requires Inv-loop μ-loop
-mark-row-requires c κs = let i = c .before .before .before in rw (part-lent _ (i .before .loop .mask)) (simp length-drop (omega (arith, fits i)))
+mark-row-requires c κs = let i = c .before .before .before in (Start-of (i .before) .pre .2, rw (part-lent _ (i .before .loop .mask)) (simp length-drop (omega (arith, fits i))))
 
 add-row : tie.Need-add-row Inv-loop μ-loop
 add-row c = omega arith
@@ -88,7 +88,7 @@ loop-again c =
     let start = r * a .times + a .from in
     let axes = bodyAxes (c .before .before .before .before .before .direction .result) in
     let tolerance = c .before .before .before .before .row-config .result .«tolerance_deg» in
-    let g : ℕ → ℕ = λ t. flag (marked (rollIn axes (triple (now (a .units)) t) (a .panel)) (a .rule) tolerance) in
+    let g : ℕ → ℕ = λ t. flag (marked (rollIn axes (getD (now (a .units)) t []) (a .panel)) (a .rule) tolerance) in
     let e : (t : ℕ) → t < a .count → g t ≡ F o r (a .from + t) =
     λ t l. let q : a .from + t - a .from ≡ t = omega arith in
     simp (c .before .before .before .before .before .direction .ensures, c .before .before .before .before .row-config .ensures, q) in

@@ -6,9 +6,6 @@ use Rattle.solar_masks.proofs.mask.mark_byte.Tie as tie
 enum-known-rule : tie.Need-enum-known-rule
 enum-known-rule c = search needs
 
-roll-in-requires : tie.Need-roll-in-requires
-roll-in-requires c κs = search needs
-
 violated-requires : tie.Need-violated-requires
 violated-requires c κs = search needs
 
@@ -17,9 +14,6 @@ byte-requires c κs = search needs
 
 enum-known-rule-2 : tie.Need-enum-known-rule-2
 enum-known-rule-2 c = search needs
-
-roll-in-requires-2 : tie.Need-roll-in-requires-2
-roll-in-requires-2 c κs = search needs
 
 misses-steps-requires : tie.Need-misses-steps-requires
 misses-steps-requires c κs = search needs
@@ -32,11 +26,11 @@ enum-told c = search needs
 
 returns : tie.Need-returns
 unfolding marked
-returns c = simp (c .before .before .before .before .rule .given .1, c .byte .ensures, c .before .violated .ensures, c .before .before .roll-in .ensures)
+returns c = simp (c .before .before .before .rule .given .1, c .byte .ensures, c .before .violated .ensures)
 
 returns-2 : tie.Need-returns-2
 unfolding marked
-returns-2 c = simp (c .before .before .before .before .rule2 .given .1, c .byte2 .ensures, c .before .misses-steps .ensures, c .before .before .roll-in2 .ensures)
+returns-2 c = simp (c .before .before .before .rule2 .given .1, c .byte2 .ensures, c .before .misses-steps .ensures)
 
 returns-3 : tie.Need-returns-3
 unfolding marked
@@ -47,11 +41,9 @@ mark-byte-spec =
     tie.close
     (tie.spec
     enum-known-rule
-    roll-in-requires
     violated-requires
     byte-requires
     enum-known-rule-2
-    roll-in-requires-2
     misses-steps-requires
     byte-requires-2
     enum-told

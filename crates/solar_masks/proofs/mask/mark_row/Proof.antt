@@ -1,89 +1,81 @@
-use Prim.Native.Nat.{ℕ, _-_, _≤_, _<_}
-use Rattle.buffers.proofs.Lent.{filled-zero, length-filled, filled-next}
-use Rattle.buffers.specs.Lent.{filled}
+-- `mark_row`: by tiles, or none marked. Assumes nothing.
+use mathlib.Core.Path.{_≡_, sym, ap, _∙_}
+use mathlib.Core.List.{[]}
+use Prim.Native.Nat.{ℕ, _<_}
+use denote.Ref.{now}
+use lib.ListN.{getD}
 use Rattle.buffers.specs.Ranges.{flag}
+use Rattle.buffers.specs.Lent.{filled}
+use Rattle.buffers.proofs.Lent.{filled-ext}
+use Rattle.solar_roll.specs.Roll.{Axes, bodyAxes}
 use Rattle.solar_roll.specs.Cell.{rollIn}
 use Rattle.solar_masks.specs.Mask.{marked}
-use Rattle.solar_roll.specs.Plan.{count, triple}
-use Rattle.solar_roll.specs.Roll.{Axes}
 use borrow.Author.Needs.{needs}
-use denote.Ref.{now}
-use lib.ListN.{length, set}
-use mathlib.Core.List.{List}
-use mathlib.Core.Path.{_≡_, ap, ap₂, _∙_}
-use native.Mathlib.Omega.{arith}
 use Rattle.solar_masks.proofs.mask.mark_row.Statement.{statement}
 use Rattle.solar_masks.proofs.mask.mark_row.Tie as tie
 
-abbrev Inv-loop : tie.InvT-loop
-Inv-loop tolerance-deg panel units count rule mask₀ axes j₀ mask j = (j ≤ count) × (mask ≡ filled j (λ t. flag (marked (rollIn axes (triple units t) panel) rule tolerance-deg)) mask₀)
-
-abbrev μ-loop : tie.MeasureT-loop
-μ-loop tolerance-deg panel units count rule mask₀ axes j₀ mask j = count - j
-
-abbrev Start-of : tie.At-loop Inv-loop μ-loop → tie.Start Inv-loop μ-loop
-Start-of o = o .before .before .before .before
-
--- the byte of each cell
-abbrev F : tie.At-loop Inv-loop μ-loop → ℕ → ℕ
-F o j = let a = Start-of o .args in flag (marked (rollIn (o .before .body-axes .result) (triple (now (a .units)) j) (a .panel)) (a .rule) (a .tolerance-deg))
-
-kept : (o : tie.At-loop Inv-loop μ-loop) → length (o .loop .mask) ≡ length (now (Start-of o .args .mask))
-kept o = ap length (o .loop .inv .1) ∙ length-filled (F o) (o .loop .j) (now (Start-of o .args .mask)) (omega (arith, Start-of o .pre))
-
-body-axes-requires : tie.Need-body-axes-requires Inv-loop μ-loop
+body-axes-requires : tie.Need-body-axes-requires
 body-axes-requires c κs = search needs
 
-loop-holds : tie.Need-loop-holds Inv-loop μ-loop
-loop-holds c = (omega arith, filled-zero _ _)
+enum-told : tie.Need-enum-told
+enum-told c = search needs
 
-triple-requires : tie.Need-triple-requires Inv-loop μ-loop
-triple-requires c κs = search needs
+mark-tiles-requires : tie.Need-mark-tiles-requires
+mark-tiles-requires c κs = search needs
 
-mark-byte-requires : tie.Need-mark-byte-requires Inv-loop μ-loop
-mark-byte-requires c κs = search needs
+enum-told-2 : tie.Need-enum-told-2
+enum-told-2 c = search needs
 
-slice-write-mask : tie.Need-slice-write-mask Inv-loop μ-loop
-slice-write-mask c = omega (arith, kept (c .before .before .before), Start-of (c .before .before .before) .pre)
+mark-tiles-requires-2 : tie.Need-mark-tiles-requires-2
+mark-tiles-requires-2 c κs = search needs
 
-add-j : tie.Need-add-j Inv-loop μ-loop
-add-j c = omega arith
+enum-told-3 : tie.Need-enum-told-3
+enum-told-3 c = search needs
 
-loop-less : tie.Need-loop-less Inv-loop μ-loop
-loop-less c = omega arith
+clear-cells-requires : tie.Need-clear-cells-requires
+clear-cells-requires c κs = search needs
 
-loop-again : tie.Need-loop-again Inv-loop μ-loop
-loop-again c =
-    let o = c .before .before .before in
-    let m = now (Start-of o .args .mask) in
-    let v : c .mark-byte .result ≡ F o (o .loop .j) = simp (c .mark-byte .ensures, c .before .triple .ensures) in
-    let h : o .loop .j < length m = omega (arith, Start-of o .pre) in
-    (omega arith, ap (λ (l : List ℕ). set l (o .loop .j) (c .mark-byte .result)) (o .loop .inv .1) ∙ filled-next (F o) (o .loop .j) m _ h v)
+same-length : tie.Need-same-length
+same-length c = search needs
 
-same-length : tie.Need-same-length Inv-loop μ-loop
-same-length c = kept (c .before)
-
-returns : tie.Need-returns Inv-loop μ-loop
+returns : tie.Need-returns
 returns c =
-    let o = c .before in
-    let a = Start-of o .args in
-    let e : o .loop .j ≡ a .count = omega arith in
-    o .loop .inv .1
-    ∙ ap₂ (λ (n : ℕ) (axes : Axes). filled n (λ j. flag (marked (rollIn axes (triple (now (a .units)) j) (a .panel)) (a .rule) (a .tolerance-deg))) (now (a .mask))) e (o .before .body-axes .ensures)
+    let b = c .before .before .before .before .before .before in
+    let a = b .before .before .args in
+    c .before .before .mark-tiles .ensures
+    ∙ ap (λ (axes : Axes). filled (a .count) (λ j. flag (marked (rollIn axes (getD (now (a .units)) j []) (a .panel)) (a .rule) (a .tolerance-deg))) (now (a .mask))) (b .body-axes .ensures)
+
+same-length-2 : tie.Need-same-length-2
+same-length-2 c = search needs
+
+returns-2 : tie.Need-returns-2
+returns-2 c =
+    let b = c .before .before .before .before .before .before in
+    let a = b .before .before .args in
+    c .before .before .mark-tiles2 .ensures
+    ∙ ap (λ (axes : Axes). filled (a .count) (λ j. flag (marked (rollIn axes (getD (now (a .units)) j []) (a .panel)) (a .rule) (a .tolerance-deg))) (now (a .mask))) (b .body-axes .ensures)
+
+same-length-3 : tie.Need-same-length-3
+same-length-3 c = search needs
+
+returns-3 : tie.Need-returns-3
+unfolding marked
+returns-3 c = c .before .before .clear-cells .ensures ∙ filled-ext _ _ _ _ (λ k h. simp (c .before .before .before .before .enum-told3 .given .1))
 
 pub mark-row-spec : {M : Type 1} → statement M
 mark-row-spec =
     tie.close
     (tie.spec
-    Inv-loop
-    μ-loop
     body-axes-requires
-    loop-holds
-    triple-requires
-    mark-byte-requires
-    slice-write-mask
-    add-j
-    loop-less
-    loop-again
+    enum-told
+    mark-tiles-requires
+    enum-told-2
+    mark-tiles-requires-2
+    enum-told-3
+    clear-cells-requires
     same-length
-    returns)
+    returns
+    same-length-2
+    returns-2
+    same-length-3
+    returns-3)

@@ -1,39 +1,34 @@
-use Prim.Native.Nat.{ℕ, _+_, _-_, _*_, _≤_, _<_}
-use Rattle.solar_masks.proofs.Table.{set3, length-set3, triples-next, unit-vector}
-use Rattle.solar_roll.specs.Plan.{count, triple}
-use Rattle.solar_roll.specs.Roll.{sunUnit}
-use Rattle.solar_roll.specs.Vectors.{Vector, x, y, z, vector}
+-- `fill_units`: before time j of the block, the units of those before it stand. Assumes nothing.
+use Prim.Native.Nat.{_+_, _-_, _≤_, _<_}
+use mathlib.Core.Path.{_≡_, refl, _∙_}
+use native.Mathlib.Omega.{arith}
 use borrow.Author.Needs.{needs}
 use denote.Ref.{now}
-use lib.Ieee.{Float}
-use lib.ListN.{length}
-use mathlib.Core.List.{List}
-use mathlib.Core.Path.{_≡_, refl, sym, ap, _∙_, subst}
-use native.Mathlib.Nat.{not-suc-le-zero}
-use native.Mathlib.Omega.{arith}
+use lib.ListN.{length, length-set}
+use Rattle.buffers.specs.Lent.{filled}
+use Rattle.buffers.proofs.Lent.{filled-zero, filled-next}
+use Rattle.solar_roll.specs.Plan.{triple}
+use Rattle.solar_roll.specs.Roll.{sunUnit}
 use Rattle.solar_masks.proofs.units.fill_units.Statement.{statement}
 use Rattle.solar_masks.proofs.units.fill_units.Tie as tie
 
 abbrev Inv-loop : tie.InvT-loop
-Inv-loop suns observers from count units₀ j₀ units j = (j ≤ count) × (length units ≡ length units₀) × ((t : ℕ) → t < j → triple units t ≡ sunUnit (triple suns (from + t)) (triple observers (from + t)))
+Inv-loop suns observers from count units₀ j₀ units j = (j ≤ count) × (count ≤ length units₀) × (length units ≡ length units₀) × (units ≡ filled j (λ t. sunUnit (triple suns (from + t)) (triple observers (from + t))) units₀)
 
 abbrev μ-loop : tie.MeasureT-loop
 μ-loop suns observers from count units₀ j₀ units j = count - j
 
-abbrev Start-of : tie.At-loop Inv-loop μ-loop → tie.Start Inv-loop μ-loop
-Start-of o = o .before .before .before .before
-
 loop-holds : tie.Need-loop-holds Inv-loop μ-loop
-loop-holds c = (omega arith, refl, λ t h. absurd (not-suc-le-zero h))
+loop-holds c = (omega arith, omega arith, refl, filled-zero _ _)
 
 add-triple : tie.Need-add-triple Inv-loop μ-loop
-add-triple c = omega arith
+add-triple c = search needs
 
 triple-requires : tie.Need-triple-requires Inv-loop μ-loop
 triple-requires c κs = search needs
 
 add-triple-2 : tie.Need-add-triple-2 Inv-loop μ-loop
-add-triple-2 c = omega arith
+add-triple-2 c = search needs
 
 triple-requires-2 : tie.Need-triple-requires-2 Inv-loop μ-loop
 triple-requires-2 c κs = search needs
@@ -41,38 +36,31 @@ triple-requires-2 c κs = search needs
 sun-unit-requires : tie.Need-sun-unit-requires Inv-loop μ-loop
 sun-unit-requires c κs = search needs
 
-set-triple-requires : tie.Need-set-triple-requires Inv-loop μ-loop
-set-triple-requires c κs = omega (arith, c .before .before .before .before .before .loop .inv .1)
+mul-unit : tie.Need-mul-unit Inv-loop μ-loop
+mul-unit c = search needs
+
+slice-set-from-unit : tie.Need-slice-set-from-unit Inv-loop μ-loop
+slice-set-from-unit c = search needs
 
 add-j : tie.Need-add-j Inv-loop μ-loop
-add-j c = omega arith
+add-j c = search needs
 
 loop-less : tie.Need-loop-less Inv-loop μ-loop
-loop-less c = omega arith
+loop-less c = search needs
 
 loop-again : tie.Need-loop-again Inv-loop μ-loop
 loop-again c =
-    let o = c .before .before .before .before .before .before .before .before in
-    let a = Start-of o .args in
-    let j = o .loop .j in
-    let old = o .loop .units in
-    let u = c .before .before .before .sun-unit .result in
-    let h : 3 * j + 2 < length old = omega (arith, o .loop .inv .1, Start-of o .pre .0) in
-    let e : u ≡ sunUnit (triple (now (a .suns)) (a .from + j)) (triple (now (a .observers)) (a .from + j))
-    = simp (c .before .before .before .sun-unit .ensures, c .before .before .before .before .before .triple2 .ensures, c .before .before .before .before .before .before .triple .ensures) in
-    let w : c .before .before .set-triple .last .0 ≡ set3 old j u = c .before .before .set-triple .ensures in
-    let G : ℕ → Vector = λ t. sunUnit (triple (now (a .suns)) (a .from + t)) (triple (now (a .observers)) (a .from + t)) in (
-      omega arith,
-      ap length w ∙ length-set3 old j u ∙ o .loop .inv .1,
-      subst (λ (l : List Float). (t : ℕ) → t < j + 1 → triple l t ≡ G t) (sym w)
-          (triples-next G old j u h (ap (λ (v : Vector). vector (x v) (y v) (z v)) e ∙ unit-vector _ _) (o .loop .inv .2)),
-    )
+    let at = c .before .before .before .before .loop in
+    let l : at .j < length (now (c .before .before .before .before .before .before .before .args .units)) = omega arith in
+    (omega arith, at .inv .1, simp length-set (at .inv .2), rw (at .inv .3) (filled-next _ _ _ _ l (simp (c .sun-unit .ensures, c .before .triple2 .ensures, c .before .before .triple .ensures))))
 
 same-length : tie.Need-same-length Inv-loop μ-loop
-same-length c = c .before .loop .inv .1
+same-length c = search needs
 
 returns : tie.Need-returns Inv-loop μ-loop
-returns c = λ t h. c .before .loop .inv .2 t (omega arith)
+returns c =
+    let h : c .before .loop .j ≡ c .before .before .before .before .args .count = omega arith in
+    c .before .loop .inv .3 ∙ rw h
 
 pub fill-units-spec : {M : Type 1} → statement M
 fill-units-spec =
@@ -86,7 +74,8 @@ fill-units-spec =
     add-triple-2
     triple-requires-2
     sun-unit-requires
-    set-triple-requires
+    mul-unit
+    slice-set-from-unit
     add-j
     loop-less
     loop-again

@@ -3,13 +3,13 @@ use Rattle.buffers.proofs.Lent.{filled-part, part-lent}
 use Rattle.buffers.proofs.Rows.{columns-none, columns-row}
 use Rattle.buffers.specs.Rows.{Columns}
 use Rattle.float.specs.Arithmetic.{zero·0}
-use Rattle.solar_roll.specs.Plan.{count, triple, rowDirection}
+use Rattle.solar_roll.specs.Plan.{count, rowDirection}
 use Rattle.solar_roll.specs.Roll.{bodyAxes, rollDegIn}
 use borrow.Author.Needs.{needs}
 use denote.Ref.{now}
 use lib.Ieee.{Float}
-use lib.ListN.{length-drop, length}
-use mathlib.Core.List.{List}
+use lib.ListN.{length-drop, length, getD}
+use mathlib.Core.List.{List, []}
 use mathlib.Core.Path.{_≡_, sym, subst}
 use native.Mathlib.Nat.{mul-le-mul-right, suc-mul}
 use native.Mathlib.Omega.{arith}
@@ -17,20 +17,20 @@ use Rattle.solar_masks.proofs.values.value_block.Statement.{statement}
 use Rattle.solar_masks.proofs.values.value_block.Tie as tie
 
 abbrev Inv-loop : tie.InvT-loop
-Inv-loop targets panel-angle units times from count values₀ rows row₀ values row = (row ≤ rows) × Columns rows times row from count (λ r j. rollDegIn (bodyAxes (rowDirection targets r)) (triple units (j - from)) panel-angle) zero·0 values₀ values
+Inv-loop targets panel-angle units times from count values₀ rows row₀ values row = (row ≤ rows) × Columns rows times row from count (λ r j. rollDegIn (bodyAxes (rowDirection targets r)) (getD units (j - from) []) panel-angle) zero·0 values₀ values
 
 abbrev μ-loop : tie.MeasureT-loop
 μ-loop targets panel-angle units times from count values₀ rows row₀ values row = rows - row
 
 abbrev Start-of : tie.At-loop Inv-loop μ-loop → tie.Start Inv-loop μ-loop
-Start-of o = o .before .before .before .before
+Start-of o = o .before .before .before
 
 abbrev rows : tie.At-loop Inv-loop μ-loop → ℕ
 rows o = count (now (Start-of o .args .targets))
 
 -- the roll of each row at each time
 abbrev F : tie.At-loop Inv-loop μ-loop → ℕ → ℕ → Float
-F o r j = let a = Start-of o .args in rollDegIn (bodyAxes (rowDirection (now (a .targets)) r)) (triple (now (a .units)) (j - a .from)) (a .panel-angle)
+F o r j = let a = Start-of o .args in rollDegIn (bodyAxes (rowDirection (now (a .targets)) r)) (getD (now (a .units)) (j - a .from) []) (a .panel-angle)
 
 room : (o : tie.At-loop Inv-loop μ-loop) → rows o * Start-of o .args .times ≤ length (o .loop .values)
 room o = omega (arith, o .loop .inv .1 .same, Start-of o .pre .0)
@@ -67,7 +67,7 @@ part-value-row-end : tie.Need-part-value-row-end Inv-loop μ-loop
 part-value-row-end c = search needs
 
 value-row-requires : tie.Need-value-row-requires Inv-loop μ-loop
-value-row-requires c κs = let i = c .before .before in rw (part-lent _ (i .before .loop .values)) (simp length-drop (omega (arith, fits i)))
+value-row-requires c κs = let i = c .before .before in (Start-of (i .before) .pre .2, rw (part-lent _ (i .before .loop .values)) (simp length-drop (omega (arith, fits i))))
 
 add-row : tie.Need-add-row Inv-loop μ-loop
 add-row c = omega arith
@@ -84,7 +84,7 @@ loop-again c =
     let m = o .loop .values in
     let start = r * a .times + a .from in
     let axes = bodyAxes (c .before .before .before .before .direction .result) in
-    let g : ℕ → Float = λ t. rollDegIn axes (triple (now (a .units)) t) (a .panel-angle) in
+    let g : ℕ → Float = λ t. rollDegIn axes (getD (now (a .units)) t []) (a .panel-angle) in
     let e : (t : ℕ) → t < a .count → g t ≡ F o r (a .from + t) =
     λ t l. let q : a .from + t - a .from ≡ t = omega arith in
     simp (c .before .before .before .before .direction .ensures, q) in

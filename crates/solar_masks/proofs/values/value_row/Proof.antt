@@ -1,76 +1,99 @@
-use Prim.Native.Nat.{ℕ, _-_, _≤_, _<_}
-use Rattle.buffers.proofs.Lent.{filled-zero, length-filled, filled-next}
-use Rattle.buffers.specs.Lent.{filled}
-use Rattle.solar_roll.specs.Plan.{count, triple}
-use Rattle.solar_roll.specs.Roll.{Axes, rollDegIn}
+-- `value_row`: before a tile, the rolls of the cells before it stand. Assumes nothing.
+use Prim.Native.Nat.{ℕ, _+_, _-_, _≤_, _<_, min}
+use mathlib.Core.Path.{_≡_, refl, sym, ap, ap₂, _∙_}
+use mathlib.Core.List.{List, []}
+use native.Mathlib.Omega.{arith}
 use borrow.Author.Needs.{needs}
 use denote.Ref.{now}
 use lib.Ieee.{Float}
-use lib.ListN.{length, set}
-use mathlib.Core.List.{List}
-use mathlib.Core.Path.{_≡_, ap, ap₂, _∙_}
-use native.Mathlib.Omega.{arith}
+use lib.ListN.{length, getD, take, drop, length-drop}
+use Rattle.buffers.specs.Lent.{filled}
+use Rattle.buffers.proofs.Lent.{filled-zero, length-filled, part-lent}
+use Rattle.solar_roll.specs.Vectors.{Vector}
+use Rattle.solar_roll.specs.Roll.{Axes, rollDegIn}
+use Rattle.solar_masks.proofs.Tiles.{tile, length-tile, tile-next}
 use Rattle.solar_masks.proofs.values.value_row.Statement.{statement}
 use Rattle.solar_masks.proofs.values.value_row.Tie as tie
 
 abbrev Inv-loop : tie.InvT-loop
-Inv-loop panel-angle units count values₀ axes j₀ values j = (j ≤ count) × (values ≡ filled j (λ t. rollDegIn axes (triple units t) panel-angle) values₀)
+Inv-loop panel-angle units count values₀ axes from₀ values from = (from ≤ count) × (count ≤ length units) × (count ≤ length values₀) × (length values ≡ length values₀) × (values ≡ filled from (λ j. rollDegIn axes (getD units j []) panel-angle) values₀)
 
 abbrev μ-loop : tie.MeasureT-loop
-μ-loop panel-angle units count values₀ axes j₀ values j = count - j
-
-abbrev Start-of : tie.At-loop Inv-loop μ-loop → tie.Start Inv-loop μ-loop
-Start-of o = o .before .before .before .before
-
--- the roll of each cell
-abbrev F : tie.At-loop Inv-loop μ-loop → ℕ → Float
-F o j = let a = Start-of o .args in rollDegIn (o .before .body-axes .result) (triple (now (a .units)) j) (a .panel-angle)
-
-kept : (o : tie.At-loop Inv-loop μ-loop) → length (o .loop .values) ≡ length (now (Start-of o .args .values))
-kept o = ap length (o .loop .inv .1) ∙ length-filled (F o) (o .loop .j) (now (Start-of o .args .values)) (omega (arith, Start-of o .pre))
+μ-loop panel-angle units count values₀ axes from₀ values from = count - from
 
 body-axes-requires : tie.Need-body-axes-requires Inv-loop μ-loop
 body-axes-requires c κs = search needs
 
 loop-holds : tie.Need-loop-holds Inv-loop μ-loop
-loop-holds c = (omega arith, filled-zero _ _)
+loop-holds c = (omega arith, omega arith, omega arith, refl, filled-zero _ _)
 
-triple-requires : tie.Need-triple-requires Inv-loop μ-loop
-triple-requires c κs = search needs
+sub-tile-length : tie.Need-sub-tile-length Inv-loop μ-loop
+sub-tile-length c = search needs
 
-roll-deg-in-requires : tie.Need-roll-deg-in-requires Inv-loop μ-loop
-roll-deg-in-requires c κs = search needs
+tile-length-requires : tie.Need-tile-length-requires Inv-loop μ-loop
+tile-length-requires c κs = search needs
 
-mul-values : tie.Need-mul-values Inv-loop μ-loop
-mul-values c = omega (arith, kept (c .before .before .before), Start-of (c .before .before .before) .pre)
+add-to : tie.Need-add-to Inv-loop μ-loop
+add-to c = search needs
 
-slice-write-values : tie.Need-slice-write-values Inv-loop μ-loop
-slice-write-values c = omega (arith, kept (c .before .before .before), Start-of (c .before .before .before) .pre)
+mul-rolls-deg-in : tie.Need-mul-rolls-deg-in Inv-loop μ-loop
+mul-rolls-deg-in c = search needs
 
-add-j : tie.Need-add-j Inv-loop μ-loop
-add-j c = omega arith
+sub-rolls-deg-in : tie.Need-sub-rolls-deg-in Inv-loop μ-loop
+sub-rolls-deg-in c = search needs
+
+part-rolls-deg-in-start : tie.Need-part-rolls-deg-in-start Inv-loop μ-loop
+part-rolls-deg-in-start c = search needs
+
+part-rolls-deg-in-end : tie.Need-part-rolls-deg-in-end Inv-loop μ-loop
+part-rolls-deg-in-end c = search needs
+
+mul-rolls-deg-in-2 : tie.Need-mul-rolls-deg-in-2 Inv-loop μ-loop
+mul-rolls-deg-in-2 c = search needs
+
+sub-rolls-deg-in-2 : tie.Need-sub-rolls-deg-in-2 Inv-loop μ-loop
+sub-rolls-deg-in-2 c = search needs
+
+part-rolls-deg-in-start-2 : tie.Need-part-rolls-deg-in-start-2 Inv-loop μ-loop
+part-rolls-deg-in-start-2 c = search needs
+
+part-rolls-deg-in-end-2 : tie.Need-part-rolls-deg-in-end-2 Inv-loop μ-loop
+part-rolls-deg-in-end-2 c = search needs
+
+rolls-deg-in-requires : tie.Need-rolls-deg-in-requires Inv-loop μ-loop
+rolls-deg-in-requires c κs = search needs
 
 loop-less : tie.Need-loop-less Inv-loop μ-loop
-loop-less c = omega arith
+loop-less c = search needs
 
 loop-again : tie.Need-loop-again Inv-loop μ-loop
 loop-again c =
-    let o = c .before .before .before in
-    let m = now (Start-of o .args .values) in
-    let v : c .roll-deg-in .result ≡ F o (o .loop .j) = simp (c .roll-deg-in .ensures, c .before .triple .ensures) in
-    let h : o .loop .j < length m = omega (arith, Start-of o .pre) in
-    (omega arith, ap (λ (l : List Float). set l (o .loop .j) (c .roll-deg-in .result)) (o .loop .inv .1) ∙ filled-next (F o) (o .loop .j) m _ h v)
+    let t = c .before .before .before .before .before in
+    let o = t .before .before in
+    let at = o .loop in
+    let a = o .before .before .before .args in
+    let w = t .tile-length .result in
+    let m = at .values in
+    let n : at .from + w ≤ length (now (a .values)) = omega (arith, t .tile-length .ensures) in
+    let k = length-tile (now (a .units)) (at .from) w (omega (arith, t .tile-length .ensures)) in
+    let f : Vector → Float = λ u. rollDegIn (o .before .body-axes .result) u (a .panel-angle) in
+    let units = tile (now (a .units)) (at .from) w in
+    let part = take (length m - at .from) (drop (at .from) m) in
+    let i : min 64 (min (length part) (length units)) ≡ w = omega (arith, k, length-drop (at .from) m, ap length (part-lent (at .from) m), t .tile-length .ensures) in
+    let p = c .before .before .rolls-deg-in .ensures ∙ ap (λ (i : ℕ). filled i (λ j. f (getD units j [])) part) i in
+    let e = tile-next (now (a .units)) (at .from) w f [] (now (a .values)) m _ (at .inv .4) n p in
+    (omega (arith, t .tile-length .ensures), at .inv .1, at .inv .2, ap length e ∙ length-filled _ _ _ n, e)
 
 same-length : tie.Need-same-length Inv-loop μ-loop
-same-length c = kept (c .before)
+same-length c = search needs
 
 returns : tie.Need-returns Inv-loop μ-loop
 returns c =
     let o = c .before in
-    let a = Start-of o .args in
-    let e : o .loop .j ≡ a .count = omega arith in
-    o .loop .inv .1
-    ∙ ap₂ (λ (n : ℕ) (axes : Axes). filled n (λ j. rollDegIn axes (triple (now (a .units)) j) (a .panel-angle)) (now (a .values))) e (o .before .body-axes .ensures)
+    let a = o .before .before .before .args in
+    let e : o .loop .from ≡ a .count = omega arith in
+    o .loop .inv .4
+    ∙ ap₂ (λ (n : ℕ) (axes : Axes). filled n (λ j. rollDegIn axes (getD (now (a .units)) j []) (a .panel-angle)) (now (a .values))) e (o .before .body-axes .ensures)
 
 pub value-row-spec : {M : Type 1} → statement M
 value-row-spec =
@@ -80,11 +103,18 @@ value-row-spec =
     μ-loop
     body-axes-requires
     loop-holds
-    triple-requires
-    roll-deg-in-requires
-    mul-values
-    slice-write-values
-    add-j
+    sub-tile-length
+    tile-length-requires
+    add-to
+    mul-rolls-deg-in
+    sub-rolls-deg-in
+    part-rolls-deg-in-start
+    part-rolls-deg-in-end
+    mul-rolls-deg-in-2
+    sub-rolls-deg-in-2
+    part-rolls-deg-in-start-2
+    part-rolls-deg-in-end-2
+    rolls-deg-in-requires
     loop-less
     loop-again
     same-length

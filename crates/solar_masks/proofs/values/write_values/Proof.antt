@@ -10,14 +10,17 @@ use Rattle.solar_roll.specs.Vectors.{Vector}
 use borrow.Author.Needs.{needs}
 use denote.Ref.{now}
 use lib.Ieee.{Float}
-use lib.ListN.{length}
+use lib.ListN.{length, getD}
+use mathlib.Core.List.{List, []}
+use Rattle.buffers.proofs.Lent.{length-filled, getD-filled}
+use Rattle.solar_roll.specs.Vectors.{Vector}
 use mathlib.Core.Path.{_≡_, refl, ap, _∙_, subst}
 use native.Mathlib.Omega.{arith}
 use Rattle.solar_masks.proofs.values.write_values.Statement.{statement}
 use Rattle.solar_masks.proofs.values.write_values.Tie as tie
 
 abbrev Inv-loop : tie.InvT-loop
-Inv-loop targets suns observers values₀ times angle units₀ from₀ values units from = (from ≤ times) × (length units ≡ 6144) × Columns (count targets) times (count targets) 0 from (λ r j. rollDegIn (bodyAxes (rowDirection targets r)) (sunUnit (triple suns j) (triple observers j)) angle) zero·0 values₀ values
+Inv-loop targets suns observers values₀ times angle units₀ from₀ values units from = (from ≤ times) × (length units ≡ 2048) × Columns (count targets) times (count targets) 0 from (λ r j. rollDegIn (bodyAxes (rowDirection targets r)) (sunUnit (triple suns j) (triple observers j)) angle) zero·0 values₀ values
 
 abbrev μ-loop : tie.MeasureT-loop
 μ-loop targets suns observers values₀ times angle units₀ from₀ values units from = times - from
@@ -31,6 +34,13 @@ plan o = let a = Start-of o .args in planOf (now (a .targets)) (now (a .suns)) (
 
 abbrev F : tie.At-loop Inv-loop μ-loop → ℕ → ℕ → Float
 F o r j = rollDegIn (bodyAxes (directionOf (plan o) r)) (sunUnit (triple (plan o .suns) j) (triple (plan o .observers) j)) (o .before .panel-of .result .angle)
+
+-- the table's length stays
+kept : (c : tie.After-fill-units Inv-loop μ-loop) → c .before .before .block-length .result ≤ length (c .fill-units .last .1 .1 .1 .1 .0)
+kept c =
+    let b = c .before .before .block-length in
+    let h : b .result ≤ length (c .before .before .before .before .loop .units) = omega (arith, c .before .before .before .before .loop .inv .1, b .ensures .1) in
+    omega (arith, ap length (c .fill-units .ensures) ∙ length-filled _ _ _ h, h)
 
 panel-of-requires : tie.Need-panel-of-requires Inv-loop μ-loop
 panel-of-requires c κs = search needs
@@ -51,7 +61,7 @@ slice-aggregate-value-block : tie.Need-slice-aggregate-value-block Inv-loop μ-l
 slice-aggregate-value-block c = search needs
 
 value-block-requires : tie.Need-value-block-requires Inv-loop μ-loop
-value-block-requires c κs = let o = c .before .before .before .before .before .before .before in (omega (arith, o .loop .inv .2 .same, Start-of o .pre .0), c .before .before .before .before .before .block-length .ensures .2)
+value-block-requires c κs = let o = c .before .before .before .before .before .before .before in (omega (arith, o .loop .inv .2 .same, Start-of o .pre .0), c .before .before .before .before .before .block-length .ensures .2, omega (arith, kept (c .before .before .before)))
 
 add-from : tie.Need-add-from Inv-loop μ-loop
 add-from c = omega (arith, c .before .before .before .before .before .before .before .before .block-length .ensures .2, Start-of (c .before .before .before .before .before .before .before .before .before .before) .pre .1)
@@ -68,11 +78,11 @@ loop-again c =
     let n = b .result in
     let units = c .before .before .before .before .before .before .fill-units .last .1 .1 .1 .1 .0 in
     let new = c .before .before .value-block .last .1 .1 .1 .1 .1 .1 .0 in
-    let G : ℕ → ℕ → Float = λ r j. rollDegIn (bodyAxes (directionOf p r)) (triple units (j - o .loop .from)) (o .before .panel-of .result .angle) in
+    let G : ℕ → ℕ → Float = λ r j. rollDegIn (bodyAxes (directionOf p r)) (getD units (j - o .loop .from) []) (o .before .panel-of .result .angle) in
     let e : (r j : ℕ) → r < rowsOf p → o .loop .from ≤ j → j < o .loop .from + n → G r j ≡ F o r j = λ r j h l u.
     let q : o .loop .from + (j - o .loop .from) ≡ j = omega arith in
     ap (λ (unit : Vector). rollDegIn (bodyAxes (directionOf p r)) unit (o .before .panel-of .result .angle))
-    (c .before .before .before .before .before .before .fill-units .ensures (j - o .loop .from) (omega arith)
+    (ap (λ (x : List Vector). getD x (j - o .loop .from) []) (c .before .before .before .before .before .before .fill-units .ensures) ∙ getD-filled _ n _ [] (j - o .loop .from) (omega arith)
     ∙ ap (λ (t : ℕ). sunUnit (triple (p .suns) t) (triple (p .observers) t)) q) in (
       b .ensures .2,
       search needs,
