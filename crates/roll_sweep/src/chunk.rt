@@ -5,9 +5,10 @@ use solar_roll::Panel;
 use solar_roll::SolarRollConfig;
 use solar_roll::body_axes;
 use solar_roll::direction;
+use solar_roll::free_or_at;
 use solar_roll::in_force;
 use solar_roll::panel_of;
-use solar_roll::roll_in;
+use solar_roll::rolls_deg_in;
 use solar_roll::row_config;
 use solar_roll::sampling;
 use solar_roll::sun_unit;
@@ -81,8 +82,8 @@ fn chunk_units(suns: &[f64], observers: &[f64], first: usize, cells: usize) -> [
     units
 }
 
-// Sweeps cells of one row, a cell for each of the Sun's units: its samples are tried in turn, up to
-// the first clear one.
+// Sweeps cells of one row, a cell for each of the Sun's units: their optimal rolls are worked out side
+// by side; then the samples of each are tried in turn, up to the first clear one.
 fn sweep_row(
     axes: [[f64; 3]; 3],
     units: &[[f64; 3]],
@@ -94,11 +95,14 @@ fn sweep_row(
     requires { ⌜ (length (now units) ≤ 64) × (length (now rolls) ≤ 3600) ⌝ }
     ensures { λ r. ⌜ r ≡ sweptBy (length (now (units .entry))) (length (now (rolls .entry))) (λ k s. violates (rollIn axes (getD (now (units .entry)) k []) panel) (inForce (EvaluationRoll.Sweep (getD (now (rolls .entry)) s nan)) configured) «tolerance_deg») ⌝ }
 {
+    let mut optimal = [0.0; 64];
+    rolls_deg_in(axes, units, panel.angle, &mut optimal);
     let mut mask: u64 = 0;
     let mut probes: u64 = 0;
     'cells: for k in 0..units.len() {
         let unit = units[k];
-        let cell = roll_in(axes, unit, panel);
+        let best = optimal[k];
+        let cell = free_or_at(axes, unit, panel, best);
         'rolls: for s in 0..rolls.len() {
             probes += 1;
             let sample = rolls[s];

@@ -1,6 +1,6 @@
 -- `sweep_row`: before cell k, mask and probes are those of the cells before it; before sample s of it, all samples before s violate it. Assumes nothing.
 use Prim.Native.Nat.{ℕ, _+_, _-_, _≤_, _<_}
-use mathlib.Core.Path.{_≡_, refl, sym, _∙_}
+use mathlib.Core.Path.{_≡_, refl, sym, ap, _∙_}
 use mathlib.Core.Bool.{Bool, true}
 use mathlib.Core.List.{List, []}
 use native.Mathlib.Nat.{mul-le-mul}
@@ -10,9 +10,10 @@ use borrow.Author.Tests.{not-true, not-false}
 use lib.ListN.{length, getD}
 use lib.Ieee.{Float, nan}
 use Rattle.buffers.specs.Ranges.{allBelow}
+use Rattle.buffers.proofs.Lent.{getD-filled}
 use Rattle.buffers.proofs.Ranges.{all-zero, all-next}
 use Rattle.solar_roll.specs.Vectors.{Vector}
-use Rattle.solar_roll.specs.Roll.{Axes}
+use Rattle.solar_roll.specs.Roll.{Axes, rollDegIn}
 use Rattle.solar_roll.specs.Cell.{rollIn, violates, inForce}
 use Rattle.solar_roll.specs.declared.roll.Panel.{Panel}
 use Rattle.solar_roll.specs.declared.cell.ConfiguredRoll.{ConfiguredRoll}
@@ -26,27 +27,45 @@ abbrev row-violated : Axes → List Vector → Panel → ConfiguredRoll → Floa
 row-violated axes units panel configured tolerance rolls k s = violates (rollIn axes (getD units k []) panel) (inForce (Sweep (getD rolls s nan)) configured) tolerance
 
 abbrev Inv-rolls : tie.InvT-rolls
-Inv-rolls axes units panel configured tolerance-deg rolls mask probes₀ k₀ cell s₀ k-end s-end probes k s =
+Inv-rolls axes units panel configured tolerance-deg rolls optimal mask probes₀ k₀ best cell s₀ k-end s-end probes k s =
     (k ≡ k₀) × (s ≤ length rolls) × (s-end ≡ length rolls) × (probes ≡ probes₀ + s)
     × (allBelow s (row-violated axes units panel configured tolerance-deg rolls k₀) ≡ true)
 
 abbrev μ-rolls : tie.MeasureT-rolls
-μ-rolls axes units panel configured tolerance-deg rolls mask probes₀ k₀ cell s₀ k-end s-end probes k s = s-end - s
+μ-rolls axes units panel configured tolerance-deg rolls optimal mask probes₀ k₀ best cell s₀ k-end s-end probes k s = s-end - s
 
 abbrev Inv-cells : tie.InvT-cells
-Inv-cells axes units panel configured tolerance-deg rolls mask₀ probes₀ k₀ k-end mask probes k =
+Inv-cells axes units panel configured tolerance-deg rolls optimal mask₀ probes₀ k₀ k-end mask probes k =
     (k ≤ length units) × (k-end ≡ length units) × Upto (length rolls) (row-violated axes units panel configured tolerance-deg rolls) k mask probes
 
 abbrev μ-cells : tie.MeasureT-cells
-μ-cells axes units panel configured tolerance-deg rolls mask₀ probes₀ k₀ k-end mask probes k = k-end - k
+μ-cells axes units panel configured tolerance-deg rolls optimal mask₀ probes₀ k₀ k-end mask probes k = k-end - k
+
+-- the optimal roll of a cell
+optimal-at : (c : tie.After-unit Inv-rolls μ-rolls Inv-cells μ-cells) →
+    let a = c .before .before .before .before .before .before .before .args in
+    let k = c .before .before .cells .k in
+    getD (c .before .before .before .before .rolls-deg-in .last .1 .1 .1 .0) k nan ≡ rollDegIn (a .axes) (getD (a .units .now) k []) (a .panel .angle)
+optimal-at c =
+    let k = c .before .before .cells .k in
+    ap (λ (l : List Float). getD l k nan) (c .before .before .before .before .rolls-deg-in .ensures) ∙ getD-filled _ _ _ nan k (omega arith)
 
 -- what `violated` answers says whether the sample violates the cell
 at-sample : (c : tie.After-violated Inv-rolls μ-rolls Inv-cells μ-cells) →
-    let a = c .before .before .before .before .before .before .before .before .before .before .args in
+    let a = c .before .before .before .before .before .before .before .before .before .before .before .before .before .args in
     row-violated (a .axes) (a .units .now) (a .panel) (a .configured) (a .tolerance-deg) (a .rolls .now)
     (c .before .before .before .before .before .before .before .before .cells .k) (c .before .before .before .before .rolls .s)
     ≡ c .violated .result
-at-sample c = rw (← c .before .before .before .before .before .roll-in .ensures, ← c .before .in-force .ensures) (sym (c .violated .ensures))
+unfolding rollIn
+at-sample c =
+    let f = c .before .before .before .before .before in
+    rw (← optimal-at (f .before), ← f .free-or-at .ensures, ← c .before .in-force .ensures) (sym (c .violated .ensures))
+
+slice-aggregate-rolls-deg-in : tie.Need-slice-aggregate-rolls-deg-in Inv-rolls μ-rolls Inv-cells μ-cells
+slice-aggregate-rolls-deg-in c = search needs
+
+rolls-deg-in-requires : tie.Need-rolls-deg-in-requires Inv-rolls μ-rolls Inv-cells μ-cells
+rolls-deg-in-requires c κs = search needs
 
 cells-holds : tie.Need-cells-holds Inv-rolls μ-rolls Inv-cells μ-cells
 cells-holds c = (omega arith, refl, upto-zero _ _)
@@ -57,8 +76,14 @@ mul-unit c = search needs
 shared-slice-copy-out-unit : tie.Need-shared-slice-copy-out-unit Inv-rolls μ-rolls Inv-cells μ-cells
 shared-slice-copy-out-unit c = search needs
 
-roll-in-requires : tie.Need-roll-in-requires Inv-rolls μ-rolls Inv-cells μ-cells
-roll-in-requires c κs = search needs
+mul-best : tie.Need-mul-best Inv-rolls μ-rolls Inv-cells μ-cells
+mul-best c = search needs
+
+array-read-best : tie.Need-array-read-best Inv-rolls μ-rolls Inv-cells μ-cells
+array-read-best c = search needs
+
+free-or-at-requires : tie.Need-free-or-at-requires Inv-rolls μ-rolls Inv-cells μ-cells
+free-or-at-requires c κs = search needs
 
 rolls-holds : tie.Need-rolls-holds Inv-rolls μ-rolls Inv-cells μ-cells
 rolls-holds c = (refl, omega arith, refl, omega arith, all-zero _)
@@ -66,7 +91,7 @@ rolls-holds c = (refl, omega arith, refl, omega arith, all-zero _)
 add-probes : tie.Need-add-probes Inv-rolls μ-rolls Inv-cells μ-cells
 add-probes c =
     let out = c .before .before .before .before .before .cells in
-    let a = c .before .before .before .before .before .before .before .args in
+    let a = c .before .before .before .before .before .before .before .before .before .before .args in
     let k64 : out .k ≤ 64 = omega arith in
     let few : length (a .rolls .now) ≤ 3600 = omega arith in
     record { fits = omega (arith, upto-le _ _ (out .inv .2), mul-le-mul k64 few) }
@@ -122,14 +147,14 @@ cells-again-2 : tie.Need-cells-again-2 Inv-rolls μ-rolls Inv-cells μ-cells
 cells-again-2 c =
     let at = c .before .rolls in
     let out = c .before .before .before .before .before .cells in
-    let a = c .before .before .before .before .before .before .before .args in
+    let a = c .before .before .before .before .before .before .before .before .before .before .args in
     let k64 : out .k < 64 = omega arith in
     let h : at .s ≡ length (a .rolls .now) = omega arith in
     rw (at .inv .0) (omega arith, refl, upto-marked _ _ _ (out .inv .2) k64 (rw h at (at .inv .4)) (omega arith))
 
 returns : tie.Need-returns Inv-rolls μ-rolls Inv-cells μ-cells
 returns c =
-    let h : c .before .cells .k ≡ length (c .before .before .before .args .units .now) = omega arith in
+    let h : c .before .cells .k ≡ length (c .before .before .before .before .before .before .args .units .now) = omega arith in
     upto-whole _ _ (c .before .cells .inv .2) ∙ rw h
 
 pub sweep-row-spec : {M : Type 1} → statement M
@@ -140,10 +165,14 @@ sweep-row-spec =
     μ-rolls
     Inv-cells
     μ-cells
+    slice-aggregate-rolls-deg-in
+    rolls-deg-in-requires
     cells-holds
     mul-unit
     shared-slice-copy-out-unit
-    roll-in-requires
+    mul-best
+    array-read-best
+    free-or-at-requires
     rolls-holds
     add-probes
     mul-sample
