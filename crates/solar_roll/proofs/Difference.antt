@@ -15,7 +15,7 @@ use lib.Ieee.Fits.{down-pos}
 use lib.Ieee.Order.{round-mono}
 use Rattle.float.specs.Arithmetic.{zero·0, halfTurn, fullTurn, absOf, remEuclid, finite}
 use Rattle.float.proofs.Bounds.{resign, round-resign, at-most}
-use Rattle.solar_roll.specs.Roll.{circularDiffDeg}
+use Rattle.solar_roll.specs.Roll.{arc, circularDiffDeg}
 
 -- ---- the size of a rounded value
 
@@ -177,14 +177,6 @@ half-less m e h =
 
 -- ---- together
 
--- the arc of a difference x
-arc : Float → Float
-arc x = sub binary64 H (absOf (sub binary64 (made-positive (rem binary64 x K)) H))
-
-arc-is : (a b : Float) → circularDiffDeg a b ≡ arc (sub binary64 a b)
-unfolding circularDiffDeg remEuclid arc made-positive absOf ofBits
-arc-is a b = refl
-
 arc-of-turn : (x : Float) → Turn x → InHalfTurn (sub binary64 H (absOf (sub binary64 x H)))
 arc-of-turn x t =
     let h = less-half (t .s) (t .m) (t .e) (t .size-le) (t .sign) in
@@ -205,19 +197,21 @@ remainder s m e =
     subst (λ (y : Float). Turn (made-positive y)) (sym v) (turned s (r .m) (r .e) (r .size-le))
 
 arc-range : (x : Float) → finite x ≡ true → InHalfTurn (arc x)
-unfolding finite arc
+unfolding finite arc remEuclid made-positive absOf ofBits
 arc-range nan h = absurd (true≢false (sym h))
 arc-range (inf s) h = absurd (true≢false (sym h))
 arc-range (fin s m e) h = arc-of-turn _ (remainder s m e)
 
 arc-nan : (x : Float) → finite x ≡ false → arc x ≡ nan
-unfolding finite arc made-positive rem lt sub neg add absOf
+unfolding finite arc remEuclid rem lt sub neg add absOf ofBits
 arc-nan nan h = refl
 arc-nan (inf s) h = refl
 arc-nan (fin s m e) h = absurd (true≢false h)
 
 pub difference-range : (a b : Float) → finite (sub binary64 a b) ≡ true → InHalfTurn (circularDiffDeg a b)
-difference-range a b h = subst InHalfTurn (sym (arc-is a b)) (arc-range (sub binary64 a b) h)
+unfolding circularDiffDeg
+difference-range a b h = arc-range (sub binary64 a b) h
 
 pub difference-nan : (a b : Float) → finite (sub binary64 a b) ≡ false → circularDiffDeg a b ≡ nan
-difference-nan a b h = arc-is a b ∙ arc-nan (sub binary64 a b) h
+unfolding circularDiffDeg
+difference-nan a b h = arc-nan (sub binary64 a b) h

@@ -98,5 +98,10 @@ solarOptimalRollDeg target sun normal = rollDegIn (bodyAxes target) sun (panelAn
 
 -- ---- the difference of two rolls: the shorter arc between them
 
+-- that of a turn by x
+unfoldable pub arc : Float → Float
+arc x = let d = remEuclid x fullTurn in sub binary64 halfTurn (absOf (sub binary64 d halfTurn))
+
 unfoldable pub circularDiffDeg : Float → Float → Float
-circularDiffDeg a b = let d = remEuclid (sub binary64 a b) fullTurn in sub binary64 halfTurn (absOf (sub binary64 d halfTurn))
+unfolding arc
+circularDiffDeg a b = arc (sub binary64 a b)

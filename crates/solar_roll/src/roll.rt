@@ -15,12 +15,13 @@ use float::to_degrees;
 ghost use mathlib.Core.Path.{_≡_};
 ghost use mathlib.Core.List.{[]};
 ghost use Prim.Native.Nat.{_≤_, min};
-ghost use lib.Ieee.{binary64, nan, sub};
+ghost use mathlib.Core.Bool.{true};
+ghost use lib.Ieee.{binary64, nan, sub, neg, lt};
 ghost use lib.ListN.{length, getD};
 ghost use Rattle.buffers.specs.Lent.{filled};
-ghost use Rattle.float.specs.Arithmetic.{toDegrees};
+ghost use Rattle.float.specs.Arithmetic.{fullTurn, toDegrees};
 ghost use Rattle.solar_roll.specs.Vectors.{dot3};
-ghost use Rattle.solar_roll.specs.Roll.{sunUnit, sunAlongBoresight, panelIsFree, panelAngle, panelOf, rollIsUnconstrained, perpendicular, poleFallback, north, bodyAxes, rollDegIn, solarOptimalRollDeg, circularDiffDeg};
+ghost use Rattle.solar_roll.specs.Roll.{sunUnit, sunAlongBoresight, panelIsFree, panelAngle, panelOf, rollIsUnconstrained, perpendicular, poleFallback, north, bodyAxes, rollDegIn, solarOptimalRollDeg, arc, circularDiffDeg};
 
 // The unit vector from the observer to the Sun.
 pub fn sun_unit(sun: [f64; 3], observer: [f64; 3]) -> [f64; 3]
@@ -186,10 +187,29 @@ pub fn solar_optimal_roll_deg(target: [f64; 3], sun_unit: [f64; 3], panel_normal
     roll_deg_in(body_axes(target), sun_unit, panel_angle)
 }
 
+// The shorter arc of a turn by x, between -360 and 360: its remainder needs no division, and its size no look for a NaN.
+fn arc_within_turn(x: f64) -> f64
+    requires { ⌜ (lt (neg fullTurn) x ≡ true) × (lt x fullTurn ≡ true) ⌝ }
+    ensures { λ r. ⌜ r ≡ arc x ⌝ }
+{
+    let mut d = x;
+    if x < 0.0 {
+        d = x + 360.0;
+    }
+    let e = d - 180.0;
+    180.0 - f64::from_bits(f64::to_bits(e) % 0x8000_0000_0000_0000)
+}
+
 // The shorter arc between two rolls.
 pub fn circular_diff_deg(a: f64, b: f64) -> f64
     ensures { λ r. ⌜ r ≡ circularDiffDeg a b ⌝ }
 {
-    let d = rem_euclid_turn(a - b);
+    let x = a - b;
+    if x > -360.0 {
+        if x < 360.0 {
+            return arc_within_turn(x);
+        }
+    }
+    let d = rem_euclid_turn(x);
     180.0 - abs(d - 180.0)
 }
