@@ -172,9 +172,7 @@ fn is_rounded_root(m: u64, q: u64) -> bool
         let part = wrapping_sub_u64(over * 0x400_0000, a * c * 2);
         if part < 0x8000_0000 {
             let rest = wrapping_sub_u64(part * 0x400_0000, c * c);
-            if d < rest {
-                return rest <= d * 3 + 2;
-            }
+            return wrapping_sub_u64(rest, q) <= d * 2 + 1;
         }
     }
     false
