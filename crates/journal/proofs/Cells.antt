@@ -47,7 +47,7 @@ module _ (b seen masks : List ℕ) (l : ℕ) (t : Tables b l seen masks) where
   unfolding hasChunks
   all-have-lines m h =
       all-ext m (λ c. not (eqb (getD seen c 0) 0)) (hasChunk b l)
-      (λ c k. ap (λ (x : ℕ). not (eqb x 0)) (t .chunk c (omega arith)) ∙ not-flag (hasChunk b l c))
+      (λ c k. ap (λ (x : ℕ). not (eqb x 0)) (t .flags .chunk c (omega arith)) ∙ not-flag (hasChunk b l c))
 
   pub held-bits : (n : ℕ) (o : List ℕ) → n ≤ 1048576 → filled n (cellBit masks) o ≡ filled n (λ i. bitOf (heldMask b l (i / 64)) (i % 64)) o
   unfolding filled

@@ -1,30 +1,41 @@
 -- The refusals of the calls, condition by condition, and what a call answers and leaves by them. Assumes nothing.
-use mathlib.Core.Path.{_≡_, sym, ap, ap₂, _∙_}
+use mathlib.Core.Path.{_≡_, refl, sym, ap, ap₂, _∙_}
 use mathlib.Core.Bool.{Bool, true, false, not}
 use mathlib.Core.List.{List, [], _∷_}
-use Prim.Native.Nat.{ℕ, _+_, _≤_, _<_}
+use Prim.Native.Nat.{ℕ, zero, suc, _+_, _-_, _≤_, _<_}
 use native.Mathlib.Omega.{arith}
 use lib.Dec.{ltb, leb}
 use lib.ListN.{length}
 use borrow.Author.Tests.{lt-ltb, le-ltb, le-leb, lt-leb, eq-eqb, ne-eqb, leb-false, ltb-false}
 use Rattle.buffers.specs.Lent.{filled, put}
 use Rattle.buffers.specs.Refusal.{first, carried, refused, accepted, reply, unlessRefused}
-use Rattle.buffers.proofs.Refusal.{first-clear, carried-clear, reply-none, reply-some, written-none, written-some}
-use Rattle.roll_sweep.specs.Sweep.{Sweep, cells, chunks, chunkMask, chunkProbes}
-use Rattle.journal.specs.Lines.{lineText, lineOf, hasChunk, hasChunks, heldProbes}
+use Rattle.buffers.proofs.Refusal.{first-none, first-clear, carried-here, carried-skip, carried-clear, reply-none, reply-some, written-none, written-some}
+use Rattle.roll_sweep.specs.Sweep.{Sweep, cells, chunks}
+use Rattle.journal.specs.Lines.{lineOf, hasChunk, hasChunks, heldProbes}
 use Rattle.journal.specs.Right.{wholeLines, torn, right}
 use Rattle.journal.specs.Pass.{Passed}
-use Rattle.journal.specs.Calls.{wrong, beginShort, workShort, beginRefusal, beginReply, beginBytes, workRefusal, workReply, workBytes, kept, recoverRefusal, recoverReply, collectRefusal, collectReply, heldBit, collectMask}
+use Rattle.journal.specs.Calls.{planFirst, wrong, beginShort, workShort, beginRefusal, beginReply, beginBytes, workRefusal, workReply, workBytes, kept, recoverRefusal, recoverReply, collectRefusal, collectReply, heldBit, collectMask}
+use Rattle.journal.specs.Range.{Ran, ranTo, ran, rangeRefusal, rangeRan, rangeReply, rangeBytes, rangeStopped}
 
--- work's chain refuses nothing: neither 9 nor 7 holds
-chain-clear : (k : ℕ) (x y z v w : Bool) → first (carried k ∷ (x, 9) ∷ (y, 11) ∷ (z, 12) ∷ (v, 10) ∷ (w, 7) ∷ []) ≡ 0 → (x ≡ false) × (w ≡ false)
+-- work's chain refuses nothing: none of its conditions holds
+chain-clear : (k : ℕ) (x y z v w : Bool) → first (carried k ∷ (x, 9) ∷ (y, 11) ∷ (z, 12) ∷ (v, 10) ∷ (w, 7) ∷ []) ≡ 0
+    → (k ≡ 0) × (x ≡ false) × (y ≡ false) × (z ≡ false) × (v ≡ false) × (w ≡ false)
 chain-clear k x y z v w e =
     let c0 = carried-clear k ((x, 9) ∷ (y, 11) ∷ (z, 12) ∷ (v, 10) ∷ (w, 7) ∷ []) e in
     let c1 = first-clear x 9 ((y, 11) ∷ (z, 12) ∷ (v, 10) ∷ (w, 7) ∷ []) (omega arith) (c0 .1) in
     let c2 = first-clear y 11 ((z, 12) ∷ (v, 10) ∷ (w, 7) ∷ []) (omega arith) (c1 .1) in
     let c3 = first-clear z 12 ((v, 10) ∷ (w, 7) ∷ []) (omega arith) (c2 .1) in
     let c4 = first-clear v 10 ((w, 7) ∷ []) (omega arith) (c3 .1) in
-    (c1 .0, first-clear w 7 [] (omega arith) (c4 .1) .0)
+    (c0 .0, c1 .0, c2 .0, c3 .0, c4 .0, first-clear w 7 [] (omega arith) (c4 .1) .0)
+
+-- what is known where work refuses nothing
+pub record WorkClear (s : Sweep) (c : ℕ) (b : List ℕ) (u : ℕ) : Type 0 where
+  pub plan : s .refusal (ltb (length b) u) ≡ 0
+  pub exists : c < chunks (cells s)
+  pub right : wrong s b u ≡ false
+  pub whole : torn u ≡ false
+  pub new : hasChunk b (wholeLines u) c ≡ false
+  pub room : u + 33 ≤ length b
 
 -- by the sweep's cells, samples and header
 pub wrong-of : (s : Sweep) (n k : ℕ) (h b : List ℕ) (u : ℕ) (t : Bool) → Passed s n k h b u → right n k h b u ≡ t → wrong s b u ≡ not t
@@ -101,26 +112,18 @@ module _ (s : Sweep) (b : List ℕ) (u : ℕ) where
               unfolding workRefusal
               work-0 h = simp (p, lt-leb (chunks (cells s)) c g, w, t, a, le-ltb (length b) (u + 33) h)
 
-    pub work-clear : workRefusal s c b u ≡ 0 → (c < chunks (cells s)) × (u + 33 ≤ length b)
+    pub work-clear : workRefusal s c b u ≡ 0 → WorkClear s c b u
     unfolding workRefusal
     work-clear e =
         let q =
         chain-clear (s .refusal (ltb (length b) u)) (leb (chunks (cells s)) c) (wrong s b u) (torn u) (hasChunk b (wholeLines u) c) (workShort (length b) u) e in
-        (leb-false (chunks (cells s)) c (q .0), ltb-false (length b) (u + 33) (q .1))
+        record { plan = q .0; exists = leb-false (chunks (cells s)) c (q .1); right = q .2; whole = q .3; new = q .4; room = ltb-false (length b) (u + 33) (q .5) }
 
     pub work-refused : (k : ℕ) → 0 < k → workRefusal s c b u ≡ k → (refused k ≡ workReply s c b u) × (b ≡ workBytes s c b u)
     unfolding workReply workBytes
     work-refused k h e = (
       sym (ap (λ (n : ℕ). reply n (u + 33)) e ∙ reply-some k (u + 33) h),
       sym (ap (λ (n : ℕ). unlessRefused n (put u (lineOf s c) b) b) e ∙ written-some k (put u (lineOf s c) b) b h),
-    )
-
-    pub work-accepted : (m q : ℕ) (o : List ℕ) → m ≡ chunkMask s c → q ≡ chunkProbes s c → o ≡ put u (lineText c m q) b → workRefusal s c b u ≡ 0
-        → (accepted (u + 33) ≡ workReply s c b u) × (o ≡ workBytes s c b u)
-    unfolding workReply workBytes lineOf
-    work-accepted m q o f g w e = (
-      sym (reply-none (workRefusal s c b u) (u + 33) e),
-      w ∙ ap₂ (λ (x y : ℕ). put u (lineText c x y) b) f g ∙ sym (written-none (workRefusal s c b u) (put u (lineOf s c) b) b e),
     )
 
   -- ---- recover
@@ -191,3 +194,44 @@ module _ (s : Sweep) (b : List ℕ) (u : ℕ) where
       ap (λ (n : ℕ). accepted n) f ∙ sym (reply-none (collectRefusal s b u o) (heldProbes b (wholeLines u)) e),
       g ∙ sym (written-none (collectRefusal s b u o) (filled (cells s) (heldBit b u) o) o e),
     )
+
+-- ---- work over a range
+
+carried-only : (k : ℕ) → first (carried k ∷ []) ≡ k
+carried-only zero = carried-skip 0 [] refl ∙ first-none
+carried-only (suc k) = carried-here (suc k) [] (omega arith)
+
+module _ (s : Sweep) (from to : ℕ) (b : List ℕ) (u : ℕ) where
+  pub range-plan : (k : ℕ) → k ≡ s .refusal (ltb (length b) u) → 0 < k → rangeRefusal s from to b u ≡ k
+  unfolding rangeRefusal
+  range-plan k e h = simp (sym e, ne-eqb k 0 (λ z. omega arith))
+
+  module _ (p : s .refusal (ltb (length b) u) ≡ 0) where
+    pub range-9 : to ≤ from → rangeRefusal s from to b u ≡ 9
+    unfolding rangeRefusal
+    range-9 h = simp (p, le-leb to from h)
+
+    pub range-work : from < to → rangeRefusal s from to b u ≡ workRefusal s from b u
+    unfolding rangeRefusal planFirst
+    range-work h = ap₂ (λ (k : ℕ) (t : Bool). first (carried k ∷ (t, 9) ∷ carried (workRefusal s from b u) ∷ [])) p (lt-leb to from h) ∙ carried-only (workRefusal s from b u)
+
+  module _ (old : ℕ) where
+    pub range-refused : (k : ℕ) → 0 < k → rangeRefusal s from to b u ≡ k
+        → (refused k ≡ rangeReply s from to b u) × (b ≡ rangeBytes s from to b u) × (old ≡ rangeStopped s from to b u old)
+    unfolding rangeReply rangeBytes rangeStopped
+    range-refused k h e =
+        let r : Ran = rangeRan s from to b u in (
+          sym (ap (λ (n : ℕ). reply n (r .used)) e ∙ reply-some k (r .used) h),
+          sym (ap (λ (n : ℕ). unlessRefused n (r .bytes) b) e ∙ written-some k (r .bytes) b h),
+          sym (ap (λ (n : ℕ). unlessRefused n (r .next) old) e ∙ written-some k (r .next) old h),
+        )
+
+    pub range-accepted : (o : List ℕ) (v c : ℕ) → ranTo o v c ≡ ran s (to - from) (ranTo b u from) → rangeRefusal s from to b u ≡ 0
+        → (accepted v ≡ rangeReply s from to b u) × (o ≡ rangeBytes s from to b u) × (c ≡ rangeStopped s from to b u old)
+    unfolding rangeReply rangeBytes rangeStopped rangeRan
+    range-accepted o v c f e =
+        let r : Ran = ran s (to - from) (ranTo b u from) in (
+          ap (λ (x : Ran). accepted (x .used)) f ∙ sym (reply-none (rangeRefusal s from to b u) (r .used) e),
+          ap (λ (x : Ran). x .bytes) f ∙ sym (written-none (rangeRefusal s from to b u) (r .bytes) b e),
+          ap (λ (x : Ran). x .next) f ∙ sym (written-none (rangeRefusal s from to b u) (r .next) old e),
+        )

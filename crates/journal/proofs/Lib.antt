@@ -5,4 +5,7 @@ pub mod Possible
 pub mod Scan
 pub mod Cells
 pub mod Chains
+pub mod Written
+pub mod Appended
+pub mod Along
 pub mod Planned

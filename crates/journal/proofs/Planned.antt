@@ -7,7 +7,7 @@ use native.Mathlib.Omega.{arith}
 use lib.Dec.{ltb, lit<}
 use lib.ListN.{length, replicate, length-replicate}
 use lib.Ieee.{Float, binary64, toBits}
-use borrow.Author.Tests.{le-leb, ltb-false}
+use borrow.Author.Tests.{le-leb, le-ltb, ltb-false}
 use Rattle.buffers.specs.Refusal.{reply}
 use Rattle.buffers.proofs.Refusal.{first-clear, carried-clear}
 use Rattle.buffers.specs.Lent.{over, put}
@@ -29,6 +29,7 @@ use Rattle.journal.specs.Header.{hasRoll, rollBits, settingsHeader, head
 use Rattle.journal.specs.Pass.{Passed}
 use Rattle.journal.specs.Plan.{sweepOf}
 use Rattle.journal.proofs.Write.{length-header}
+use Rattle.journal.proofs.Written.{Accepted as AcceptedSweep}
 
 -- what is known once the plan has passed
 pub record PlanPassed (p : Plan) (n room u : ℕ) : Type 0 where
@@ -73,6 +74,19 @@ module _ (p : Plan) (n : ℕ) where
   pub length-header-of : length (sweepOf p n .header) ≡ 107
   unfolding sweepOf headerOf
   length-header-of = length-settings (rowsOf p) (timesOf p) n (headTolerance p) (headConfigured p) (headPanel p)
+
+  -- so the plan's sweep is one of an accepted plan
+  pub accepted-sweep : (room u : ℕ) → sweepOf p n .refusal (ltb room u) ≡ 0 → AcceptedSweep (sweepOf p n)
+  unfolding sweepOf
+  accepted-sweep room u e =
+      let f = passed room u e in
+      record {
+        plan = ap (planRefusal p (samplingOf n)) (sym (le-ltb room u (f .used))) ∙ e;
+        few = f .facts .few-cells;
+        one = omega (arith, f .one, samples-n);
+        most = omega (arith, f .most, samples-n);
+        header = length-header-of;
+      }
 
   pub header-put : (b out : List ℕ) → out ≡ over (settingsHeader (rowsOf p) (timesOf p) n (headTolerance p) (headConfigured p) (headPanel p)) b
       → out ≡ put 0 (sweepOf p n .header) b

@@ -17,7 +17,7 @@ use Rattle.roll_sweep.specs.Sweep.{chunks}
 use Rattle.journal.specs.Hex.{areDigits}
 use Rattle.journal.specs.Lines.{lineStart, chunkAt, maskAt, probesAt, hasChunk, heldMask, heldProbes}
 use Rattle.journal.specs.Right.{wholeLines, agree, possible, lineFits, lineRight, linesRight, right}
-use Rattle.journal.specs.Pass.{lineAt, fits, checkedOf, Tables}
+use Rattle.journal.specs.Pass.{lineAt, fits, checkedOf, Flags, Tables}
 use Rattle.journal.specs.declared.pass.Checked.{Checked}
 use Rattle.journal.specs.declared.pass.Checked.the-variants.{Right, Wrong}
 use Rattle.journal.proofs.Text.{value-lt}
@@ -93,9 +93,12 @@ pub tables-zero : (b seen masks : List ℕ) → seen ≡ replicate 16384 0 → m
 unfolding hasChunk heldMask
 tables-zero b seen masks e f =
     record {
-      flags = ap length e ∙ length-replicate {A = ℕ} 16384 0;
+      flags =
+          record {
+            count = ap length e ∙ length-replicate {A = ℕ} 16384 0;
+            chunk = λ c h. ap (λ (s : List ℕ). getD s c 0) e ∙ getD-replicate {A = ℕ} 16384 c 0 0 h;
+          };
       words = ap length f ∙ length-replicate {A = ℕ} 16384 0;
-      chunk = λ c h. ap (λ (s : List ℕ). getD s c 0) e ∙ getD-replicate {A = ℕ} 16384 c 0 0 h;
       mask = λ c h. ap (λ (s : List ℕ). getD s c 0) f ∙ getD-replicate {A = ℕ} 16384 c 0 0 h;
     }
 
@@ -118,29 +121,32 @@ pub tables-next : (b seen masks : List ℕ) (l d m : ℕ) → d ≡ chunkAt b l 
 unfolding hasChunk heldMask
 tables-next b seen masks l d m e f h t =
     record {
-      flags = length-set seen d 1 ∙ t .flags;
+      flags =
+          record {
+            count = length-set seen d 1 ∙ t .flags .count;
+            chunk = λ c k.
+                stored seen d 1 c (omega (arith, t .flags .count))
+                ∙ ap₂ (λ (x y : ℕ). cond (eqb x c) 1 y) e (t .flags .chunk c k)
+                ∙ flag-or (hasChunk b l c) (eqb (chunkAt b l) c)
+                ∙ ap flag (sym (any-step l (λ j. eqb (chunkAt b j) c)));
+          };
       words = length-set masks d m ∙ t .words;
-      chunk = λ c k.
-          stored seen d 1 c (omega (arith, t .flags))
-          ∙ ap₂ (λ (x y : ℕ). cond (eqb x c) 1 y) e (t .chunk c k)
-          ∙ flag-or (hasChunk b l c) (eqb (chunkAt b l) c)
-          ∙ ap flag (sym (any-step l (λ j. eqb (chunkAt b j) c)));
       mask = λ c k.
           stored masks d m c (omega (arith, t .words))
           ∙ (λ i. cond (eqb (e i) c) (f i) (t .mask c k i))
           ∙ ap (λ (x : ℕ). heldMask b x c) (sym (add-one l));
     }
 
-flag-zero : (t : Bool) → flag t ≡ 0 → t ≡ false
+pub flag-zero : (t : Bool) → flag t ≡ 0 → t ≡ false
 flag-zero true e = let z : ⊥ = omega arith in absurd z
 flag-zero false e = refl
 
-flag-some : (t : Bool) → (flag t ≡ 0 → ⊥) → t ≡ true
+pub flag-some : (t : Bool) → (flag t ≡ 0 → ⊥) → t ≡ true
 flag-some true e = refl
 flag-some false e = absurd (e refl)
 
 -- a chunk without a flag has no line, and one with a flag has one
-module _ (b seen masks : List ℕ) (l c : ℕ) (t : Tables b l seen masks) (h : c < 16384) where
+module _ (b seen : List ℕ) (l c : ℕ) (t : Flags b l seen) (h : c < 16384) where
   pub unseen : getD seen c 0 ≡ 0 → hasChunk b l c ≡ false
   unseen z = flag-zero (hasChunk b l c) (sym (t .chunk c h) ∙ z)
 

@@ -1,8 +1,10 @@
--- Section 4: the journal's text, when a journal is right, and what begin, work, recover and collect answer and leave.
+-- Section 4: the journal's text, when a journal is right, and what begin, work, work over a range, recover and
+-- collect answer and leave.
 pub mod Hex
 pub mod Lines
 pub mod Right
 pub mod Calls
+pub mod Range
 pub mod Pass
 pub mod Header
 pub mod Plan

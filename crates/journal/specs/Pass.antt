@@ -10,7 +10,8 @@ use Rattle.buffers.specs.Ranges.{flag}
 use Rattle.roll_sweep.specs.Sweep.{Sweep, cells, chunks}
 use Rattle.journal.specs.Hex.{areDigits}
 use Rattle.journal.specs.Lines.{lineStart, chunkAt, maskAt, probesAt, hasChunk, heldMask}
-use Rattle.journal.specs.Right.{possible}
+use Rattle.journal.specs.Right.{wholeLines, torn, possible}
+use Rattle.journal.specs.Calls.{wrong}
 use Rattle.journal.specs.declared.line.Line.{Line}
 use Rattle.journal.specs.declared.pass.Checked.{Checked}
 use Rattle.journal.specs.declared.pass.Checked.the-variants.{Right, Wrong}
@@ -36,11 +37,15 @@ unfoldable pub checkedOf : Bool → ℕ → Checked
 checkedOf true p = Right p
 checkedOf false p = Wrong
 
--- the tables after l lines, for each chunk: 1 if one of them is its, and the mask that they hold for it
-pub record Tables (b : List ℕ) (l : ℕ) (seen masks : List ℕ) : Type 0 where
-  pub flags : length seen ≡ 16384
-  pub words : length masks ≡ 16384
+-- the flags after l lines, for each chunk: 1 if one of them is its
+pub record Flags (b : List ℕ) (l : ℕ) (seen : List ℕ) : Type 0 where
+  pub count : length seen ≡ 16384
   pub chunk : (c : ℕ) → c < 16384 → getD seen c 0 ≡ flag (hasChunk b l c)
+
+-- and with them the mask that the lines hold for each chunk
+pub record Tables (b : List ℕ) (l : ℕ) (seen masks : List ℕ) : Type 0 where
+  pub flags : Flags b l seen
+  pub words : length masks ≡ 16384
   pub mask : (c : ℕ) → c < 16384 → getD masks c 0 ≡ heldMask b l c
 
 -- a sweep of n cells, k samples and the header h, whose plan has passed
@@ -49,3 +54,10 @@ pub record Passed (s : Sweep) (n k : ℕ) (h b : List ℕ) (u : ℕ) : Type 0 wh
   pub all : cells s ≡ n
   pub samples : s .samples ≡ k
   pub header : s .header ≡ h
+
+-- a journal to which lines may be appended: of work's refusals all but 9, 10 and 7 have passed, and the flags are its lines'
+pub record Ready (s : Sweep) (b : List ℕ) (u : ℕ) (seen : List ℕ) : Type 0 where
+  pub plan : s .refusal (ltb (length b) u) ≡ 0
+  pub right : wrong s b u ≡ false
+  pub whole : torn u ≡ false
+  pub flags : Flags b (wholeLines u) seen

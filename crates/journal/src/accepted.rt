@@ -1,11 +1,12 @@
 // Work, recover and collect once the plan has passed. They see of it only its header, its cells and its samples.
 ghost use mathlib.Core.Path.{_≡_};
 ghost use Prim.Native.Nat.{_≤_};
-ghost use lib.ListN.{length};
+ghost use lib.ListN.{length, replicate};
 ghost use Rattle.buffers.specs.Refusal.{replyOf};
 ghost use Rattle.roll_sweep.specs.Sweep.{Sweep};
 ghost use Rattle.journal.specs.Calls.{workRefusal, recoverReply, collectReply, collectMask};
-ghost use Rattle.journal.specs.Pass.{Passed};
+ghost use Rattle.journal.specs.Right.{wholeLines};
+ghost use Rattle.journal.specs.Pass.{Flags, Passed};
 use crate::mask::all_seen;
 use crate::mask::write_cells;
 use crate::pass::Checked;
@@ -14,7 +15,7 @@ use crate::pass::is_torn;
 use crate::pass::kept_length;
 use buffers::Answer;
 
-// The number of work's first refusal, 0 for none.
+// The number of work's first refusal, 0 for none. The flags come blank, and are filled if it is none.
 pub(crate) fn work_refusal(
     header: &[u8],
     cells: u64,
@@ -22,14 +23,15 @@ pub(crate) fn work_refusal(
     chunk: u64,
     journal: &[u8],
     used: u64,
+    seen: &mut [u8],
 ) -> u64
-    requires { ⌜ (length (now header) ≡ 107) × (cells ≤ 1048576) × (n ≤ 3600) × (used ≤ length (now journal)) ⌝ }
-    ensures { λ r. ⌜ ((s : Sweep) → Passed s cells n (now (header .entry)) (now (journal .entry)) used → r ≡ workRefusal s chunk (now (journal .entry)) used) ⌝ }
+    requires { ⌜ (length (now header) ≡ 107) × (cells ≤ 1048576) × (n ≤ 3600) × (used ≤ length (now journal)) × (now seen ≡ replicate 16384 0) ⌝ }
+    ensures { λ r. ⌜ ((s : Sweep) → Passed s cells n (now (header .entry)) (now (journal .entry)) used → r ≡ workRefusal s chunk (now (journal .entry)) used)
+        × (r ≡ 0 → Flags (now (journal .entry)) (wholeLines used) (now (seen .exit))) ⌝ }
 {
     if (cells + 63) / 64 <= chunk {
         return 9;
     }
-    let mut seen = [0u8; 16384];
     let mut masks = [0u64; 16384];
     let Checked::Right(_) = check_journal(
         header,
@@ -37,7 +39,7 @@ pub(crate) fn work_refusal(
         n,
         journal,
         used as usize,
-        &mut seen,
+        seen,
         &mut masks,
     ) else {
         return 11;
@@ -50,10 +52,9 @@ pub(crate) fn work_refusal(
         return 10;
     }
     if journal.len() as u64 - used < 33 {
-        7
-    } else {
-        0
+        return 7;
     }
+    0
 }
 
 // Gives the used length that is left after a power failure.

@@ -1,22 +1,15 @@
-// Begin, work, recover and collect on a plan. Each tries document 01's refusals in their order, and writes nothing until all have passed.
+// Begin, work, work over a range, recover and collect on a plan. Each tries its refusals in their order, and writes nothing until all have passed.
 ghost use mathlib.Core.Path.{_≡_};
-ghost use Prim.Native.Nat.{_*_, _≤_, _<_};
 ghost use Rattle.buffers.specs.Refusal.{replyOf};
-ghost use Rattle.solar_roll.specs.Plan.{planOf, count, PlanFacts};
-ghost use Rattle.roll_sweep.specs.Sweep.{chunks};
-ghost use Rattle.roll_sweep.specs.Chunk.{sweptOf};
 ghost use Rattle.journal.specs.Calls.{beginReply, beginBytes, workReply, workBytes, recoverReply, collectReply, collectMask};
+ghost use Rattle.journal.specs.Range.{rangeReply, rangeBytes, rangeStopped};
 ghost use Rattle.journal.specs.Plan.{lentSweep};
 use crate::accepted::collect_lines;
 use crate::accepted::recover_used;
 use crate::accepted::work_refusal;
 use crate::header::write_header;
-use crate::line::append_line;
+use crate::range::append_lines;
 use buffers::Answer;
-use roll_sweep::ChunkAnswer;
-use roll_sweep::Swept;
-use roll_sweep::even_rolls;
-use roll_sweep::sweep_chunk;
 use solar_roll::SolarRollConfig;
 use solar_roll::plan_refusal;
 use solar_roll::sampling;
@@ -55,28 +48,6 @@ pub fn begin(
     Answer::Accepted(107)
 }
 
-// Sweeps a chunk of an accepted plan at n even steps.
-fn sweep_even(
-    targets: &[f64],
-    suns: &[f64],
-    observers: &[f64],
-    config: SolarRollConfig,
-    n: u64,
-    chunk: u64,
-) -> Swept
-    requires { ⌜ PlanFacts (planOf (now targets) (now suns) (now observers) config) × (1 ≤ n) × (n ≤ 3600) × (chunk < chunks (count (now targets) * count (now suns))) ⌝ }
-    ensures { λ r. ⌜ r ≡ sweptOf (lentSweep (now (targets .entry)) (now (suns .entry)) (now (observers .entry)) config n) chunk ⌝ }
-{
-    let mut rolls = [0.0; 3600];
-    even_rolls(n as u32, &mut rolls);
-    let end = n as usize;
-    match sweep_chunk(targets, suns, observers, config, &rolls[..end], chunk) {
-        ChunkAnswer::Accepted(swept) => swept,
-        // Never: what it refuses has been refused.
-        ChunkAnswer::Refused(_) => Swept { mask: 0, probes: 0 },
-    }
-}
-
 // Sweeps a chunk, appends its line, and gives the used length.
 pub fn work(
     targets: &[f64],
@@ -100,13 +71,75 @@ pub fn work(
     let times = (suns.len() / 3) as u64;
     let mut header = [0u8; 107];
     write_header(&mut header, rows, times, n, config);
-    let refusal = work_refusal(&header, rows * times, n, chunk, journal, used);
+    let mut seen = [0u8; 16384];
+    let refusal = work_refusal(&header, rows * times, n, chunk, journal, used, &mut seen);
     if refusal != 0 {
         return Answer::Refused(refusal);
     }
-    let swept = sweep_even(targets, suns, observers, config, n, chunk);
-    append_line(journal, used as usize, chunk, swept.mask, swept.probes);
+    append_lines(
+        targets,
+        suns,
+        observers,
+        config,
+        n,
+        chunk,
+        chunk + 1,
+        journal,
+        used,
+        &seen,
+    );
     Answer::Accepted(used + 33)
+}
+
+// Works of the chunks from, from + 1, .., up to the first that work refuses, or `to`, with one check of the journal at the start. Gives the used
+// length, and the chunk at which it stopped.
+pub fn work_range(
+    targets: &[f64],
+    suns: &[f64],
+    observers: &[f64],
+    config: SolarRollConfig,
+    n: u64,
+    from: u64,
+    to: u64,
+    journal: &mut [u8],
+    used: u64,
+    stopped: &mut u64,
+) -> Answer
+    ensures { λ r. ⌜ (replyOf r ≡ rangeReply (lentSweep (now (targets .entry)) (now (suns .entry)) (now (observers .entry)) config n) from to (now (journal .entry)) used)
+        × (now (journal .exit) ≡ rangeBytes (lentSweep (now (targets .entry)) (now (suns .entry)) (now (observers .entry)) config n) from to (now (journal .entry)) used)
+        × (now (stopped .exit) ≡ rangeStopped (lentSweep (now (targets .entry)) (now (suns .entry)) (now (observers .entry)) config n) from to (now (journal .entry)) used (now (stopped .entry))) ⌝ }
+{
+    let room = journal.len() as u64;
+    let refusal = plan_refusal(targets, suns, observers, config, sampling(n), room < used);
+    if refusal != 0 {
+        return Answer::Refused(refusal);
+    }
+    if to <= from {
+        return Answer::Refused(9);
+    }
+    let rows = (targets.len() / 3) as u64;
+    let times = (suns.len() / 3) as u64;
+    let mut header = [0u8; 107];
+    write_header(&mut header, rows, times, n, config);
+    let mut seen = [0u8; 16384];
+    let refusal = work_refusal(&header, rows * times, n, from, journal, used, &mut seen);
+    if refusal != 0 {
+        return Answer::Refused(refusal);
+    }
+    let next = append_lines(
+        targets,
+        suns,
+        observers,
+        config,
+        n,
+        from,
+        to,
+        journal,
+        used,
+        &seen,
+    );
+    *stopped = next;
+    Answer::Accepted(used + 33 * (next - from))
 }
 
 // Gives the used length that is left after a power failure.

@@ -28,10 +28,10 @@ use Rattle.windows.specs.Refusal.{noMark, noSeverity}
 use Rattle.windows.specs.Calls.{violationReply, visibilityReply}
 use Rattle.ledger.specs.Machine.{Entry, collect, gathered, answer}
 use Rattle.ledger.specs.Ledger.{Ledger, blank, ledgerJournal}
-use Rattle.ledger.specs.Windows.{Times, rowPart, RowWindows}
+use Rattle.ledger.specs.Windows.{Times, rowPart}
 use Rattle.ledger.specs.Demand3.{Distinct, Start, machineAfter, Collected, Demand3}
 use Rattle.ledger.specs.Split.{splitChunks, splitLines, splitLedger}
-use Rattle.ledger.proofs.Accepted.{accepted-sweep, few-times, sampled}
+use Rattle.ledger.proofs.Accepted.{accepted-plan, few-times, sampled}
 use Rattle.ledger.proofs.Theorem.{start-blank, same-after, recover-is, collect-is}
 use Rattle.ledger.proofs.Split.{split-start, split-journal}
 use Rattle.ledger.proofs.Windows.{row-windows, places, violations-accepted, visibility-accepted}
@@ -107,7 +107,7 @@ module _ (p : Plan) (n : ℕ) (plan : planRefusal p (samplingOf n) false ≡ 0) 
   -- from every start
   pub demand3-from : (l : Ledger) → Start (sweepOf p n) l → (es : List Entry) → Demand3 p n times l es
   demand3-from l h es =
-      let a = accepted-sweep p n plan in
+      let a = accepted-plan p n plan in
       record {
         same = same-after (sweepOf p n) a l h es;
         recovered = λ x e. recover-is (sweepOf p n) a l h es x;
@@ -118,21 +118,21 @@ module _ (p : Plan) (n : ℕ) (plan : planRefusal p (samplingOf n) false ≡ 0) 
 
   -- "For every list of begin, work, cut, recover and collect from an empty journal, ..": demand 3
   pub demand3 : (es : List Entry) → Demand3 p n times blank es
-  demand3 es = demand3-from blank (start-blank (sweepOf p n) (accepted-sweep p n plan)) es
+  demand3 es = demand3-from blank (start-blank (sweepOf p n) (accepted-plan p n plan)) es
 
   -- from the header followed by the lines of several runs of the plan, no chunk twice
   pub demand3-split : (runs : List (List Entry)) → Distinct (splitChunks (sweepOf p n) runs)
       → (ledgerJournal (sweepOf p n) (splitLedger (sweepOf p n) runs) ≡ (sweepOf p n) .header ++ splitLines (sweepOf p n) runs)
       × ((es : List Entry) → Demand3 p n times (splitLedger (sweepOf p n) runs) es)
   demand3-split runs d =
-      let a = accepted-sweep p n plan in
+      let a = accepted-plan p n plan in
       (split-journal (sweepOf p n) a runs, λ es. demand3-from (splitLedger (sweepOf p n) runs) (split-start (sweepOf p n) a runs d) es)
 
   -- ---- after an accepted collect the listings accept each row of its mask, where severities are none of 14's and there is room for (times + 1) / 2
 
   module _ (l : Ledger) (h : Start (sweepOf p n) l) (es : List Entry) (x o m : List ℕ) (q : ℕ) (e : answer (sweepOf p n) (collect x o) (machineAfter (sweepOf p n) l es) ≡ accepted (gathered m q)) (i : ℕ) (g : i < rowsOf p) (room : Columns) (enough : places room ((timesOf p + 1) / 2)) where
     mask-is : m ≡ sweepMask (sweepOf p n)
-    mask-is = (collect-is (sweepOf p n) (accepted-sweep p n plan) l h es x o m q e) .0
+    mask-is = (collect-is (sweepOf p n) (accepted-plan p n plan) l h es x o m q e) .0
 
     part-length : length (rowPart (timesOf p) i m) ≡ timesOf p
     part-length = ap (λ (k : List ℕ). length (rowPart (timesOf p) i k)) mask-is ∙ length-row p n i g

@@ -16,7 +16,7 @@ use Rattle.journal.specs.Lines.{hasChunk, hasChunks, heldMask, heldProbes, bitO
 use Rattle.journal.specs.Right.{wholeLines, torn, right}
 use Rattle.journal.specs.Calls.{planFirst, wrong, beginShort, workShort, collectShort, beginRefusal, workRefusal, kept, recoverRefusal, collectRefusal, heldBit}
 use Rattle.ledger.specs.Ledger.{begins, works, collects, Write, Ledger, ended, ledgerJournal, isEmpty, isIn, areIn, unfinished, ledgerRefusal}
-use Rattle.ledger.proofs.Accepted.{Accepted}
+use Rattle.journal.proofs.Written.{Accepted}
 use Rattle.ledger.proofs.Chunks.{Good, good-nil, in-all, sum-all}
 use Rattle.ledger.proofs.Written.{front, length-front, has-front, probes-front, mask-front, used-on, whole-on, torn-on, right-on, used-off, whole-off, torn-off, right-off}
 

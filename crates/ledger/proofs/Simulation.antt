@@ -19,9 +19,9 @@ use Rattle.journal.specs.Calls.{beginShort, workShort, collectShort, beginRefus
 use Rattle.ledger.specs.Machine.{Entry, begin, work, cut, recover, collect, Machine, usedAfter, leaveOf, journalAfter, step, Outcome, done, gathered, answering, answer, Seen, trace, run}
 use Rattle.ledger.specs.Ledger.{begins, works, cuts, collects, none, header, line, Ledger, linesOf, ended, ledgerJournal, isEmpty, isIn, areIn, unfinished, ledgerRefusal, idle, takeBack, ledgerAccepts, ledgerStep, ledgerAnswer, ledgerTrace, ledgerRun}
 use Rattle.ledger.specs.Demand3.{eventOf, events}
-use Rattle.ledger.proofs.Accepted.{Accepted}
+use Rattle.journal.proofs.Written.{Accepted, length-line}
 use Rattle.ledger.proofs.Chunks.{without-last, Good, good-nil, good-before, good-end, lines-end}
-use Rattle.ledger.proofs.Written.{front, length-line, length-front}
+use Rattle.ledger.proofs.Written.{front, length-front}
 use Rattle.ledger.proofs.Known.{Known, known-off, known-on, begin-same, work-same, recover-same, collect-same}
 
 -- ---- the states that both go through

@@ -14,7 +14,7 @@ use Rattle.ledger.specs.Machine.{Entry}
 use Rattle.ledger.specs.Ledger.{Ledger, blank, linesOf, ended, ledgerJournal, isIn}
 use Rattle.ledger.specs.Demand3.{Exist, Distinct, Start}
 use Rattle.ledger.specs.Split.{runChunks, runLines, splitChunks, splitLines, splitLedger}
-use Rattle.ledger.proofs.Accepted.{Accepted}
+use Rattle.journal.proofs.Written.{Accepted}
 use Rattle.ledger.proofs.Chunks.{Good, good-nil}
 use Rattle.ledger.proofs.Simulation.{State, off, on, began, worked, lg}
 use Rattle.ledger.proofs.Theorem.{recover-is, start-blank, reach}

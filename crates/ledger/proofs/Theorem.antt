@@ -10,10 +10,10 @@ use Rattle.buffers.specs.Refusal.{first, accepted, reply}
 use Rattle.buffers.proofs.Refusal.{reply-accepted}
 use Rattle.roll_sweep.specs.Sweep.{Sweep, cells, sweepMask, sweepProbes, chunks}
 use Rattle.journal.specs.Calls.{collectShort}
-use Rattle.ledger.specs.Machine.{Entry, recover, collect, Machine, step, Outcome, done, gathered, answer, trace, run, powerUp}
+use Rattle.ledger.specs.Machine.{Entry, recover, collect, Machine, step, done, gathered, answer, trace, run, powerUp}
 use Rattle.ledger.specs.Ledger.{Ledger, blank, ended, ledgerJournal, isIn, areIn, unfinished, ledgerRefusal, ledgerAnswer, ledgerTrace, ledgerRun}
 use Rattle.ledger.specs.Demand3.{eventOf, events, Start, machineAt, machineAfter, ledgerAfter}
-use Rattle.ledger.proofs.Accepted.{Accepted}
+use Rattle.journal.proofs.Written.{Accepted}
 use Rattle.ledger.proofs.Simulation.{State, off, on, lg, mc, Reached, same-from, reach-from, recover-at, collect-at}
 
 module _ (s : Sweep) (a : Accepted s) where

@@ -1,90 +1,22 @@
--- What the journal's tests and readings say of a journal that begins with the header and the lines of a list L of chunks that exist, none twice:
--- one line read back, all of L's lines, and a journal that ends in a remnant. Assumes nothing.
+-- What the journal's tests and readings say of a journal that begins with the header and the lines of a list L of chunks that exist, none twice: all
+-- of L's lines, and a journal that ends in a remnant. One line read back is the journal's Written. Assumes nothing.
 use mathlib.Core.Path.{_≡_, refl, sym, ap, ap₂, _∙_}
 use mathlib.Core.Bool.{Bool, true, false, _||_, cond, not, false≢true, or-false}
 use mathlib.Core.List.{List, [], _∷_, _++_, append-assoc}
-use Prim.Native.Nat.{ℕ, suc, _+_, _-_, _*_, _%_, _^_, _<_, min}
-use native.Mathlib.Nat.{lt-of-lt-of-le, mul-le-mul}
+use Prim.Native.Nat.{ℕ, suc, _+_, _-_, _*_, _%_, _<_, min}
 use native.Mathlib.Omega.{arith}
-use lib.Pow.{pow-mono}
 use lib.ListN.{length, getD, take, length-append, List·getD-append}
-use lib.Seq.{getD-at, getD-take, length-take-le}
-use lib.Dec.{ltb, eqb, eqb·suc-zero}
-use borrow.Author.Tests.{lt-ltb, le-ltb, le-leb, eq-eqb, eqb-true}
+use lib.Seq.{getD-take, length-take-le}
+use lib.Dec.{eqb, eqb·suc-zero}
+use borrow.Author.Tests.{lt-ltb, le-ltb, eq-eqb, eqb-true}
 use Rattle.buffers.proofs.Ranges.{all-iff}
 use Rattle.buffers.proofs.Tests.{and-both}
-use Rattle.roll_sweep.specs.Sweep.{Sweep, cells, chunks, chunkMask, chunkProbes}
-use Rattle.roll_sweep.proofs.Chunks.{cells-le, mask-lt, probes-low, probes-high}
-use Rattle.journal.specs.Hex.{hexText, areDigits, hexValue}
-use Rattle.journal.specs.Lines.{lineText, lineOf, lineStart, chunkAt, maskAt, probesAt, hasChunk, heldMask, heldProbes}
-use Rattle.journal.specs.Right.{wholeLines, torn, agree, possible, lineFits, lineRight, linesRight, right}
-use Rattle.journal.proofs.Text.{value-hex, digits-hex, digits-add}
+use Rattle.roll_sweep.specs.Sweep.{Sweep, cells, chunkMask, chunkProbes}
+use Rattle.journal.specs.Lines.{lineOf, lineStart, hasChunk, heldMask, heldProbes}
+use Rattle.journal.specs.Right.{wholeLines, torn, agree, lineRight, linesRight, right}
+use Rattle.journal.proofs.Written.{Accepted, length-line, LineAt, read-line, line-right}
 use Rattle.ledger.specs.Ledger.{linesOf, isEmpty, isIn}
-use Rattle.ledger.proofs.Accepted.{Accepted}
 use Rattle.ledger.proofs.Chunks.{from-end, length-end, lines-end, in-end, Good, good-before, good-last, good-new, sumOver, over-nil, over-end}
-
--- ---- what a line holds fits its digits
-
-module _ (s : Sweep) where
-  mask-fits : (c : ℕ) → chunkMask s c < 16 ^ 16
-  mask-fits c = lt-of-lt-of-le (mask-lt s c) (pow-mono {j = 64} (cells-le (cells s) c))
-
-  module _ (a : Accepted s) (c : ℕ) where
-    chunk-fits : c < chunks (cells s) → c < 16 ^ 8
-    unfolding chunks
-    chunk-fits h = omega (arith, a .few)
-
-    probes-fit : chunkProbes s c < 16 ^ 8
-    probes-fit = omega (arith, probes-high s c (a .one), mul-le-mul (a .most) (cells-le (cells s) c))
-
-    possible-line : possible (cells s) (s .samples) c (chunkMask s c) (chunkProbes s c) ≡ true
-    unfolding possible
-    possible-line = and-both _ _ (and-both _ _ (lt-ltb _ _ (mask-lt s c)) (le-leb _ _ (probes-low s c (a .one)))) (le-leb _ _ (probes-high s c (a .one)))
-
--- ---- a line that work wrote is read back
-
-pub length-line : (s : Sweep) (c : ℕ) → length (lineOf s c) ≡ 33
-unfolding lineOf
-length-line s c = simp length-append refl
-
--- line l of b is chunk c's
-record LineAt (s : Sweep) (b : List ℕ) (l c : ℕ) : Type 0 where
-  chunk : chunkAt b l ≡ c
-  mask : maskAt b l ≡ chunkMask s c
-  probes : probesAt b l ≡ chunkProbes s c
-  digits : areDigits b (lineStart l) 32 ≡ true
-  newline : getD b (lineStart l + 32) 0 ≡ 10
-
-value-at : (w x i : ℕ) (b p q : List ℕ) → b ≡ p ++ (hexText w x ++ q) → length p ≡ i → x < 16 ^ w → hexValue b i w ≡ x
-value-at w x i b p q e n h = ap₂ (λ (a : List ℕ) (j : ℕ). hexValue a j w) e (sym n) ∙ value-hex w x p q h
-
-digits-at : (w x i : ℕ) (b p q : List ℕ) → b ≡ p ++ (hexText w x ++ q) → length p ≡ i → areDigits b i w ≡ true
-digits-at w x i b p q e n = ap₂ (λ (a : List ℕ) (j : ℕ). areDigits a j w) e (sym n) ∙ digits-hex w x p q
-
-read-line : (s : Sweep) → Accepted s → (c l : ℕ) (p q : List ℕ) → c < chunks (cells s) → length p ≡ lineStart l → LineAt s (p ++ (lineOf s c ++ q)) l c
-unfolding lineOf lineText chunkAt maskAt probesAt
-read-line s a c l p q h n =
-    let x : List ℕ = hexText 8 c in
-    let y : List ℕ = hexText 16 (chunkMask s c) in
-    let z : List ℕ = hexText 8 (chunkProbes s c) in
-    let b : List ℕ = p ++ (lineOf s c ++ q) in
-    let e₁ : b ≡ p ++ (x ++ (y ++ (z ++ (10 ∷ q)))) = simp append-assoc in
-    let e₂ : b ≡ (p ++ x) ++ (y ++ (z ++ (10 ∷ q))) = simp append-assoc in
-    let e₃ : b ≡ (p ++ x ++ y) ++ (z ++ (10 ∷ q)) = simp append-assoc in
-    let e₄ : b ≡ (p ++ x ++ y ++ z) ++ (10 ∷ q) = simp append-assoc in
-    let n₂ : length (p ++ x) ≡ lineStart l + 8 = simp length-append (omega arith) in
-    let n₃ : length (p ++ x ++ y) ≡ lineStart l + 24 = simp length-append (omega arith) in
-    let n₄ : length (p ++ x ++ y ++ z) ≡ lineStart l + 32 = simp length-append (omega arith) in
-    record {
-      chunk = value-at 8 c (lineStart l) b p (y ++ (z ++ (10 ∷ q))) e₁ n (chunk-fits s a c h);
-      mask = value-at 16 (chunkMask s c) (lineStart l + 8) b (p ++ x) (z ++ (10 ∷ q)) e₂ n₂ (mask-fits s c);
-      probes = value-at 8 (chunkProbes s c) (lineStart l + 24) b (p ++ x ++ y) (10 ∷ q) e₃ n₃ (probes-fit s a c);
-      digits =
-          digits-add b (lineStart l) 24 8
-          (digits-add b (lineStart l) 8 16 (digits-at 8 c (lineStart l) b p (y ++ (z ++ (10 ∷ q))) e₁ n) (digits-at 16 (chunkMask s c) (lineStart l + 8) b (p ++ x) (z ++ (10 ∷ q)) e₂ n₂))
-          (digits-at 8 (chunkProbes s c) (lineStart l + 24) b (p ++ x ++ y) (10 ∷ q) e₃ n₃);
-      newline = ap (λ (t : List ℕ). getD t (lineStart l + 32) 0) e₄ ∙ getD-at (p ++ x ++ y ++ z) 10 q 0 (lineStart l + 32) n₄;
-    }
 
 -- ---- the header and the lines of L, with any bytes q after them
 
@@ -151,17 +83,10 @@ module _ (s : Sweep) (a : Accepted s) where
       pick L c q true e k ih = ap (chunkMask s) (eqb-true c d e)
       pick L c q false e k ih = ih (sym (or-false (isIn d L)) ∙ k)
 
-  line-right : (L : List ℕ) (c : ℕ) (q : List ℕ) → Good s (L ++ (c ∷ [])) → lineRight (cells s) (s .samples) (front s L ++ (lineOf s c ++ q)) (length L) ≡ true
-  unfolding lineRight lineFits
-  line-right L c q g =
-      let b : List ℕ = front s L ++ (lineOf s c ++ q) in
-      let n = last-line L c q g in
-      let new : not (hasChunk b (length L) (chunkAt b (length L))) ≡ true =
-      ap not (ap (hasChunk b (length L)) (n .chunk) ∙ has-front L (lineOf s c ++ q) (good-before s L c g) c ∙ good-new s L c g) in
-      let exists : ltb (chunkAt b (length L)) (chunks (cells s)) ≡ true = ap (λ (x : ℕ). ltb x (chunks (cells s))) (n .chunk) ∙ lt-ltb c (chunks (cells s)) (good-last s L c g) in
-      let fits : possible (cells s) (s .samples) (chunkAt b (length L)) (maskAt b (length L)) (probesAt b (length L)) ≡ true =
-      (λ i. possible (cells s) (s .samples) (n .chunk i) (n .mask i) (n .probes i)) ∙ possible-line s a c in
-      and-both _ _ (and-both _ _ (and-both _ _ (and-both _ _ (n .digits) (eq-eqb _ _ (n .newline))) exists) fits) new
+  line-new : (L : List ℕ) (c : ℕ) (q : List ℕ) → Good s (L ++ (c ∷ [])) → lineRight (cells s) (s .samples) (front s L ++ (lineOf s c ++ q)) (length L) ≡ true
+  line-new L c q g =
+      line-right s a (front s L ++ (lineOf s c ++ q)) (length L) c (last-line L c q g) (good-last s L c g)
+      (has-front L (lineOf s c ++ q) (good-before s L c g) c ∙ good-new s L c g)
 
   pub right-front : (L q : List ℕ) → Good s L → linesRight (cells s) (s .samples) (front s L ++ q) (length L) ≡ true
   unfolding linesRight
@@ -170,7 +95,7 @@ module _ (s : Sweep) (a : Accepted s) where
       (λ q g. refl)
       (λ L c ih q g.
       split L c q g (linesRight (cells s) (s .samples))
-      ∙ and-both _ _ (ih (lineOf s c ++ q) (good-before s L c g)) (line-right L c q g))
+      ∙ and-both _ _ (ih (lineOf s c ++ q) (good-before s L c g)) (line-new L c q g))
 
 -- ---- a journal is right: the header, lines and less than a line more; or a beginning of the header. `q` is what lies beyond it
 

@@ -1,20 +1,69 @@
 -- `journal::calls::work` meets its contract. Assumes nothing.
-use mathlib.Core.Path.{_≡_, sym, ap, _∙_}
-use Prim.Native.Nat.{_<_}
+use mathlib.Core.Path.{_≡_, refl, sym, ap, _∙_}
+use Prim.Native.Nat.{_+_, _*_, _<_}
 use native.Mathlib.Omega.{arith}
 use lib.Dec.{ltb}
 use lib.ListN.{length}
 use borrow.Author.Needs.{needs}
 use Rattle.buffers.specs.Refusal.{replyOf}
-use Rattle.solar_roll.specs.Plan.{Plan, planOf, headTolerance, headConfigured, headPanel}
+use Rattle.buffers.proofs.Refusal.{reply-none}
+use Rattle.solar_roll.specs.Plan.{planOf, count, headTolerance, headConfigured, headPanel}
 use Rattle.roll_sweep.specs.Sweep.{Sweep}
-use Rattle.roll_sweep.specs.declared.chunk.Swept.{Swept}
-use Rattle.journal.specs.Plan.{sweepOf}
-use Rattle.journal.specs.Calls.{workRefusal}
-use Rattle.journal.proofs.Chains.{work-plan, work-clear, work-refused, work-accepted}
-use Rattle.journal.proofs.Planned.{refusal-said, passed, passed-with, length-header-of}
+use Rattle.journal.specs.Pass.{Passed}
+use Rattle.journal.specs.Plan.{sweepOf, lentSweep}
+use Rattle.journal.specs.Calls.{workRefusal, workReply}
+use Rattle.journal.specs.Range.{Ran}
+use Rattle.journal.proofs.Along.{ready, ran-one}
+use Rattle.journal.proofs.Chains.{WorkClear, work-plan, work-clear, work-refused}
+use Rattle.journal.proofs.Planned.{PlanPassed, refusal-said, passed, passed-with, length-header-of}
+use Rattle.journal.proofs.Scan.{chunks-le}
 use Rattle.journal.proofs.calls.work.Statement.{statement}
 use Rattle.journal.proofs.calls.work.Tie as tie
+
+-- ---- what is known at the places of the code
+
+abbrev sweep : tie.Start → Sweep
+sweep x = lentSweep (x .args .targets .now) (x .args .suns .now) (x .args .observers .now) (x .args .config) (x .args .n)
+
+-- the plan's refusal
+said : (c : tie.After-plan-refusal) → let x = c .before .before .before .before .before .before in
+    c .plan-refusal .result ≡ (sweep x) .refusal (ltb (length (x .args .journal .now)) (x .args .used))
+said c =
+    let a = c .before .before .before .before .before .before .args in
+    refusal-said _ (a .n) _ (c .plan-refusal .result) _ (c .before .sampling .ensures) (c .plan-refusal .ensures)
+
+-- the plan has passed
+passes : (c : tie.Else1) → let x = c .before .before .before .before .before .before .before in
+    (sweep x) .refusal (ltb (length (x .args .journal .now)) (x .args .used)) ≡ 0
+passes c = sym (said (c .before)) ∙ c .if1 .left
+
+plan : (c : tie.Else1) → let x = c .before .before .before .before .before .before .before in
+    PlanPassed (planOf (x .args .targets .now) (x .args .suns .now) (x .args .observers .now) (x .args .config)) (x .args .n) (length (x .args .journal .now)) (x .args .used)
+plan c =
+    let a = c .before .before .before .before .before .before .before .args in
+    passed _ (a .n) (length (a .journal .now)) (a .used) (passes c)
+
+-- with the header that was written
+with-header : (c : tie.After-write-header) → let x = c .before .before .before .before .before .before .before .before .before in
+    Passed (sweep x) (count (x .args .targets .now) * count (x .args .suns .now)) (x .args .n) (c .write-header .last .0) (x .args .journal .now) (x .args .used)
+unfolding headTolerance headConfigured headPanel
+with-header c =
+    let x = c .before .before .before .before .before .before .before .before .before in
+    passed-with _ (x .args .n) (x .args .journal .now) _ (x .args .used) (passes (c .before .before)) (c .write-header .ensures)
+
+-- work's refusal
+found : (c : tie.After-work-refusal) → let x = c .before .before .before .before .before .before .before .before .before .before .before .before .before .before in
+    c .work-refusal .result ≡ workRefusal (sweep x) (x .args .chunk) (x .args .journal .now) (x .args .used)
+found c = c .work-refusal .ensures .0 _ (with-header (c .before .before .before .before .before))
+
+-- it is none
+clear : (c : tie.Else2) → let x = c .before .before .before .before .before .before .before .before .before .before .before .before .before .before .before .before in
+    workRefusal (sweep x) (x .args .chunk) (x .args .journal .now) (x .args .used) ≡ 0
+clear c = sym (found (c .before .before)) ∙ c .if2 .left
+
+knows : (c : tie.Else2) → let x = c .before .before .before .before .before .before .before .before .before .before .before .before .before .before .before .before in
+    WorkClear (sweep x) (x .args .chunk) (x .args .journal .now) (x .args .used)
+knows c = work-clear _ _ _ _ (clear c)
 
 sampling-requires : tie.Need-sampling-requires
 sampling-requires c κs = search needs
@@ -26,14 +75,8 @@ returns : tie.Need-returns
 unfolding replyOf
 returns c =
     let a = c .before .before .before .before .before .before .before .args in
-    let p : Plan = planOf (a .targets .now) (a .suns .now) (a .observers .now) (a .config) in
-    let s : Sweep = sweepOf p (a .n) in
-    let b = a .journal .now in
-    let k = c .before .plan-refusal .result in
-    let e : k ≡ s .refusal (ltb (length b) (a .used)) =
-    refusal-said p (a .n) (c .before .before .sampling .result) k (ltb (length b) (a .used)) (c .before .before .sampling .ensures) (c .before .plan-refusal .ensures) in
-    let h : 0 < k = omega (arith, c .if1 .taken) in
-    work-refused s b (a .used) (a .chunk) k h (work-plan s b (a .used) (a .chunk) k e h)
+    let h : 0 < c .before .plan-refusal .result = omega (arith, c .if1 .taken) in
+    work-refused _ (a .journal .now) (a .used) (a .chunk) _ h (work-plan _ (a .journal .now) (a .used) (a .chunk) _ (said (c .before)) h)
 
 slice-aggregate-write-header : tie.Need-slice-aggregate-write-header
 slice-aggregate-write-header c = search needs
@@ -45,129 +88,57 @@ slice-aggregate-work-refusal : tie.Need-slice-aggregate-work-refusal
 slice-aggregate-work-refusal c = search needs
 
 mul-work-refusal : tie.Need-mul-work-refusal
-mul-work-refusal c =
-    let a = c .before .before .before .before .before .before .before .before .before .before .before .args in
-    let p : Plan = planOf (a .targets .now) (a .suns .now) (a .observers .now) (a .config) in
-    let s : Sweep = sweepOf p (a .n) in
-    let b = a .journal .now in
-    let k = c .before .before .before .before .before .plan-refusal .result in
-    let e : k ≡ s .refusal (ltb (length b) (a .used)) =
-    refusal-said p (a .n) (c .before .before .before .before .before .before .sampling .result) k (ltb (length b) (a .used)) (c .before .before .before .before .before .before .sampling .ensures) (c .before .before .before .before .before .plan-refusal .ensures) in
-    let q = passed p (a .n) (length b) (a .used) (sym e ∙ c .before .before .before .before .if1 .left) in
-    omega (arith, q .facts .few-cells)
+mul-work-refusal c = omega (arith, (plan (c .before .before .before .before)) .facts .few-cells)
+
+slice-aggregate-work-refusal-2 : tie.Need-slice-aggregate-work-refusal-2
+slice-aggregate-work-refusal-2 c = search needs
 
 work-refusal-requires : tie.Need-work-refusal-requires
-unfolding headTolerance headConfigured headPanel sweepOf
 work-refusal-requires c κs =
-    let a = c .before .before .before .before .before .before .before .before .before .before .before .before .args in
-    let p : Plan = planOf (a .targets .now) (a .suns .now) (a .observers .now) (a .config) in
-    let s : Sweep = sweepOf p (a .n) in
-    let b = a .journal .now in
-    let k = c .before .before .before .before .before .before .plan-refusal .result in
-    let e : k ≡ s .refusal (ltb (length b) (a .used)) =
-    refusal-said p (a .n) (c .before .before .before .before .before .before .before .sampling .result) k (ltb (length b) (a .used)) (c .before .before .before .before .before .before .before .sampling .ensures) (c .before .before .before .before .before .before .plan-refusal .ensures) in
-    let z : s .refusal (ltb (length b) (a .used)) ≡ 0 = sym e ∙ c .before .before .before .before .before .if1 .left in
-    let q = passed p (a .n) (length b) (a .used) z in
-    let h = c .before .before .before .write-header .last .0 in
-    let o = passed-with p (a .n) b h (a .used) z (c .before .before .before .write-header .ensures) in
-    (ap length (sym (o .header)) ∙ length-header-of p (a .n), q .facts .few-cells, q .most, q .used)
+    let k = c .before .before .before .before in
+    let q = plan (k .before .before) in
+    (ap length (sym ((with-header k) .header)) ∙ length-header-of _ _, q .facts .few-cells, q .most, q .used, refl)
 
 same-length : tie.Need-same-length
 same-length c = search needs
 
 returns-2 : tie.Need-returns-2
-unfolding replyOf headTolerance headConfigured headPanel sweepOf
+unfolding replyOf
 returns-2 c =
-    let a = c .before .before .before .before .before .before .before .before .before .before .before .before .before .before .args in
-    let p : Plan = planOf (a .targets .now) (a .suns .now) (a .observers .now) (a .config) in
-    let s : Sweep = sweepOf p (a .n) in
-    let b = a .journal .now in
-    let k = c .before .before .before .before .before .before .before .before .plan-refusal .result in
-    let e : k ≡ s .refusal (ltb (length b) (a .used)) =
-    refusal-said p (a .n) (c .before .before .before .before .before .before .before .before .before .sampling .result) k (ltb (length b) (a .used)) (c .before .before .before .before .before .before .before .before .before .sampling .ensures) (c .before .before .before .before .before .before .before .before .plan-refusal .ensures) in
-    let z : s .refusal (ltb (length b) (a .used)) ≡ 0 = sym e ∙ c .before .before .before .before .before .before .before .if1 .left in
-    let q = passed p (a .n) (length b) (a .used) z in
-    let h = c .before .before .before .before .before .write-header .last .0 in
-    let o = passed-with p (a .n) b h (a .used) z (c .before .before .before .before .before .write-header .ensures) in
-    let g : 0 < c .before .work-refusal .result = omega (arith, c .if2 .taken) in
-    work-refused s b (a .used) (a .chunk) (c .before .work-refusal .result) g (sym (c .before .work-refusal .ensures s o))
+    let k = c .before .before in
+    let a = k .before .before .before .before .before .before .before .before .before .before .before .before .before .before .args in
+    let h : 0 < k .work-refusal .result = omega (arith, c .if2 .taken) in
+    work-refused _ (a .journal .now) (a .used) (a .chunk) _ h (sym (found k))
 
-sweep-even-requires : tie.Need-sweep-even-requires
-unfolding headTolerance headConfigured headPanel sweepOf
-sweep-even-requires c κs =
-    let a = c .before .before .before .before .before .before .before .before .before .before .before .before .before .before .args in
-    let p : Plan = planOf (a .targets .now) (a .suns .now) (a .observers .now) (a .config) in
-    let s : Sweep = sweepOf p (a .n) in
-    let b = a .journal .now in
-    let k = c .before .before .before .before .before .before .before .before .plan-refusal .result in
-    let e : k ≡ s .refusal (ltb (length b) (a .used)) =
-    refusal-said p (a .n) (c .before .before .before .before .before .before .before .before .before .sampling .result) k (ltb (length b) (a .used)) (c .before .before .before .before .before .before .before .before .before .sampling .ensures) (c .before .before .before .before .before .before .before .before .plan-refusal .ensures) in
-    let z : s .refusal (ltb (length b) (a .used)) ≡ 0 = sym e ∙ c .before .before .before .before .before .before .before .if1 .left in
-    let q = passed p (a .n) (length b) (a .used) z in
-    let h = c .before .before .before .before .before .write-header .last .0 in
-    let o = passed-with p (a .n) b h (a .used) z (c .before .before .before .before .before .write-header .ensures) in
-    let no : workRefusal s (a .chunk) b (a .used) ≡ 0 = sym (c .before .work-refusal .ensures s o) ∙ c .if2 .left in
-    let room = work-clear s b (a .used) (a .chunk) no in
-    (q .facts, q .one, q .most, room .0)
+add-append-lines : tie.Need-add-append-lines
+unfolding sweepOf
+add-append-lines c = omega (arith, (knows c) .exists, chunks-le _ ((plan (c .before .before .before .before .before .before .before .before .before)) .facts .few-cells))
 
-append-line-requires : tie.Need-append-line-requires
-unfolding headTolerance headConfigured headPanel sweepOf
-append-line-requires c κs =
-    let a = c .before .before .before .before .before .before .before .before .before .before .before .before .before .before .before .before .args in
-    let p : Plan = planOf (a .targets .now) (a .suns .now) (a .observers .now) (a .config) in
-    let s : Sweep = sweepOf p (a .n) in
-    let b = a .journal .now in
-    let k = c .before .before .before .before .before .before .before .before .before .before .plan-refusal .result in
-    let e : k ≡ s .refusal (ltb (length b) (a .used)) =
-    refusal-said p (a .n) (c .before .before .before .before .before .before .before .before .before .before .before .sampling .result) k (ltb (length b) (a .used)) (c .before .before .before .before .before .before .before .before .before .before .before .sampling .ensures) (c .before .before .before .before .before .before .before .before .before .before .plan-refusal .ensures) in
-    let z : s .refusal (ltb (length b) (a .used)) ≡ 0 = sym e ∙ c .before .before .before .before .before .before .before .before .before .if1 .left in
-    let q = passed p (a .n) (length b) (a .used) z in
-    let h = c .before .before .before .before .before .before .before .write-header .last .0 in
-    let o = passed-with p (a .n) b h (a .used) z (c .before .before .before .before .before .before .before .write-header .ensures) in
-    let no : workRefusal s (a .chunk) b (a .used) ≡ 0 = sym (c .before .before .before .work-refusal .ensures s o) ∙ c .before .before .if2 .left in
-    let room = work-clear s b (a .used) (a .chunk) no in
-    room .1
+slice-aggregate-append-lines : tie.Need-slice-aggregate-append-lines
+slice-aggregate-append-lines c = search needs
+
+append-lines-requires : tie.Need-append-lines-requires
+append-lines-requires c κs =
+    let k = c .before .before in
+    ready _ _ _ _ _ (clear k) (k .before .before .work-refusal .ensures .1 (k .if2 .left))
 
 add-t17 : tie.Need-add-t17
-unfolding headTolerance headConfigured headPanel sweepOf
 add-t17 c =
-    let a = c .before .before .before .before .before .before .before .before .before .before .before .before .before .before .before .before .before .before .before .args in
-    let p : Plan = planOf (a .targets .now) (a .suns .now) (a .observers .now) (a .config) in
-    let s : Sweep = sweepOf p (a .n) in
-    let b = a .journal .now in
-    let k = c .before .before .before .before .before .before .before .before .before .before .before .before .before .plan-refusal .result in
-    let e : k ≡ s .refusal (ltb (length b) (a .used)) =
-    refusal-said p (a .n) (c .before .before .before .before .before .before .before .before .before .before .before .before .before .before .sampling .result) k (ltb (length b) (a .used)) (c .before .before .before .before .before .before .before .before .before .before .before .before .before .before .sampling .ensures) (c .before .before .before .before .before .before .before .before .before .before .before .before .before .plan-refusal .ensures) in
-    let z : s .refusal (ltb (length b) (a .used)) ≡ 0 = sym e ∙ c .before .before .before .before .before .before .before .before .before .before .before .before .if1 .left in
-    let q = passed p (a .n) (length b) (a .used) z in
-    let h = c .before .before .before .before .before .before .before .before .before .before .write-header .last .0 in
-    let o = passed-with p (a .n) b h (a .used) z (c .before .before .before .before .before .before .before .before .before .before .write-header .ensures) in
-    let no : workRefusal s (a .chunk) b (a .used) ≡ 0 = sym (c .before .before .before .before .before .before .work-refusal .ensures s o) ∙ c .before .before .before .before .before .if2 .left in
-    let room = work-clear s b (a .used) (a .chunk) no in
-    omega (arith, room .1, c .before .before .before .before .before .before .before .before .before .before .before .before .before .before .before .before .before .before .before .good .1 .1 .1 .1 .1 .1 .0 .0)
+    let k = c .before .before .before .before .before in
+    let x = k .before .before .before .before .before .before .before .before .before .before .before .before .before .before .before .before in
+    omega (arith, (knows k) .room, x .good .1 .1 .1 .1 .1 .1 .0 .0)
 
 same-length-2 : tie.Need-same-length-2
 same-length-2 c = search needs
 
 returns-3 : tie.Need-returns-3
-unfolding replyOf headTolerance headConfigured headPanel sweepOf
+unfolding replyOf workReply
 returns-3 c =
-    let a = c .before .before .before .before .before .before .before .before .before .before .before .before .before .before .before .before .before .before .before .args in
-    let p : Plan = planOf (a .targets .now) (a .suns .now) (a .observers .now) (a .config) in
-    let s : Sweep = sweepOf p (a .n) in
-    let b = a .journal .now in
-    let k = c .before .before .before .before .before .before .before .before .before .before .before .before .before .plan-refusal .result in
-    let e : k ≡ s .refusal (ltb (length b) (a .used)) =
-    refusal-said p (a .n) (c .before .before .before .before .before .before .before .before .before .before .before .before .before .before .sampling .result) k (ltb (length b) (a .used)) (c .before .before .before .before .before .before .before .before .before .before .before .before .before .before .sampling .ensures) (c .before .before .before .before .before .before .before .before .before .before .before .before .before .plan-refusal .ensures) in
-    let z : s .refusal (ltb (length b) (a .used)) ≡ 0 = sym e ∙ c .before .before .before .before .before .before .before .before .before .before .before .before .if1 .left in
-    let q = passed p (a .n) (length b) (a .used) z in
-    let h = c .before .before .before .before .before .before .before .before .before .before .write-header .last .0 in
-    let o = passed-with p (a .n) b h (a .used) z (c .before .before .before .before .before .before .before .before .before .before .write-header .ensures) in
-    let no : workRefusal s (a .chunk) b (a .used) ≡ 0 = sym (c .before .before .before .before .before .before .work-refusal .ensures s o) ∙ c .before .before .before .before .before .if2 .left in
-    let room = work-clear s b (a .used) (a .chunk) no in
-    let swept = c .before .before .before .before .sweep-even in
-    work-accepted s b (a .used) (a .chunk) (swept .result .mask) (swept .result .probes) _
-    (ap (λ (x : Swept). x .mask) (swept .ensures)) (ap (λ (x : Swept). x .probes) (swept .ensures)) (c .before .before .append-line .ensures) no
+    let k = c .before .before .before .before .before in
+    let a = k .before .before .before .before .before .before .before .before .before .before .before .before .before .before .before .before .args in (
+      sym (reply-none _ (a .used + 33) (clear k)),
+      ap (λ (r : Ran). r .bytes) (c .before .before .append-lines .ensures ∙ ran-one _ (a .journal .now) (a .used) (a .chunk) (clear k)),
+    )
 
 pub work-spec : {M : Type 1} → statement M
 work-spec =
@@ -180,11 +151,13 @@ work-spec =
     write-header-requires
     slice-aggregate-work-refusal
     mul-work-refusal
+    slice-aggregate-work-refusal-2
     work-refusal-requires
     same-length
     returns-2
-    sweep-even-requires
-    append-line-requires
+    add-append-lines
+    slice-aggregate-append-lines
+    append-lines-requires
     add-t17
     same-length-2
     returns-3)

@@ -33,7 +33,7 @@ same-length : tie.Need-same-length Inv-loop μ-loop
 same-length c =
     let s = c .before .before .before .before .before .before .before .before in
     let p = c .before .before .before .before .loop in
-    blank-length (p .seen) (s .args .seen .now) (p .inv .3 .flags) (s .pre .3)
+    blank-length (p .seen) (s .args .seen .now) (p .inv .3 .flags .count) (s .pre .3)
 
 same-length-2 : tie.Need-same-length-2 Inv-loop μ-loop
 same-length-2 c =
@@ -86,13 +86,13 @@ within c =
     omega (arith, chunk-read c, fits-exists (a .cells) (a .n) (a .journal .now) (p .l) (fitting c), chunks-le (a .cells) (s .pre .1))
 
 slice-read-if2 : tie.Need-slice-read-if2 Inv-loop μ-loop
-slice-read-if2 c = omega (arith, within c, c .before .before .before .before .before .loop .inv .3 .flags)
+slice-read-if2 c = omega (arith, within c, c .before .before .before .before .before .loop .inv .3 .flags .count)
 
 same-length-3 : tie.Need-same-length-3 Inv-loop μ-loop
 same-length-3 c =
     let s = c .before .before .before .before .before .before .before .before .before .before in
     let p = c .before .before .before .before .before .before .loop in
-    blank-length (p .seen) (s .args .seen .now) (p .inv .3 .flags) (s .pre .3)
+    blank-length (p .seen) (s .args .seen .now) (p .inv .3 .flags .count) (s .pre .3)
 
 same-length-4 : tie.Need-same-length-4 Inv-loop μ-loop
 same-length-4 c =
@@ -107,7 +107,7 @@ returns-2 c =
     let p = k .before .before .before .before .before .loop in
     let b = a .journal .now in
     let r : hasChunk b (p .l) (chunkAt b (p .l)) ≡ true =
-    ap (hasChunk b (p .l)) (sym (chunk-read k)) ∙ has-line b (p .seen) (p .masks) (p .l) (k .before .before .before .read-line .result .chunk) (p .inv .3) (within k) (c .if2 .taken) in
+    ap (hasChunk b (p .l)) (sym (chunk-read k)) ∙ has-line b (p .seen) (p .l) (k .before .before .before .read-line .result .chunk) (p .inv .3 .flags) (within k) (c .if2 .taken) in
     is-wrong _ _ _ (lines-repeat (a .cells) (a .n) b (p .l) (a .lines) (omega arith) (fitting k) r)
 
 slice-write-seen : tie.Need-slice-write-seen Inv-loop μ-loop
@@ -150,7 +150,7 @@ loop-again c =
     let b = a .journal .now in
     let d = k .before .before .before .read-line .result in
     let new : hasChunk b (p .l) (chunkAt b (p .l)) ≡ false =
-    ap (hasChunk b (p .l)) (sym (chunk-read k)) ∙ unseen b (p .seen) (p .masks) (p .l) (d .chunk) (p .inv .3) (within k) (c .before .if2 .left) in (
+    ap (hasChunk b (p .l)) (sym (chunk-read k)) ∙ unseen b (p .seen) (p .l) (d .chunk) (p .inv .3 .flags) (within k) (c .before .if2 .left) in (
       omega arith,
       lines-next (a .cells) (a .n) b (p .l) (p .inv .1) (fitting k) new,
       omega (arith, p .inv .2, probes-read k, probes-next b (p .l)),
@@ -161,7 +161,7 @@ same-length-5 : tie.Need-same-length-5 Inv-loop μ-loop
 same-length-5 c =
     let s = c .before .before .before .before .before in
     let p = c .before .loop in
-    blank-length (p .seen) (s .args .seen .now) (p .inv .3 .flags) (s .pre .3)
+    blank-length (p .seen) (s .args .seen .now) (p .inv .3 .flags .count) (s .pre .3)
 
 same-length-6 : tie.Need-same-length-6 Inv-loop μ-loop
 same-length-6 c =

@@ -1,0 +1,182 @@
+-- What work over a range asks: the chunks one by one, where it stops, and what its loop keeps. Assumes nothing.
+use mathlib.Core.Path.{_≡_, refl, sym, ap, _∙_, subst}
+use mathlib.Core.Bool.{Bool, true, false, _||_, not, or-false, false≢true}
+use mathlib.Core.List.{List, []}
+use Prim.Native.Nat.{ℕ, zero, suc, _+_, _-_, _*_, _≤_, _<_}
+use native.Mathlib.Omega.{arith}
+use lib.Dec.{leb, ltb, eqb}
+use lib.ListN.{length, getD}
+use borrow.Author.Tests.{ltb-true, ltb-false, leb-true, leb-false, le-ltb, ne-eqb, eqb-true, eqb-false, not-true, not-false}
+use Rattle.buffers.specs.Lent.{put}
+use Rattle.buffers.specs.Ranges.{flag}
+use Rattle.buffers.proofs.Lent.{length-put}
+use Rattle.buffers.proofs.Refusal.{written-none, written-some}
+use Rattle.buffers.proofs.Tests.{or-left, or-right}
+use Rattle.roll_sweep.specs.Sweep.{Sweep, cells, chunks}
+use Rattle.journal.specs.Lines.{lineOf, hasChunk}
+use Rattle.journal.specs.Right.{wholeLines, torn, right}
+use Rattle.journal.specs.Calls.{wrong, workRefusal, workBytes}
+use Rattle.journal.specs.Pass.{Flags, Ready}
+use Rattle.journal.specs.Range.{Ran, ranTo, oneMore, ran}
+use Rattle.journal.proofs.Chains.{work-9, work-10, work-7, work-0, work-clear}
+use Rattle.journal.proofs.Scan.{chunks-le, flag-zero, flag-some}
+use Rattle.journal.proofs.Written.{Accepted, length-line}
+use Rattle.journal.proofs.Appended.{torn-more, length-more, has-more, right-more}
+
+-- ---- the chunks, one by one
+
+module _ (s : Sweep) (b : List ℕ) (u c : ℕ) where
+  pub ran-next : (m : ℕ) → workRefusal s c b u ≡ 0 → ran s (suc m) (ranTo b u c) ≡ ran s m (ranTo (put u (lineOf s c) b) (u + 33) (c + 1))
+  unfolding ran oneMore workBytes
+  ran-next m e =
+      written-none (workRefusal s c b u) (ran s m (oneMore s (ranTo b u c))) (ranTo b u c) e
+      ∙ ap (λ (o : List ℕ). ran s m (ranTo o (u + 33) (c + 1))) (written-none (workRefusal s c b u) (put u (lineOf s c) b) b e)
+
+  pub ran-stop : (m : ℕ) → 0 < workRefusal s c b u → ran s m (ranTo b u c) ≡ ranTo b u c
+  unfolding ran
+  ran-stop zero h = refl
+  ran-stop (suc m) h = written-some (workRefusal s c b u) (ran s m (oneMore s (ranTo b u c))) (ranTo b u c) h
+
+-- what holds of a range wherever it stopped: each chunk took 33 bytes, and there was room for them
+pub record Came (b : List ℕ) (u c : ℕ) (r : Ran) : Type 0 where
+  pub since : c ≤ r .next
+  pub used : r .used ≡ u + 33 * (r .next - c)
+  pub within : r .used ≤ length b
+  pub room : length (r .bytes) ≡ length b
+
+-- nothing done
+came-here : (b : List ℕ) (u c : ℕ) → u ≤ length b → Came b u c (ranTo b u c)
+came-here b u c h = record { since = omega arith; used = omega arith; within = h; room = refl }
+
+-- one chunk, and then more
+came-next : (s : Sweep) (b : List ℕ) (u c : ℕ) (r : Ran) → u + 33 ≤ length b → Came (put u (lineOf s c) b) (u + 33) (c + 1) r → Came b u c r
+came-next s b u c r h f =
+    let n : length (put u (lineOf s c) b) ≡ length b = length-put u (lineOf s c) b (omega (arith, length-line s c)) in
+    record { since = omega (arith, f .since); used = omega (arith, f .used, f .since); within = omega (arith, f .within); room = f .room ∙ n }
+
+pub came : (s : Sweep) (m : ℕ) (b : List ℕ) (u c : ℕ) → u ≤ length b → Came b u c (ran s m (ranTo b u c))
+unfolding ran
+came s zero b u c h = came-here b u c h
+came s (suc m) b u c h = go (workRefusal s c b u) refl (λ g. came s m (put u (lineOf s c) b) (u + 33) (c + 1) (omega (arith, g, length-put u (lineOf s c) b (omega (arith, g, length-line s c)))))
+  where
+    go : (k : ℕ) → workRefusal s c b u ≡ k → (u + 33 ≤ length b → Came (put u (lineOf s c) b) (u + 33) (c + 1) (ran s m (ranTo (put u (lineOf s c) b) (u + 33) (c + 1)))) → Came b u c (ran s (suc m) (ranTo b u c))
+    go zero e more =
+        let room : u + 33 ≤ length b = (work-clear s b u c e) .room in
+        subst (Came b u c) (sym (ran-next s b u c m e)) (came-next s b u c _ room (more room))
+    go (suc k) e more = subst (Came b u c) (sym (ran-stop s b u c (suc m) (omega arith))) (came-here b u c h)
+
+-- a range of one chunk is its work
+pub ran-one : (s : Sweep) (b : List ℕ) (u c : ℕ) → workRefusal s c b u ≡ 0 → ran s (c + 1 - c) (ranTo b u c) ≡ ranTo (workBytes s c b u) (u + 33) (c + 1)
+unfolding ran oneMore
+ran-one s b u c e =
+    let n : c + 1 - c ≡ 1 = omega arith in
+    ap (λ (m : ℕ). ran s m (ranTo b u c)) n ∙ written-none (workRefusal s c b u) (oneMore s (ranTo b u c)) (ranTo b u c) e
+
+-- ---- what the loop keeps: after the chunks from `from` to c, of a journal b₀ with u₀ bytes used, b is left with u
+
+pub record Along (s : Sweep) (from to : ℕ) (seen b₀ : List ℕ) (u₀ c : ℕ) (b : List ℕ) (u : ℕ) : Type 0 where
+  pub since : from ≤ c
+  pub used : u ≡ u₀ + 33 * (c - from)
+  pub within : u ≤ length b
+  pub room : length b ≡ length b₀
+  pub is-right : right (cells s) (s .samples) (s .header) b u ≡ true
+  pub whole : torn u ≡ false
+  -- the flags of the chunks to come
+  pub count : length seen ≡ 16384
+  pub flags : (d : ℕ) → c ≤ d → d < 16384 → getD seen d 0 ≡ flag (hasChunk b (wholeLines u) d)
+  pub rest : ran s (to - c) (ranTo b u c) ≡ ran s (to - from) (ranTo b₀ u₀ from)
+
+-- the journal after work's checks
+pub ready : (s : Sweep) (b : List ℕ) (u c : ℕ) (seen : List ℕ) → workRefusal s c b u ≡ 0 → Flags b (wholeLines u) seen → Ready s b u seen
+ready s b u c seen e f = let q = work-clear s b u c e in record { plan = q .plan; right = q .right; whole = q .whole; flags = f }
+
+-- work refuses the next chunk: it does not exist, it has a line, or there is no room
+abbrev pub isRefused : ℕ → List ℕ → ℕ → ℕ → Bool
+isRefused m seen free c = leb m c || (not (eqb (getD seen c 0) 0) || ltb free 33)
+
+module _ (s : Sweep) (a : Accepted s) (from to : ℕ) (seen b₀ : List ℕ) (u₀ : ℕ) where
+  pub along-start : Ready s b₀ u₀ seen → u₀ ≤ length b₀ → Along s from to seen b₀ u₀ from b₀ u₀
+  unfolding wrong
+  along-start r h = record {
+    since = omega arith;
+    used = omega arith;
+    within = h;
+    room = refl;
+    is-right = not-false (right (cells s) (s .samples) (s .header) b₀ u₀) (r .right);
+    whole = r .whole;
+    count = r .flags .count;
+    flags = λ d g l. r .flags .chunk d l;
+    rest = refl;
+  }
+
+  module _ (c : ℕ) (b : List ℕ) (u : ℕ) (t : Along s from to seen b₀ u₀ c b u) where
+    plan-passes : s .refusal (ltb (length b) u) ≡ 0
+    plan-passes = ap (s .refusal) (le-ltb (length b) u (t .within)) ∙ a .plan
+
+    not-wrong : wrong s b u ≡ false
+    unfolding wrong
+    not-wrong = ap not (t .is-right)
+
+    -- the flag of the next chunk, where it exists
+    next-flag : c < chunks (cells s) → getD seen c 0 ≡ flag (hasChunk b (wholeLines u) c)
+    next-flag h = t .flags c (omega arith) (omega (arith, chunks-le (cells s) (a .few)))
+
+    -- the next chunk is refused
+    refused-by : (x y z : Bool) → leb (chunks (cells s)) c ≡ x → not (eqb (getD seen c 0) 0) ≡ y → ltb (length b - u) 33 ≡ z → x || (y || z) ≡ true → 0 < workRefusal s c b u
+    refused-by true y z ex ey ez h = omega (arith, work-9 s b u c plan-passes (leb-true (chunks (cells s)) c ex))
+    refused-by false true z ex ey ez h =
+        let g = leb-false (chunks (cells s)) c ex in
+        let has = flag-some (hasChunk b (wholeLines u) c) (λ f. eqb-false (getD seen c 0) 0 (not-true (eqb (getD seen c 0) 0) ey) (next-flag g ∙ f)) in
+        omega (arith, work-10 s b u c plan-passes g not-wrong (t .whole) has)
+    refused-by false false true ex ey ez h =
+        let g = leb-false (chunks (cells s)) c ex in
+        let new = flag-zero (hasChunk b (wholeLines u) c) (sym (next-flag g) ∙ eqb-true (getD seen c 0) 0 (not-false (eqb (getD seen c 0) 0) ey)) in
+        omega (arith, work-7 s b u c plan-passes g not-wrong (t .whole) new (omega (arith, ltb-true (length b - u) 33 ez, t .within)))
+    refused-by false false false ex ey ez h = absurd (false≢true h)
+
+    pub along-stop : isRefused (chunks (cells s)) seen (length b - u) c ≡ true → ranTo b u c ≡ ran s (to - from) (ranTo b₀ u₀ from)
+    along-stop h = sym (ran-stop s b u c (to - c) (refused-by _ _ _ refl refl refl h)) ∙ t .rest
+
+    -- the next chunk is not refused
+    module _ (h : isRefused (chunks (cells s)) seen (length b - u) c ≡ false) where
+      pub next-exists : c < chunks (cells s)
+      next-exists = leb-false (chunks (cells s)) c (or-left (leb (chunks (cells s)) c) (not (eqb (getD seen c 0) 0) || ltb (length b - u) 33) h)
+
+      pub next-room : u + 33 ≤ length b
+      next-room =
+          let r = or-right (leb (chunks (cells s)) c) (not (eqb (getD seen c 0) 0) || ltb (length b - u) 33) h in
+          omega (arith, ltb-false (length b - u) 33 (or-right (not (eqb (getD seen c 0) 0)) (ltb (length b - u) 33) r), t .within)
+
+      next-new : hasChunk b (wholeLines u) c ≡ false
+      next-new =
+          let r = or-right (leb (chunks (cells s)) c) (not (eqb (getD seen c 0) 0) || ltb (length b - u) 33) h in
+          flag-zero (hasChunk b (wholeLines u) c)
+          (sym (next-flag next-exists) ∙ eqb-true (getD seen c 0) 0 (not-false (eqb (getD seen c 0) 0) (or-left (not (eqb (getD seen c 0) 0)) (ltb (length b - u) 33) r)))
+
+      -- its line is appended
+      pub along-next : (o : List ℕ) → c < to → o ≡ put u (lineOf s c) b → Along s from to seen b₀ u₀ (c + 1) o (u + 33)
+      along-next o l e = subst (λ (x : List ℕ). Along s from to seen b₀ u₀ (c + 1) x (u + 33)) (sym e) (record {
+        since = omega (arith, t .since);
+        used = omega (arith, t .used, t .since);
+        within = omega (arith, length-more s a b u c (t .whole) next-exists next-room, next-room);
+        room = length-more s a b u c (t .whole) next-exists next-room ∙ t .room;
+        is-right = right-more s a b u c (t .whole) next-exists next-room (t .is-right) next-new;
+        whole = torn-more u (t .whole);
+        count = t .count;
+        flags = λ d g k.
+            t .flags d (omega arith) k
+            ∙ ap flag
+            (sym (or-false (hasChunk b (wholeLines u) d))
+            ∙ ap (λ (x : Bool). hasChunk b (wholeLines u) d || x) (sym (ne-eqb c d (λ z. omega arith)))
+            ∙ sym (has-more s a b u c (t .whole) next-exists next-room d));
+        rest =
+            let n : to - c ≡ suc (to - (c + 1)) = omega arith in
+            sym (ran-next s b u c (to - (c + 1)) (work-0 s b u c plan-passes next-exists not-wrong (t .whole) next-new next-room))
+            ∙ ap (λ (m : ℕ). ran s m (ranTo b u c)) (sym n)
+            ∙ t .rest;
+      })
+
+    -- to the end of the range
+    pub along-end : to ≤ c → ranTo b u c ≡ ran s (to - from) (ranTo b₀ u₀ from)
+    unfolding ran
+    along-end h = let z : to - c ≡ 0 = omega arith in ap (λ (m : ℕ). ran s m (ranTo b u c)) (sym z) ∙ t .rest

@@ -1,0 +1,79 @@
+-- `journal::range::append_lines` meets its contract. Assumes nothing.
+use mathlib.Core.Path.{_≡_, sym, ap, _∙_, subst}
+use Prim.Native.Nat.{ℕ, _-_}
+use native.Mathlib.Omega.{arith}
+use lib.Ieee.{Float, binary64, ofBits}
+use lib.ListN.{length, take, replicate, length-replicate}
+use borrow.Author.Needs.{needs}
+use Rattle.solar_roll.specs.Plan.{Plan, planOf}
+use Rattle.roll_sweep.specs.Rolls.{evenRolls}
+use Rattle.roll_sweep.proofs.Even.{length-even, even-lent}
+use Rattle.journal.specs.Pass.{Ready}
+use Rattle.journal.specs.Plan.{sweepOf}
+use Rattle.journal.specs.Range.{ranTo, ran}
+use Rattle.journal.proofs.Planned.{PlanPassed, passed}
+use Rattle.journal.proofs.range.append_lines.Statement.{statement}
+use Rattle.journal.proofs.range.append_lines.Tie as tie
+
+-- ---- what is known at the places of the code
+
+plan : (x : tie.Start) → PlanPassed (planOf (x .args .targets .now) (x .args .suns .now) (x .args .observers .now) (x .args .config)) (x .args .n) (length (x .args .journal .now)) (x .args .used)
+plan x = passed _ _ _ _ (x .pre .plan)
+
+-- the table's first n places hold the even rolls
+even : (c : tie.After-even-rolls) → take (c .before .before .before .before .before .before .before .args .n) (c .even-rolls .last .1 .0) ≡ evenRolls (c .before .before .before .before .before .before .before .args .n)
+even c =
+    let x = c .before .before .before .before .before .before .before in
+    ap (take (x .args .n)) (c .even-rolls .ensures) ∙ even-lent (x .args .n) (replicate 3600 (ofBits binary64 0)) (omega (arith, length-replicate {A = Float} 3600 (ofBits binary64 0), (plan x) .most))
+
+length-rolls : (c : tie.After-even-rolls) → length (take (c .before .before .before .before .before .before .before .args .n) (c .even-rolls .last .1 .0)) ≡ c .before .before .before .before .before .before .before .args .n
+length-rolls c = ap length (even c) ∙ length-even _
+
+cast-even-rolls : tie.Need-cast-even-rolls
+cast-even-rolls c = omega (arith, (plan (c .before .before .before .before .before)) .most)
+
+slice-aggregate-even-rolls : tie.Need-slice-aggregate-even-rolls
+slice-aggregate-even-rolls c = search needs
+
+even-rolls-requires : tie.Need-even-rolls-requires
+even-rolls-requires c κs = search needs
+
+array-share-prefix-rolls : tie.Need-array-share-prefix-rolls
+array-share-prefix-rolls c = omega (arith, (plan (c .before .before .before .before .before .before .before .before)) .most)
+
+slice-aggregate-append-swept : tie.Need-slice-aggregate-append-swept
+slice-aggregate-append-swept c = sym (length-rolls (c .before .before))
+
+append-swept-requires : tie.Need-append-swept-requires
+append-swept-requires c κs =
+    let k = c .before .before .before in
+    let x = k .before .before .before .before .before .before .before in
+    let a = x .args in
+    let p : Plan = planOf (a .targets .now) (a .suns .now) (a .observers .now) (a .config) in (
+      even k ∙ ap evenRolls (sym (length-rolls k)),
+      subst (λ (n : ℕ). Ready (sweepOf p n) (a .journal .now) (a .used) (a .seen .now)) (sym (length-rolls k)) (x .pre),
+    )
+
+same-length : tie.Need-same-length
+same-length c = search needs
+
+returns : tie.Need-returns
+returns c =
+    let k = c .before .before .before .before .before .before in
+    let a = k .before .before .before .before .before .before .before .args in
+    let p : Plan = planOf (a .targets .now) (a .suns .now) (a .observers .now) (a .config) in
+    c .before .before .append-swept .ensures
+    ∙ ap (λ (n : ℕ). ran (sweepOf p n) (a .to - a .from) (ranTo (a .journal .now) (a .used) (a .from))) (length-rolls k)
+
+pub append-lines-spec : {M : Type 1} → statement M
+append-lines-spec =
+    tie.close
+    (tie.spec
+    cast-even-rolls
+    slice-aggregate-even-rolls
+    even-rolls-requires
+    array-share-prefix-rolls
+    slice-aggregate-append-swept
+    append-swept-requires
+    same-length
+    returns)

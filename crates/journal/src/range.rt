@@ -1,0 +1,121 @@
+// The lines of a range of chunks, once nothing but 9, 10 and 7 of work's refusals is left to be tried. The rolls are a table that is filled once.
+ghost use mathlib.Core.Path.{_≡_};
+ghost use mathlib.Core.Bool.{not, _||_};
+ghost use Prim.Native.Nat.{_+_, _-_, _*_, _≤_, _<_};
+ghost use lib.Dec.{leb, ltb, eqb};
+ghost use lib.ListN.{length, getD};
+ghost use Rattle.solar_roll.specs.Plan.{planOf, count, PlanFacts};
+ghost use Rattle.roll_sweep.specs.Sweep.{chunks};
+ghost use Rattle.roll_sweep.specs.Rolls.{evenRolls};
+ghost use Rattle.roll_sweep.specs.Chunk.{sweptOf};
+ghost use Rattle.journal.specs.Pass.{Ready};
+ghost use Rattle.journal.specs.Plan.{lentSweep};
+ghost use Rattle.journal.specs.Range.{ranTo, ran};
+use crate::line::append_line;
+use roll_sweep::ChunkAnswer;
+use roll_sweep::Swept;
+use roll_sweep::even_rolls;
+use roll_sweep::sweep_chunk;
+use solar_roll::SolarRollConfig;
+
+// Sweeps a chunk of an accepted plan over its even rolls.
+fn sweep_even(
+    targets: &[f64],
+    suns: &[f64],
+    observers: &[f64],
+    config: SolarRollConfig,
+    rolls: &[f64],
+    chunk: u64,
+) -> Swept
+    requires { ⌜ PlanFacts (planOf (now targets) (now suns) (now observers) config) × (1 ≤ length (now rolls)) × (length (now rolls) ≤ 3600)
+        × (now rolls ≡ evenRolls (length (now rolls))) × (chunk < chunks (count (now targets) * count (now suns))) ⌝ }
+    ensures { λ r. ⌜ r ≡ sweptOf (lentSweep (now (targets .entry)) (now (suns .entry)) (now (observers .entry)) config (length (now (rolls .entry)))) chunk ⌝ }
+{
+    match sweep_chunk(targets, suns, observers, config, rolls, chunk) {
+        ChunkAnswer::Accepted(swept) => swept,
+        // Never: what it refuses has been refused.
+        ChunkAnswer::Refused(_) => Swept { mask: 0, probes: 0 },
+    }
+}
+
+// Work refuses the chunk: it does not exist, it has a line, or there is no room for one.
+fn is_refused(seen: &[u8], chunks: u64, free: usize, chunk: u64) -> bool
+    requires { ⌜ (length (now seen) ≡ 16384) × (chunks ≤ 16384) ⌝ }
+    ensures { λ r. ⌜ r ≡ (leb chunks chunk || (not (eqb (getD (now (seen .entry)) chunk 0) 0) || ltb free 33)) ⌝ }
+{
+    if chunks <= chunk {
+        return true;
+    }
+    let flag = seen[chunk as usize];
+    if flag != 0 {
+        return true;
+    }
+    free < 33
+}
+
+// Appends the lines of from, from + 1, .., up to the first chunk that work refuses, or `to`. Gives the chunk at which it stopped.
+fn append_swept(
+    targets: &[f64],
+    suns: &[f64],
+    observers: &[f64],
+    config: SolarRollConfig,
+    rolls: &[f64],
+    from: u64,
+    to: u64,
+    journal: &mut [u8],
+    used: u64,
+    seen: &[u8],
+) -> u64
+    requires { ⌜ (now rolls ≡ evenRolls (length (now rolls)))
+        × Ready (lentSweep (now targets) (now suns) (now observers) config (length (now rolls))) (now journal) used (now seen) ⌝ }
+    ensures { λ r. ⌜ ranTo (now (journal .exit)) (used + 33 * (r - from)) r
+        ≡ ran (lentSweep (now (targets .entry)) (now (suns .entry)) (now (observers .entry)) config (length (now (rolls .entry)))) (to - from) (ranTo (now (journal .entry)) used from) ⌝ }
+{
+    let chunks = ((targets.len() / 3 * (suns.len() / 3) + 63) / 64) as u64;
+    let mut at = used as usize;
+    let mut chunk = from;
+    while chunk < to {
+        if is_refused(seen, chunks, journal.len() - at, chunk) {
+            return chunk;
+        }
+        let swept = sweep_even(targets, suns, observers, config, rolls, chunk);
+        append_line(journal, at, chunk, swept.mask, swept.probes);
+        at += 33;
+        chunk += 1;
+    }
+    chunk
+}
+
+// The same, at n even steps.
+pub(crate) fn append_lines(
+    targets: &[f64],
+    suns: &[f64],
+    observers: &[f64],
+    config: SolarRollConfig,
+    n: u64,
+    from: u64,
+    to: u64,
+    journal: &mut [u8],
+    used: u64,
+    seen: &[u8],
+) -> u64
+    requires { ⌜ Ready (lentSweep (now targets) (now suns) (now observers) config n) (now journal) used (now seen) ⌝ }
+    ensures { λ r. ⌜ ranTo (now (journal .exit)) (used + 33 * (r - from)) r
+        ≡ ran (lentSweep (now (targets .entry)) (now (suns .entry)) (now (observers .entry)) config n) (to - from) (ranTo (now (journal .entry)) used from) ⌝ }
+{
+    let mut rolls = [0.0; 3600];
+    even_rolls(n as u32, &mut rolls);
+    let end = n as usize;
+    append_swept(
+        targets,
+        suns,
+        observers,
+        config,
+        &rolls[..end],
+        from,
+        to,
+        journal,
+        used,
+        seen,
+    )
+}
