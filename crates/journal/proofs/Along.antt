@@ -1,11 +1,12 @@
 -- What work over a range asks: the chunks one by one, where it stops, and what its loop keeps. Assumes nothing.
 use mathlib.Core.Path.{_≡_, refl, sym, ap, _∙_, subst}
 use mathlib.Core.Bool.{Bool, true, false, _||_, not, or-false, false≢true}
-use mathlib.Core.List.{List, []}
+use mathlib.Core.List.{List, _++_}
 use Prim.Native.Nat.{ℕ, zero, suc, _+_, _-_, _*_, _≤_, _<_}
 use native.Mathlib.Omega.{arith}
 use lib.Dec.{leb, ltb, eqb}
-use lib.ListN.{length, getD}
+use lib.ListN.{length, getD, take, drop}
+use lib.Seq.{take-take, take-at, length-take-le}
 use borrow.Author.Tests.{ltb-true, ltb-false, leb-true, leb-false, le-ltb, ne-eqb, eqb-true, eqb-false, not-true, not-false}
 use Rattle.buffers.specs.Lent.{put}
 use Rattle.buffers.specs.Ranges.{flag}
@@ -37,6 +38,11 @@ module _ (s : Sweep) (b : List ℕ) (u c : ℕ) where
   ran-stop zero h = refl
   ran-stop (suc m) h = written-some (workRefusal s c b u) (ran s m (oneMore s (ranTo b u c))) (ranTo b u c) h
 
+-- the bytes before a text that was put
+take-before : (i : ℕ) (t b : List ℕ) → i ≤ length b → take i (put i t b) ≡ take i b
+unfolding put
+take-before i t b h = take-at (take i b) (t ++ drop (i + length t) b) i (length-take-le i b h)
+
 -- what holds of a range wherever it stopped: each chunk took 33 bytes, and there was room for them
 pub record Came (b : List ℕ) (u c : ℕ) (r : Ran) : Type 0 where
   pub since : c ≤ r .next
@@ -64,6 +70,26 @@ came s (suc m) b u c h = go (workRefusal s c b u) refl (λ g. came s m (put u (l
         let room : u + 33 ≤ length b = (work-clear s b u c e) .room in
         subst (Came b u c) (sym (ran-next s b u c m e)) (came-next s b u c _ room (more room))
     go (suc k) e more = subst (Came b u c) (sym (ran-stop s b u c (suc m) (omega arith))) (came-here b u c h)
+
+-- and the bytes that were used before stand
+pub ran-keeps : (s : Sweep) (m : ℕ) (b : List ℕ) (u c : ℕ) → u ≤ length b → take u ((ran s m (ranTo b u c)) .bytes) ≡ take u b
+unfolding ran
+ran-keeps s zero b u c h = refl
+ran-keeps s (suc m) b u c h = go (workRefusal s c b u) refl (λ g. ran-keeps s m (put u (lineOf s c) b) (u + 33) (c + 1) (omega (arith, g, length-put u (lineOf s c) b (omega (arith, g, length-line s c)))))
+  where
+    go : (k : ℕ) → workRefusal s c b u ≡ k
+        → (u + 33 ≤ length b → take (u + 33) ((ran s m (ranTo (put u (lineOf s c) b) (u + 33) (c + 1))) .bytes) ≡ take (u + 33) (put u (lineOf s c) b))
+        → take u ((ran s (suc m) (ranTo b u c)) .bytes) ≡ take u b
+    go zero e more =
+        let room : u + 33 ≤ length b = (work-clear s b u c e) .room in
+        let o : List ℕ = put u (lineOf s c) b in
+        let r : List ℕ = (ran s m (ranTo o (u + 33) (c + 1))) .bytes in
+        ap (λ (x : Ran). take u (x .bytes)) (ran-next s b u c m e)
+        ∙ sym (take-take u (u + 33) r (omega arith))
+        ∙ ap (take u) (more room)
+        ∙ take-take u (u + 33) o (omega arith)
+        ∙ take-before u (lineOf s c) b h
+    go (suc k) e more = ap (λ (x : Ran). take u (x .bytes)) (ran-stop s b u c (suc m) (omega arith))
 
 -- a range of one chunk is its work
 pub ran-one : (s : Sweep) (b : List ℕ) (u c : ℕ) → workRefusal s c b u ≡ 0 → ran s (c + 1 - c) (ranTo b u c) ≡ ranTo (workBytes s c b u) (u + 33) (c + 1)

@@ -1,5 +1,6 @@
 -- Demand 3, for every accepted plan: `demand3`, from an empty journal; `demand3-from`, from every start; `demand3-split`, from the journal of a sweep
--- that was split. Last, that the window listings accept each row of a collected mask, so that its windows are there to be read. Assumes nothing.
+-- that was split. Then that the window listings accept each row of a collected mask, so that its windows are there to be read. Last `range-cut`, of work
+-- over a range. Assumes nothing.
 use mathlib.Core.Path.{_≡_, sym, ap, _∙_, subst}
 use mathlib.Core.Logic.{_↔_}
 use mathlib.Core.Bool.{Bool, true, false}
@@ -31,8 +32,9 @@ use Rattle.ledger.specs.Ledger.{Ledger, blank, ledgerJournal}
 use Rattle.ledger.specs.Windows.{Times, rowPart}
 use Rattle.ledger.specs.Demand3.{Distinct, Start, machineAfter, Collected, Demand3}
 use Rattle.ledger.specs.Split.{splitChunks, splitLines, splitLedger}
+use Rattle.ledger.specs.Range.{RangeKept}
 use Rattle.ledger.proofs.Accepted.{accepted-plan, few-times, sampled}
-use Rattle.ledger.proofs.Theorem.{start-blank, same-after, recover-is, collect-is}
+use Rattle.ledger.proofs.Theorem.{start-blank, same-after, recover-is, collect-is, range-is}
 use Rattle.ledger.proofs.Split.{split-start, split-journal}
 use Rattle.ledger.proofs.Windows.{row-windows, places, violations-accepted, visibility-accepted}
 
@@ -153,3 +155,10 @@ module _ (p : Plan) (n : ℕ) (plan : planRefusal p (samplingOf n) false ≡ 0) 
 
     pub row-visible : visibilityReply (rowPart (timesOf p) i m) times room ≡ accepted (length (visibilityWindows (rowPart (timesOf p) i m) times))
     row-visible = visibility-accepted (rowPart (timesOf p) i m) times (t .each ∙ sym part-length) few part-marks (t .in-range) room room-for
+
+-- ---- work over a range, for an accepted plan, after any list from every start: its whole write, cut at byte k, leaves the journal of the ledger after
+-- the first k / 33 works and a cut of k % 33 of the next
+
+module _ (p : Plan) (n : ℕ) (plan : planRefusal p (samplingOf n) false ≡ 0) where
+  pub range-cut : (l : Ledger) → Start (sweepOf p n) l → (es : List Entry) (from to : ℕ) (x : List ℕ) → RangeKept (sweepOf p n) l es from to x
+  range-cut l h es from to x = range-is (sweepOf p n) (accepted-plan p n plan) l h es from to x

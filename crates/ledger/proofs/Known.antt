@@ -15,7 +15,9 @@ use Rattle.roll_sweep.proofs.Chunks.{cell-bit, probes-chunks}
 use Rattle.journal.specs.Lines.{hasChunk, hasChunks, heldMask, heldProbes, bitOf}
 use Rattle.journal.specs.Right.{wholeLines, torn, right}
 use Rattle.journal.specs.Calls.{planFirst, wrong, beginShort, workShort, collectShort, beginRefusal, workRefusal, kept, recoverRefusal, collectRefusal, heldBit}
+use Rattle.journal.specs.Range.{rangeRefusal}
 use Rattle.ledger.specs.Ledger.{begins, works, collects, Write, Ledger, ended, ledgerJournal, isEmpty, isIn, areIn, unfinished, ledgerRefusal}
+use Rattle.ledger.specs.Range.{ledgerRangeRefusal}
 use Rattle.journal.proofs.Written.{Accepted}
 use Rattle.ledger.proofs.Chunks.{Good, good-nil, in-all, sum-all}
 use Rattle.ledger.proofs.Written.{front, length-front, has-front, probes-front, mask-front, used-on, whole-on, torn-on, right-on, used-off, whole-off, torn-off, right-off}
@@ -106,6 +108,10 @@ module _ (s : Sweep) (a : Accepted s) (l : Ledger) where
     work-same c x =
         let j : List ℕ = ledgerJournal s l in
         λ i. first (plan-passes x i ∷ (leb (chunks (cells s)) c, 9) ∷ (not-wrong x i, 11) ∷ (f .is-torn i, 12) ∷ (f .has x c i, 10) ∷ (workShort (length (j ++ x)) (length j), 7) ∷ [])
+
+    pub range-same : (from to : ℕ) (x : List ℕ) → rangeRefusal s from to (ledgerJournal s l ++ x) (length (ledgerJournal s l)) ≡ ledgerRangeRefusal s from to (length (ledgerJournal s l ++ x)) l
+    unfolding rangeRefusal ledgerRangeRefusal
+    range-same from to x = λ i. first (plan-passes x i ∷ (leb to from, 9) ∷ carried (work-same from x i) ∷ [])
 
     pub recover-same : (x : List ℕ) → recoverRefusal s (ledgerJournal s l ++ x) (length (ledgerJournal s l)) ≡ 0
     unfolding recoverRefusal

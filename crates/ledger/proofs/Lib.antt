@@ -4,6 +4,7 @@ pub mod Chunks
 pub mod Written
 pub mod Known
 pub mod Simulation
+pub mod Range
 pub mod Theorem
 pub mod Split
 pub mod Windows

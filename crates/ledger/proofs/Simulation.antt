@@ -16,13 +16,15 @@ use Rattle.roll_sweep.specs.Sweep.{Sweep, cells, chunks, sweepMask, sweepProbes
 use Rattle.journal.specs.Lines.{lineOf, heldProbes}
 use Rattle.journal.specs.Right.{wholeLines}
 use Rattle.journal.specs.Calls.{beginShort, workShort, collectShort, beginRefusal, workRefusal, kept, recoverReply, collectRefusal, heldBit}
+use Rattle.journal.specs.Range.{rangeRefusal}
 use Rattle.ledger.specs.Machine.{Entry, begin, work, cut, recover, collect, Machine, usedAfter, leaveOf, journalAfter, step, Outcome, done, gathered, answering, answer, Seen, trace, run}
 use Rattle.ledger.specs.Ledger.{begins, works, cuts, collects, none, header, line, Ledger, linesOf, ended, ledgerJournal, isEmpty, isIn, areIn, unfinished, ledgerRefusal, idle, takeBack, ledgerAccepts, ledgerStep, ledgerAnswer, ledgerTrace, ledgerRun}
 use Rattle.ledger.specs.Demand3.{eventOf, events}
+use Rattle.ledger.specs.Range.{ledgerRangeRefusal}
 use Rattle.journal.proofs.Written.{Accepted, length-line}
 use Rattle.ledger.proofs.Chunks.{without-last, Good, good-nil, good-before, good-end, lines-end}
 use Rattle.ledger.proofs.Written.{front, length-front}
-use Rattle.ledger.proofs.Known.{Known, known-off, known-on, begin-same, work-same, recover-same, collect-same}
+use Rattle.ledger.proofs.Known.{Known, known-off, known-on, begin-same, work-same, range-same, recover-same, collect-same}
 
 -- ---- the states that both go through
 
@@ -58,7 +60,7 @@ record Next (s : Sweep) (t : State s) (e : Entry) : Type 0 where
   answers : answer s e (mc s t) ≡ ledgerAnswer s (eventOf e (mc s t)) (lg s t)
 
 -- the machine after a step, by its journal
-moved : (s : Sweep) (e : Entry) (m : Machine) (j : List ℕ) (n : ℕ) → journalAfter s e m ≡ j → length j - length (m .journal) ≡ n
+pub moved : (s : Sweep) (e : Entry) (m : Machine) (j : List ℕ) (n : ℕ) → journalAfter s e m ≡ j → length j - length (m .journal) ≡ n
     → step s e m ≡ record { journal = j; added = n }
 unfolding step
 moved s e m j n p q = (λ i. record { journal = p i; added = length (p i) - length (m .journal) }) ∙ (λ i. record { journal = j; added = q i })
@@ -106,7 +108,7 @@ empty-nil (x ∷ j) e = absurd (false≢true e)
 -- ---- cuts and writes of a list of bytes
 
 -- the write that a cut finds whole
-cut-whole : (j : List ℕ) (n k : ℕ) → n ≤ k → leaveOf k n j ≡ j
+pub cut-whole : (j : List ℕ) (n k : ℕ) → n ≤ k → leaveOf k n j ≡ j
 cut-whole j n k h = go (leb k n) refl
   where
     go : (t : Bool) → leb k n ≡ t → cond t (take (length j - n + k) j) j ≡ j
@@ -114,7 +116,7 @@ cut-whole j n k h = go (leb k n) refl
     go false e = refl
 
 -- the write q that a cut leaves k bytes of
-cut-part : (p q : List ℕ) (n k : ℕ) → length q ≡ n → k ≤ n → leaveOf k n (p ++ q) ≡ p ++ take k q
+pub cut-part : (p q : List ℕ) (n k : ℕ) → length q ≡ n → k ≤ n → leaveOf k n (p ++ q) ≡ p ++ take k q
 cut-part p q n k z h =
     let e : length (p ++ q) - n + k ≡ length p + k = omega (arith, length-append p q) in
     ap (λ (t : Bool). cond t (take (length (p ++ q) - n + k) (p ++ q)) (p ++ q)) (le-leb k n h)
@@ -122,7 +124,7 @@ cut-part p q n k z h =
     ∙ take-append-add p q k
 
 -- what stands in the used bytes after a write at their end
-after-put : (j x t : List ℕ) (n : ℕ) → length t ≡ n → take (length j + n) (put (length j) t (j ++ x)) ≡ j ++ t
+pub after-put : (j x t : List ℕ) (n : ℕ) → length t ≡ n → take (length j + n) (put (length j) t (j ++ x)) ≡ j ++ t
 unfolding put
 after-put j x t n e =
     let d : List ℕ = drop (length j + length t) (j ++ x) in
@@ -488,6 +490,10 @@ module _ (s : Sweep) (a : Accepted s) where
   pub recover-at : (t : State s) (x : List ℕ) → (answer s (recover x) (mc s t) ≡ accepted done) × ((step s (recover x) (mc s t)) .journal ≡ ended s (lg s t))
   unfolding answer step
   recover-at t x = (ap (answering (λ v. done)) (recover-reply t x), recover-journal t x)
+
+  pub range-at : (t : State s) (from to : ℕ) (x : List ℕ)
+      → rangeRefusal s from to (ledgerJournal s (lg s t) ++ x) (length (ledgerJournal s (lg s t))) ≡ ledgerRangeRefusal s from to (length (ledgerJournal s (lg s t) ++ x)) (lg s t)
+  range-at t from to x = range-same s a (lg s t) (known t) from to x
 
   pub collect-at : (t : State s) (x o : List ℕ) → answer s (collect x o) (mc s t) ≡ ledgerAnswer s (eventOf (collect x o) (mc s t)) (lg s t)
   collect-at t x o = collect-answer t x o

@@ -1,20 +1,23 @@
 -- What machine and ledger do together from every start, for the sweep of any accepted plan: `same-after`, `recover-is`, `collect-is`; the start from an
--- empty journal; which calls are accepted. Assumes nothing.
+-- empty journal; which calls are accepted. `range-is` is a range of works. Assumes nothing.
 use mathlib.Core.Path.{_≡_, refl, sym, ap, ap₂, _∙_}
 use mathlib.Core.Bool.{Bool, true, false, not, false≢true}
-use mathlib.Core.List.{List, [], _∷_}
-use Prim.Native.Nat.{ℕ}
+use mathlib.Core.List.{List, [], _∷_, _++_}
+use Prim.Native.Nat.{ℕ, _≤_}
 use native.Mathlib.Omega.{arith}
 use lib.ListN.{length}
 use Rattle.buffers.specs.Refusal.{first, accepted, reply}
 use Rattle.buffers.proofs.Refusal.{reply-accepted}
 use Rattle.roll_sweep.specs.Sweep.{Sweep, cells, sweepMask, sweepProbes, chunks}
 use Rattle.journal.specs.Calls.{collectShort}
-use Rattle.ledger.specs.Machine.{Entry, recover, collect, Machine, step, done, gathered, answer, trace, run, powerUp}
+use Rattle.journal.specs.Range.{rangeRefusal}
+use Rattle.ledger.specs.Machine.{Entry, cut, recover, collect, Machine, step, done, gathered, answer, trace, run, powerUp}
 use Rattle.ledger.specs.Ledger.{Ledger, blank, ended, ledgerJournal, isIn, areIn, unfinished, ledgerRefusal, ledgerAnswer, ledgerTrace, ledgerRun}
 use Rattle.ledger.specs.Demand3.{eventOf, events, Start, machineAt, machineAfter, ledgerAfter}
+use Rattle.ledger.specs.Range.{rangeStep, rangeEntries, ledgerRangeRefusal, RangeKept}
 use Rattle.journal.proofs.Written.{Accepted}
-use Rattle.ledger.proofs.Simulation.{State, off, on, lg, mc, Reached, same-from, reach-from, recover-at, collect-at}
+use Rattle.ledger.proofs.Simulation.{State, off, on, lg, mc, Reached, same-from, reach-from, recover-at, range-at, collect-at}
+use Rattle.ledger.proofs.Range.{run-append, cut-range}
 
 module _ (s : Sweep) (a : Accepted s) where
   -- a start is one of the states that the machine and the ledger go through
@@ -50,6 +53,10 @@ module _ (s : Sweep) (a : Accepted s) where
       ∙ same-from s a es (r .state)
       ∙ sym (ap₂ (λ (m : Machine) (l : Ledger). ledgerTrace s (events s es m) l) (r .machine) (r .ledger))
 
+  -- J, after a list
+  pub journal-after : (l : Ledger) → Start s l → (es : List Entry) → (machineAfter s l es) .journal ≡ ledgerJournal s (ledgerAfter s l es)
+  journal-after l h es = let r = reach l h es in ap (λ (m : Machine). m .journal) (r .machine) ∙ sym (ap (ledgerJournal s) (r .ledger))
+
   -- what a recover leaves
   pub recover-is : (l : Ledger) → Start s l → (es : List Entry) (x : List ℕ) → (step s (recover x) (machineAfter s l es)) .journal ≡ ended s (ledgerAfter s l es)
   recover-is l h es x =
@@ -66,6 +73,22 @@ module _ (s : Sweep) (a : Accepted s) where
       let g : gathered (sweepMask s) (sweepProbes s) ≡ gathered m q =
       (reply-accepted (ledgerRefusal s (eventOf (collect x o) (mc s t)) (lg s t)) _ _ (sym (collect-at s a t x o) ∙ sym (ap (answer s (collect x o)) (r .machine)) ∙ e)) .1 in
       (cc, cc)
+
+  -- a range of works, cut at any byte of its whole write
+  pub range-is : (l : Ledger) → Start s l → (es : List Entry) (from to : ℕ) (x : List ℕ) → RangeKept s l es from to x
+  range-is l h es from to x =
+      let r = reach l h es in
+      let cuts : (k : ℕ) → k ≤ (rangeStep s from to x (machineAfter s l es)) .added
+      → step s (cut k) (rangeStep s from to x (machineAfter s l es)) ≡ machineAfter s l (es ++ rangeEntries k from x) =
+      λ k g. cut-range s from to x (machineAfter s l es) k g ∙ sym (run-append s es (rangeEntries k from x) (machineAt s l)) in
+      record {
+        refusal =
+            ap (λ (m : Machine). rangeRefusal s from to (m .journal ++ x) (length (m .journal))) (r .machine)
+            ∙ range-at s a (r .state) from to x
+            ∙ sym (ap₂ (λ (m : Machine) (l : Ledger). ledgerRangeRefusal s from to (length (m .journal ++ x)) l) (r .machine) (r .ledger));
+        machine = cuts;
+        journal = λ k g. ap (λ (m : Machine). m .journal) (cuts k g) ∙ journal-after l h (es ++ rangeEntries k from x);
+      }
 
   -- ---- from the empty journal
   pub start-blank : Start s blank
