@@ -26,7 +26,7 @@
  *    -6  A number of the panel normal is not finite, or beyond 1e100 in size.
  *    -7  An output has too few places. Always the last reason tried.
  *    -8  A time is beyond 4,000,000,000,000,000,000 nanoseconds either way.
- *    -9  No such target, time or chunk.
+ *    -9  No such target, time or chunk, or no chunk in a range.
  *   -10  The chunk already has a line in the journal.
  *   -11  The journal is not right: see JOURNAL.
  *   -12  The journal's header is incomplete, or bytes follow its last whole line: call wilfnusk_recover.
@@ -165,8 +165,8 @@ int64_t wilfnusk_field_of_regard_violated_at_roll(WILFNUSK_PLAN, uint64_t time, 
  * digits and a newline, a chunk that exists, no chunk of another line, no bits past the last cell, and a count of tried rolls from
  * (clear + n * marked) to n * cells of its chunk.
  *
- * These calls take a buffer and how many of its bytes are used. begin and work write only the bytes that they add, from the used length
- * on; write the same bytes to the file. After a failure of power read the file, call recover, and shorten the file to the answer before
+ * These calls take a buffer and how many of its bytes are used. begin, work and work_range write only the bytes that they add, from the
+ * used length on; write the same bytes to the file. After a failure of power read the file, call recover, and shorten the file to the answer before
  * anything is written.
  */
 
@@ -177,6 +177,14 @@ int64_t wilfnusk_begin(WILFNUSK_PLAN, uint64_t n, uint8_t *journal, size_t journ
 /* Sweeps a chunk and appends its line. Answers the used length after it: used + 33.
  * Refuses: -1, -2, -3, -4, -5, -6; -9 if there is no such chunk; -11; -12; -10; -7 if journal_len is below used + 33. */
 int64_t wilfnusk_work(WILFNUSK_PLAN, uint64_t n, uint64_t chunk, uint8_t *journal, size_t journal_len, uint64_t used);
+
+/* Sweeps the chunks from, from + 1, .. and appends a line for each, as wilfnusk_work of each on what the one before left would, but checks
+ * the journal once: so the time of a sweep grows with its chunks. Stops before `to`, or before the first chunk that wilfnusk_work would
+ * refuse, and writes to *stopped the chunk at which it stopped. Answers the used length after it: used + 33 for each line. A write of the
+ * added bytes that was cut short leaves the lines that it has whole, and a part of the next.
+ * Refuses: -1, -2, -3, -4, -5, -6; -9 if from is not below to; then as wilfnusk_work of the chunk from: -9; -11; -12; -10; -7. */
+int64_t wilfnusk_work_range(WILFNUSK_PLAN, uint64_t n, uint64_t from, uint64_t to, uint8_t *journal, size_t journal_len, uint64_t used,
+                            uint64_t *stopped);
 
 /* Answers the used length without an incomplete header or line at the end: 0 if the header is incomplete, else the header and the whole
  * lines. Writes nothing. Refuses: -1, -2, -3, -4, -5, -6; -11. */

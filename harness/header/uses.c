@@ -19,8 +19,8 @@ int main(void)
     const double target[3] = {1, 0, 0};
     const double suns[6] = {0, 1, 0, 0, 0, 1};
     const double observers[6] = {0, 0, 0, 0, 0, 0};
-    uint8_t journal[256], mask[2] = {9, 9}, flags[3];
-    uint64_t bits, first[3], last[3];
+    uint8_t journal[256], ranged[256], mask[2] = {9, 9}, flags[3];
+    uint64_t bits, stopped = 7, first[3], last[3];
     int64_t used, first_time[3], last_time[3];
     double roll = -1, severity[3], root = wilfnusk_sqrt(2);
     const uint8_t row[5] = {0, 1, 0, 1, 1};
@@ -50,6 +50,12 @@ int main(void)
     expect(wilfnusk_collect(PLAN, 1, journal, sizeof journal, (uint64_t)used, mask, 2) == 2, "collect: two probes");
     expect(mask[0] == 0 && mask[1] == 1, "collect's mask");
     printf("%.*s", (int)used, (const char *)journal);
+
+    memcpy(ranged, journal, 107);
+    expect(wilfnusk_work_range(PLAN, 1, 3, 3, ranged, sizeof ranged, 107, &stopped) == -9 && stopped == 7, "no chunk in a range: -9, stopped unwritten");
+    expect(wilfnusk_work_range(PLAN, 1, 0, 5, ranged, sizeof ranged, 107, &stopped) == used && stopped == 1, "work over a range, to its last chunk");
+    expect(memcmp(ranged, journal, (size_t)used) == 0, "its line is work's");
+    expect(wilfnusk_work_range(PLAN, 1, 0, 5, ranged, sizeof ranged, (uint64_t)used, &stopped) == -10 && stopped == 1, "a range whose first chunk has a line");
 
     expect(wilfnusk_violation_windows(row, 5, times, 5, severities, 5, first, 3, last, 3, first_time, 3, last_time, 3, severity, 3, flags,
                                       3) == 2,

@@ -22,6 +22,7 @@ mod refusal;
 pub mod sys;
 
 pub use refusal::{Call, Refusal};
+use std::ops::Range;
 pub use sys::Window;
 
 /// Bytes of a journal's header, and of each line after it.
@@ -125,6 +126,14 @@ impl Plan<'_> {
     /// Sweeps a chunk and appends its line. The used length after it.
     pub fn work(&self, n: u64, chunk: u64, journal: &mut [u8], used: u64) -> Result<u64, Refusal> {
         with_plan!(self, Work, wilfnusk_work, n, chunk, journal.as_mut_ptr(), journal.len(), used)
+    }
+    /// Sweeps the chunks of a range and appends their lines, up to its end or the first chunk that [`Plan::work`] refuses, with one check of the journal.
+    /// The used length after them, and the chunk at which it stopped.
+    pub fn work_range(&self, n: u64, chunks: Range<u64>, journal: &mut [u8], used: u64) -> Result<(u64, u64), Refusal> {
+        let Range { start, end } = chunks;
+        let mut stopped = start;
+        with_plan!(self, WorkRange, wilfnusk_work_range, n, start, end, journal.as_mut_ptr(), journal.len(), used, &mut stopped)
+            .map(|used| (used, stopped))
     }
     /// The used length without an incomplete header or line at the end. Shorten the file to it before the next write.
     pub fn recover(&self, n: u64, journal: &[u8], used: u64) -> Result<u64, Refusal> {

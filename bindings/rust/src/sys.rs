@@ -42,6 +42,7 @@ with_plan! {
     wilfnusk_field_of_regard_violated_at_roll(time: u64, roll_at_deg: f64, mask: *mut u8, mask_len: usize);
     wilfnusk_begin(n: u64, journal: *mut u8, journal_len: usize, used: u64);
     wilfnusk_work(n: u64, chunk: u64, journal: *mut u8, journal_len: usize, used: u64);
+    wilfnusk_work_range(n: u64, from: u64, to: u64, journal: *mut u8, journal_len: usize, used: u64, stopped: *mut u64);
     wilfnusk_recover(n: u64, journal: *const u8, journal_len: usize, used: u64);
     wilfnusk_collect(n: u64, journal: *const u8, journal_len: usize, used: u64, mask: *mut u8, mask_len: usize);
 }

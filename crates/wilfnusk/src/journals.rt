@@ -1,8 +1,9 @@
-// Begin, work, recover and collect.
+// Begin, work, work over a range, recover and collect.
 use crate::answers::int64;
 use crate::plans::settings;
 ghost use mathlib.Core.Path.{_≡_};
 ghost use Rattle.journal.specs.Calls.{beginReply, beginBytes, workReply, workBytes, recoverReply, collectReply, collectMask};
+ghost use Rattle.journal.specs.Range.{rangeReply, rangeBytes, rangeStopped};
 ghost use Rattle.journal.specs.Plan.{lentSweep};
 ghost use Rattle.wilfnusk.specs.Answers.{int64};
 ghost use Rattle.wilfnusk.specs.Plans.{settings};
@@ -50,6 +51,43 @@ pub extern "C" fn wilfnusk_work(
 {
     let config = settings(tolerance_deg, has_roll, roll_deg, panel_x, panel_y, panel_z);
     int64(journal::work(targets, suns, observers, config, n, chunk, journal, used))
+}
+
+#[no_mangle]
+pub extern "C" fn wilfnusk_work_range(
+    targets: &[f64],
+    suns: &[f64],
+    observers: &[f64],
+    tolerance_deg: f64,
+    has_roll: u64,
+    roll_deg: f64,
+    panel_x: f64,
+    panel_y: f64,
+    panel_z: f64,
+    n: u64,
+    from: u64,
+    to: u64,
+    journal: &mut [u8],
+    used: u64,
+    stopped: &mut u64,
+) -> u64
+    ensures { λ r. ⌜ r ≡ int64 (rangeReply (lentSweep (now (targets .entry)) (now (suns .entry)) (now (observers .entry)) (settings «tolerance_deg» «has_roll» «roll_deg» «panel_x» «panel_y» «panel_z») n) from to (now (journal .entry)) used) ⌝ }
+    ensures { λ r. ⌜ now (journal .exit) ≡ rangeBytes (lentSweep (now (targets .entry)) (now (suns .entry)) (now (observers .entry)) (settings «tolerance_deg» «has_roll» «roll_deg» «panel_x» «panel_y» «panel_z») n) from to (now (journal .entry)) used ⌝ }
+    ensures { λ r. ⌜ now (stopped .exit) ≡ rangeStopped (lentSweep (now (targets .entry)) (now (suns .entry)) (now (observers .entry)) (settings «tolerance_deg» «has_roll» «roll_deg» «panel_x» «panel_y» «panel_z») n) from to (now (journal .entry)) used (now (stopped .entry)) ⌝ }
+{
+    let config = settings(tolerance_deg, has_roll, roll_deg, panel_x, panel_y, panel_z);
+    int64(journal::work_range(
+        targets,
+        suns,
+        observers,
+        config,
+        n,
+        from,
+        to,
+        journal,
+        used,
+        stopped,
+    ))
 }
 
 #[no_mangle]

@@ -1,4 +1,4 @@
-//! Section 4's bytes: header, lines, when a journal is right, and the four calls on any bytes.
+//! Section 4's bytes: header, lines, when a journal is right, and the calls on any bytes.
 use crate::arithmetic::bits;
 use crate::plan::Rolls;
 use crate::{first, Answer, Plan};
@@ -124,6 +124,19 @@ impl Sweep {
         first(&[(!self.right(j), 11), (!self.whole(j), 12)])?;
         first(&[(self.has_line(j, chunk), 10), (buffer.len() < j.len() + LINE, 7)])?;
         Ok(&self.lines[chunk as usize])
+    }
+    /// Work of from, from + 1, .., each on what the one before left: the bytes to write from the used length on, and the chunk at which it stopped.
+    pub fn work_range(&self, from: u64, to: u64, buffer: &[u8], used: u64) -> Answer<(Vec<u8>, u64)> {
+        first(&[(used > buffer.len() as u64, 1), (from >= to, 9)])?;
+        self.work(from, buffer, used)?;
+        let (mut buffer, mut after, mut chunk) = (buffer.to_vec(), used as usize, from);
+        while chunk < to {
+            let Ok(line) = self.work(chunk, &buffer, after as u64) else { break };
+            buffer[after..][..LINE].copy_from_slice(line);
+            after += LINE;
+            chunk += 1;
+        }
+        Ok((buffer[used as usize..after].to_vec(), chunk))
     }
     /// The used length after it.
     pub fn recover(&self, buffer: &[u8], used: u64) -> Answer<u64> {

@@ -12,7 +12,13 @@ pub enum Entry {
         chunk: u64,
         lent: usize,
     },
-    /// Only directly after an accepted begin or work, and k at most what it wrote.
+    /// Works of from, from + 1, .., up to `to` or the first that is refused: one write.
+    WorkRange {
+        from: u64,
+        to: u64,
+        lent: usize,
+    },
+    /// Only directly after an accepted begin, work or range, and k at most what it wrote.
     Cut {
         k: usize,
     },
@@ -27,7 +33,8 @@ pub enum Entry {
 enum Written {
     Nothing,
     Header,
-    Line,
+    /// The last lines, so many of them.
+    Lines(usize),
 }
 
 pub struct Ledger<'a> {
@@ -39,10 +46,11 @@ pub struct Ledger<'a> {
     written: Written,
 }
 
-/// What an entry answers: nothing but its being accepted, or collect's mask and sum.
+/// What an entry answers: nothing but its being accepted, the chunk at which a range stopped, or collect's mask and sum.
 #[derive(Debug, PartialEq)]
 pub enum Said<'a> {
     Done,
+    Stopped(u64),
     Collected(&'a [u8], u64),
 }
 
@@ -67,7 +75,7 @@ impl<'a> Ledger<'a> {
         match self.written {
             Written::Nothing => 0,
             Written::Header => HEADER,
-            Written::Line => LINE,
+            Written::Lines(n) => n * LINE,
         }
     }
     fn unready(&self) -> (bool, u8) {
@@ -90,16 +98,26 @@ impl<'a> Ledger<'a> {
                     (lent < self.length() + LINE, 7),
                 ])?;
                 self.list.push(chunk as usize);
-                self.written = Written::Line;
+                self.written = Written::Lines(1);
+            }
+            Entry::WorkRange { from, to, lent } => {
+                first(&[(from >= to, 9)])?;
+                self.enter(Entry::Work { chunk: from, lent })?;
+                let mut chunk = from + 1;
+                while chunk < to && self.enter(Entry::Work { chunk, lent }).is_ok() {
+                    chunk += 1;
+                }
+                self.written = Written::Lines((chunk - from) as usize);
+                return Ok(Said::Stopped(chunk));
             }
             Entry::Cut { k } => {
                 if written == Written::Header && k < HEADER {
                     self.mark = false;
                     self.remnant = sweep.header[..k].to_vec();
                 }
-                if written == Written::Line && k < LINE {
-                    let chunk = self.list.pop().unwrap();
-                    self.remnant = sweep.lines[chunk][..k].to_vec();
+                if let Written::Lines(n) = written {
+                    let lost = self.list.split_off(self.list.len() - n + (k / LINE).min(n));
+                    self.remnant = lost.first().map_or(Vec::new(), |&chunk| sweep.lines[chunk][..k % LINE].to_vec());
                 }
             }
             Entry::Recover => self.remnant.clear(),

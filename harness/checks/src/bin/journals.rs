@@ -1,4 +1,5 @@
-//! Begin, work, cut, recover and collect over random lists against section 4's ledger, and over damaged journals against its bytes.
+//! Begin, work, work over a range, cut, recover and collect over random lists against section 4's ledger, and over damaged journals against
+//! its bytes.
 //! `journals [FACTOR]` multiplies the number of lists.
 use cases::{plans, Seeded};
 use model::journal::{Sweep, HEADER, LINE};
@@ -6,10 +7,11 @@ use model::ledger::{Entry, Ledger, Said};
 use model::Answer;
 use std::process::exit;
 
-/// The four calls, on a buffer and a used length.
+/// The calls, on a buffer and a used length. A range also gives the chunk at which it stopped.
 trait Machine {
     fn begin(&self, sweep: &Sweep, journal: &mut [u8], used: u64) -> Answer<u64>;
     fn work(&self, sweep: &Sweep, chunk: u64, journal: &mut [u8], used: u64) -> Answer<u64>;
+    fn work_range(&self, sweep: &Sweep, from: u64, to: u64, journal: &mut [u8], used: u64) -> Answer<(u64, u64)>;
     fn recover(&self, sweep: &Sweep, journal: &[u8], used: u64) -> Answer<u64>;
     fn collect(&self, sweep: &Sweep, journal: &[u8], used: u64, mask: &mut [u8]) -> Answer<u64>;
 }
@@ -36,6 +38,9 @@ impl Machine for Library {
     fn work(&self, sweep: &Sweep, chunk: u64, journal: &mut [u8], used: u64) -> Answer<u64> {
         lent(sweep).work(sweep.n, chunk, journal, used).map_err(|r| r.number())
     }
+    fn work_range(&self, sweep: &Sweep, from: u64, to: u64, journal: &mut [u8], used: u64) -> Answer<(u64, u64)> {
+        lent(sweep).work_range(sweep.n, from..to, journal, used).map_err(|r| r.number())
+    }
     fn recover(&self, sweep: &Sweep, journal: &[u8], used: u64) -> Answer<u64> {
         lent(sweep).recover(sweep.n, journal, used).map_err(|r| r.number())
     }
@@ -58,6 +63,11 @@ impl Machine for Bytes {
         journal[used as usize..][..LINE].copy_from_slice(line);
         Ok(used + LINE as u64)
     }
+    fn work_range(&self, sweep: &Sweep, from: u64, to: u64, journal: &mut [u8], used: u64) -> Answer<(u64, u64)> {
+        let (lines, stopped) = sweep.work_range(from, to, journal, used)?;
+        journal[used as usize..][..lines.len()].copy_from_slice(&lines);
+        Ok((used + lines.len() as u64, stopped))
+    }
     fn recover(&self, sweep: &Sweep, journal: &[u8], used: u64) -> Answer<u64> {
         sweep.recover(journal, used)
     }
@@ -73,7 +83,9 @@ struct Tally {
     lists: u64,
     entries: u64,
     accepted: u64,
+    ranges: u64,
     cuts: u64,
+    range_cuts: u64,
     collected: u64,
     damaged: u64,
     differ: u64,
@@ -103,6 +115,20 @@ fn chunk(s: &mut Seeded, sweep: &Sweep) -> u64 {
     }
 }
 
+/// A range's end: mostly some chunks on, and often beyond the last; sometimes none.
+fn end(s: &mut Seeded, sweep: &Sweep, from: u64) -> u64 {
+    match s.below(8) {
+        0 => from.saturating_sub(s.below(2)),
+        1 => s.one_of(&[1 << 32, u64::MAX, 16_384]),
+        _ => from.saturating_add(s.within(1, sweep.chunks() as u64 + 1)),
+    }
+}
+
+/// A write of so many bytes is a range's of several lines.
+fn of_range(cuttable: usize) -> bool {
+    cuttable > LINE && cuttable != HEADER
+}
+
 /// The journal's buffer for a call that may add `more` bytes to `used`: it always holds J.
 fn room(s: &mut Seeded, used: usize, more: usize) -> usize {
     match s.below(6) {
@@ -122,27 +148,29 @@ fn list(s: &mut Seeded, sweep: &Sweep, machine: &dyn Machine, t: &mut Tally) {
     let unworked = s.index(sweep.chunks() + 1);
     t.lists += 1;
     for _ in 0..entries {
-        let entry = match s.below(16) {
+        let next = (file.len().saturating_sub(HEADER) / LINE + unworked) % sweep.chunks().max(1);
+        let entry = match s.below(20) {
             0 => Entry::Collect { lent: s.one_of(&[cells, cells + 3, cells.saturating_sub(1), 0]) },
             1 => Entry::Begin { lent: room(s, file.len(), HEADER) },
             2 | 3 => Entry::Recover,
             4..=6 if ledger.cuttable() > 0 => Entry::Cut { k: s.index(ledger.cuttable() + 1) },
+            7..=12 if of_range(ledger.cuttable()) => Entry::Cut { k: s.index(ledger.cuttable() + 1) },
             _ if file.is_empty() => Entry::Begin { lent: room(s, 0, HEADER) },
             7 | 8 => Entry::Work { chunk: chunk(s, sweep), lent: room(s, file.len(), LINE) },
-            // Lists that come to an end: the next chunk, from one that differs by list.
-            _ => {
-                let lines = file.len().saturating_sub(HEADER) / LINE;
-                match sweep.chunks() {
-                    0 => Entry::Collect { lent: cells },
-                    n if lines >= n => Entry::Collect { lent: cells },
-                    n => Entry::Work { chunk: ((lines + unworked) % n) as u64, lent: file.len() + 100 },
-                }
+            9..=12 => {
+                let from = if s.once_in(2) { chunk(s, sweep) } else { next as u64 };
+                let lines = s.within(1, 9) as usize;
+                Entry::WorkRange { from, to: end(s, sweep, from), lent: room(s, file.len(), lines * LINE) }
             }
+            // Lists that come to an end: the next chunk, from one that differs by list.
+            _ if file.len() >= HEADER + sweep.chunks() * LINE => Entry::Collect { lent: cells },
+            _ => Entry::Work { chunk: next as u64, lent: file.len() + 100 },
         };
         history.push(entry);
         t.entries += 1;
         let used = file.len() as u64;
         let cuttable = ledger.cuttable();
+        let mut stopped = None;
         let said = ledger.enter(entry);
         let mut buffer = file.clone();
         let mut mask = vec![FILL; if let Entry::Collect { lent } = entry { lent } else { 0 }];
@@ -155,8 +183,17 @@ fn list(s: &mut Seeded, sweep: &Sweep, machine: &dyn Machine, t: &mut Tally) {
                 buffer.resize(lent, FILL);
                 machine.work(sweep, chunk, &mut buffer, used)
             }
+            Entry::WorkRange { from, to, lent } => {
+                t.ranges += 1;
+                buffer.resize(lent, FILL);
+                machine.work_range(sweep, from, to, &mut buffer, used).map(|(after, chunk)| {
+                    stopped = Some(chunk);
+                    after
+                })
+            }
             Entry::Cut { k } => {
                 t.cuts += 1;
+                t.range_cuts += of_range(cuttable) as u64;
                 Ok(used - (cuttable - k) as u64)
             }
             Entry::Recover => machine.recover(sweep, &buffer, used),
@@ -176,6 +213,10 @@ fn list(s: &mut Seeded, sweep: &Sweep, machine: &dyn Machine, t: &mut Tally) {
                 used
             }
             (Ok(Said::Done), Ok(after)) => after,
+            (Ok(Said::Stopped(chunk)), Ok(after)) => {
+                t.same(&shown, stopped, Some(*chunk));
+                after
+            }
             _ => {
                 t.same(&shown, mask.iter().all(|&b| b == FILL), true);
                 used
@@ -230,7 +271,7 @@ fn damaged(s: &mut Seeded, sweep: &Sweep, other: &Sweep) -> Vec<u8> {
     j
 }
 
-/// The four calls on bytes that nobody vouches for.
+/// The calls on bytes that nobody vouches for.
 fn on_damage(s: &mut Seeded, sweep: &Sweep, other: &Sweep, machine: &dyn Machine, t: &mut Tally) {
     let j = damaged(s, sweep, other);
     t.damaged += 1;
@@ -239,17 +280,19 @@ fn on_damage(s: &mut Seeded, sweep: &Sweep, other: &Sweep, machine: &dyn Machine
     buffer.resize(j.len() + more, FILL);
     let used = if s.once_in(20) { s.one_of(&[buffer.len() as u64 + 1, u64::MAX, 1 << 32, 0]) } else { j.len() as u64 };
     let c = chunk(s, sweep);
-    let shown = || format!("{:?} n {} chunk {c} used {used} of {:?}", sweep.plan, sweep.n, String::from_utf8_lossy(&buffer));
+    let to = end(s, sweep, c);
+    let shown = || format!("{:?} n {} chunk {c} to {to} used {used} of {:?}", sweep.plan, sweep.n, String::from_utf8_lossy(&buffer));
     let mask_room = sweep.mask.len() + s.one_of(&[0, 1, 5]);
-    let mut ours = (buffer.clone(), buffer.clone(), vec![FILL; mask_room]);
+    let mut ours = (buffer.clone(), buffer.clone(), buffer.clone(), vec![FILL; mask_room]);
     let mut theirs = ours.clone();
-    let answers = |m: &dyn Machine, b: &mut (Vec<u8>, Vec<u8>, Vec<u8>)| {
-        [
+    let answers = |m: &dyn Machine, b: &mut (Vec<u8>, Vec<u8>, Vec<u8>, Vec<u8>)| {
+        let calls = [
             m.recover(sweep, &buffer, used),
-            m.collect(sweep, &buffer, used, &mut b.2),
+            m.collect(sweep, &buffer, used, &mut b.3),
             m.begin(sweep, &mut b.0, used),
             m.work(sweep, c, &mut b.1, used),
-        ]
+        ];
+        (calls, m.work_range(sweep, c, to, &mut b.2, used))
     };
     let (a, b) = (answers(machine, &mut ours), answers(&Bytes, &mut theirs));
     t.same(&shown, a, b);
@@ -312,10 +355,11 @@ fn main() {
         }
     }
     println!(
-        "journals: {} lists of {} entries ({} accepted, {} cuts, {} collected) against the ledger, {} damaged journals: {} differ",
-        t.lists, t.entries, t.accepted, t.cuts, t.collected, t.damaged, t.differ
+        "journals: {} lists of {} entries ({} accepted, {} ranges, {} cuts, {} of them of a range, {} collected) against the ledger, {} damaged \
+         journals: {} differ",
+        t.lists, t.entries, t.accepted, t.ranges, t.cuts, t.range_cuts, t.collected, t.damaged, t.differ
     );
-    if t.differ > 0 || t.lists < 100_000 {
+    if t.differ > 0 || t.lists < 100_000 || t.range_cuts < 5_000 {
         exit(1);
     }
 }
