@@ -1,5 +1,6 @@
 //! The proved library as this program calls it. Every line, mask and window comes from here, and nothing else calls it.
 use crate::plan::Plan;
+use std::ops::Range;
 use wilfnusk::Columns;
 pub use wilfnusk::{Refusal, Roll, Window, CHUNK_CELLS, HEADER_BYTES, LINE_BYTES};
 
@@ -33,13 +34,9 @@ pub fn begin(plan: &Plan, journal: &mut [u8]) -> Result<usize, Refusal> {
     lent(plan).begin(plan.rolls, journal, 0).map(|used| used as usize)
 }
 
-/// Appends the lines of these chunks, in this order. The used length after them.
-pub fn work(plan: &Plan, chunks: &[u64], journal: &mut [u8], used: usize) -> Result<usize, Refusal> {
-    let mut used = used as u64;
-    for &chunk in chunks {
-        used = lent(plan).work(plan.rolls, chunk, journal, used)?;
-    }
-    Ok(used as usize)
+/// Appends the lines of a run of chunks, in their order, up to the first that cannot be. The used length after them.
+pub fn work(plan: &Plan, chunks: Range<u64>, journal: &mut [u8], used: usize) -> Result<usize, Refusal> {
+    lent(plan).work_range(plan.rolls, chunks, journal, used as u64).map(|(used, _)| used as usize)
 }
 
 /// How much of the journal stands: the header and the lines whose writing ended.
