@@ -11,17 +11,10 @@ const HEADER: usize = HEADER_BYTES as usize;
 const LINE: usize = LINE_BYTES as usize;
 
 /// A whole sweep, begin and then every chunk in order, into a journal of just the length.
-///
-/// `work` checks the whole journal on each call. So it is lent one that has the header only, and each line is copied from there.
-// With wilfnusk_work_range, begin and one call of it on the journal itself stand here.
 pub fn sweep(plan: &wilfnusk::Plan, n: u64, chunks: u64, journal: &mut [u8]) {
-    plan.begin(n, journal, 0).unwrap();
-    let mut short = [0; HEADER + LINE];
-    short[..HEADER].copy_from_slice(&journal[..HEADER]);
-    for (c, line) in (0..chunks).zip(journal[HEADER..].chunks_exact_mut(LINE)) {
-        plan.work(n, c, &mut short, HEADER_BYTES).unwrap();
-        line.copy_from_slice(&short[HEADER..]);
-    }
+    let used = plan.begin(n, journal, 0).unwrap();
+    let (end, stopped) = plan.work_range(n, 0..chunks, journal, used).unwrap();
+    assert_eq!((end, stopped), (journal.len() as u64, chunks));
 }
 
 pub fn chunks(plan: &Plan) -> u64 {
