@@ -84,13 +84,18 @@ impl Journal {
         Ok(())
     }
     /// Makes all that was written last.
-    pub fn sync(&mut self) -> Result<(), Fault> {
+    fn sync(&mut self) -> Result<(), Fault> {
         if self.unsynced {
             self.file.sync_data().map_err(|e| self.fault(&e))?;
             self.unsynced = false;
         }
         self.synced = Instant::now();
         Ok(())
+    }
+    /// After the last line: all that was written lasts, and nobody else wrote between two lines.
+    pub fn end(&mut self) -> Result<(), Fault> {
+        self.sync()?;
+        self.as_left()
     }
     /// The file is as this process left it: nobody else wrote, shortened or removed it.
     fn as_left(&self) -> Result<(), Fault> {

@@ -106,7 +106,7 @@ impl Sweep {
                 }
             }
         }
-        journal.sync()?;
+        journal.end()?;
         progress.end();
         self.end(&plan, &journal)
     }
