@@ -1,7 +1,15 @@
-// The answer that every call of the libraries above returns.
+// The answer that every call of the libraries above returns, and the smaller of two lengths.
+ghost use mathlib.Core.Path.{_≡_};
+ghost use Prim.Native.Nat.{min};
 
 // A number where the call was accepted, or document 01's number of the refusal.
 pub enum Answer {
     Accepted(u64),
     Refused(u64),
+}
+
+pub fn smaller(a: usize, b: usize) -> usize
+    ensures { λ r. ⌜ r ≡ min a b ⌝ }
+{
+    if a < b { a } else { b }
 }

@@ -9,9 +9,6 @@ use lib.Ieee.{Float, nan, inf, fin, binary64, add, mul, div, rem, lt, ofBits}
 abbrev pub zero·0 : Float
 zero·0 = ofBits binary64 0x0000_0000_0000_0000
 
-abbrev pub half : Float
-half = ofBits binary64 0x3fe0_0000_0000_0000
-
 abbrev pub one : Float
 one = ofBits binary64 0x3ff0_0000_0000_0000
 

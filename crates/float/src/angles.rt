@@ -14,6 +14,7 @@ use crate::arctangent::ratio;
 use crate::arctangent::turned_angle;
 use crate::root::checked_to_two;
 use crate::root::root_by_inverse;
+use buffers::smaller;
 
 // How many points are worked side by side.
 const BLOCK: usize = 64;
@@ -90,12 +91,6 @@ fn turn_each(ys: &[f64], zs: &[f64], count: usize, qs: &mut [f64])
         qs[k] = turned_angle(y, z, q);
         k += 1;
     }
-}
-
-fn smaller(a: usize, b: usize) -> usize
-    ensures { λ r. ⌜ r ≡ min a b ⌝ }
-{
-    if a < b { a } else { b }
 }
 
 // Writes the arctangent of each point (z, y): as many as the shortest list has, and at most 64.

@@ -48,7 +48,7 @@ pub record RangeKept (s : Sweep) (l : Ledger) (es : List Entry) (from to : ℕ) 
   -- it is accepted, or refused with its number, as the ledger says
   pub refusal : rangeRefusal s from to ((machineAfter s l es) .journal ++ x) (length ((machineAfter s l es) .journal))
       ≡ ledgerRangeRefusal s from to (length ((machineAfter s l es) .journal ++ x)) (ledgerAfter s l es)
-  -- its whole write cut at byte k: the machine is that of the works and the cut. So every list that has ranges comes to one that has none
+  -- its whole write cut at byte k: the machine is that of the works and the cut. k may be all of its bytes: such a cut leaves the journal as the range left it
   pub machine : (k : ℕ) → k ≤ (rangeStep s from to x (machineAfter s l es)) .added
       → step s (cut k) (rangeStep s from to x (machineAfter s l es)) ≡ machineAfter s l (es ++ rangeEntries k from x)
   -- and the journal is that of the ledger after them

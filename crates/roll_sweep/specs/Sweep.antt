@@ -34,7 +34,7 @@ unfoldable pub marked : Sweep → ℕ → Bool
 unfolding allBelow
 marked s i = allBelow (s .samples) (s .violates i)
 
--- how many samples of a cell are tried
+-- how many samples of a cell are tried: document 01's probes, of one cell
 unfoldable pub cellProbes : Sweep → ℕ → ℕ
 unfolding tried
 cellProbes s i = tried (s .samples) (s .violates i)

@@ -1,4 +1,5 @@
 // The sweep of one chunk of cells.
+use buffers::smaller;
 use solar_roll::ConfiguredRoll;
 use solar_roll::EvaluationRoll;
 use solar_roll::Panel;
@@ -50,12 +51,6 @@ pub fn cells_in(cells: u64, chunk: u64) -> u64
     }
     let left = cells - 64 * chunk;
     if left < 64 { left } else { 64 }
-}
-
-fn smaller(a: usize, b: usize) -> usize
-    ensures { λ r. ⌜ r ≡ min a b ⌝ }
-{
-    if a < b { a } else { b }
 }
 
 // The Sun's units at `cells` cells from number `first` on. Of a time that comes again, in another

@@ -1,8 +1,8 @@
-// Masks: a byte a cell, 0 clear or 1 marked, in order of cell number; and the cells' named values.
+// Masks: a byte a cell, 0 clear or 1 marked, in order of cell number.
 use crate::units::block_length;
 use crate::units::fill_units;
-use crate::units::tile_length;
 use buffers::Answer;
+use buffers::smaller;
 use float::rem_euclid;
 use solar_roll::CellRoll;
 use solar_roll::ConfiguredRoll;
@@ -158,7 +158,7 @@ fn mark_tiles(
 {
     let mut from = 0;
     while from < count {
-        let to = from + tile_length(count - from);
+        let to = from + smaller(64, count - from);
         mark_cells(
             axes,
             &units[from..to],

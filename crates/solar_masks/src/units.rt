@@ -2,7 +2,7 @@
 use solar_roll::sun_unit;
 use solar_roll::triple;
 ghost use mathlib.Core.Path.{_≡_};
-ghost use Prim.Native.Nat.{_+_, _≤_, _<_, min};
+ghost use Prim.Native.Nat.{_+_, _≤_, _<_};
 ghost use lib.ListN.{length};
 ghost use Rattle.buffers.specs.Lent.{filled};
 ghost use Rattle.solar_roll.specs.Roll.{sunUnit};
@@ -21,13 +21,6 @@ pub(crate) fn block_length(times: usize, from: usize) -> usize
     } else {
         BLOCK
     }
-}
-
-// How many cells of `left` are worked side by side.
-pub(crate) fn tile_length(left: usize) -> usize
-    ensures { λ r. ⌜ r ≡ min 64 left ⌝ }
-{
-    if left < 64 { left } else { 64 }
 }
 
 // Writes the Sun's units of `count` times, from the time `from` on.

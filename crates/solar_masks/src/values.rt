@@ -2,8 +2,8 @@
 use crate::mask::cells_refusal;
 use crate::units::block_length;
 use crate::units::fill_units;
-use crate::units::tile_length;
 use buffers::Answer;
+use buffers::smaller;
 use solar_roll::Panel;
 use solar_roll::SolarRollConfig;
 use solar_roll::body_axes;
@@ -37,7 +37,7 @@ fn value_row(
     let axes = body_axes(target);
     let mut from = 0;
     while from < count {
-        let to = from + tile_length(count - from);
+        let to = from + smaller(64, count - from);
         rolls_deg_in(axes, &units[from..to], panel_angle, &mut values[from..]);
         from = to;
     }

@@ -6,6 +6,7 @@ use crate::vectors::norm3;
 use crate::vectors::normalize3;
 use crate::vectors::over3;
 use crate::vectors::unwrap_or;
+use buffers::smaller;
 use float::abs;
 use float::atan2;
 use float::atan2_each;
@@ -155,12 +156,6 @@ fn to_rolls(panel_angle: f64, count: usize, rolls: &mut [f64])
         rolls[k] = to_degrees(angle - panel_angle);
         k += 1;
     }
-}
-
-fn smaller(a: usize, b: usize) -> usize
-    ensures { λ r. ⌜ r ≡ min a b ⌝ }
-{
-    if a < b { a } else { b }
 }
 
 // The optimal rolls of cells of one row, side by side, a cell for each of the Sun's units: as many as the shorter list

@@ -27,11 +27,11 @@ abbrev μ-loop : tie.MeasureT-loop
 loop-holds : tie.Need-loop-holds Inv-loop μ-loop
 loop-holds c = (omega arith, omega arith, omega arith, refl, filled-zero _ _)
 
-sub-tile-length : tie.Need-sub-tile-length Inv-loop μ-loop
-sub-tile-length c = search needs
+sub-smaller : tie.Need-sub-smaller Inv-loop μ-loop
+sub-smaller c = search needs
 
-tile-length-requires : tie.Need-tile-length-requires Inv-loop μ-loop
-tile-length-requires c κs = search needs
+smaller-requires : tie.Need-smaller-requires Inv-loop μ-loop
+smaller-requires c κs = search needs
 
 add-to : tie.Need-add-to Inv-loop μ-loop
 add-to c = search needs
@@ -69,14 +69,14 @@ loop-again c =
     let o = t .before .before in
     let at = o .loop in
     let a = o .before .before .args in
-    let w = t .tile-length .result in
+    let w = t .smaller .result in
     let m = at .mask in
-    let n : at .from + w ≤ length (now (a .mask)) = omega (arith, t .tile-length .ensures) in
-    let k = length-tile (now (a .units)) (at .from) w (omega (arith, t .tile-length .ensures)) in
+    let n : at .from + w ≤ length (now (a .mask)) = omega (arith, t .smaller .ensures) in
+    let k = length-tile (now (a .units)) (at .from) w (omega (arith, t .smaller .ensures)) in
     let f : Vector → ℕ = λ u. flag (marked (rollIn (a .axes) u (a .panel)) (a .rule) (a .tolerance-deg)) in
     let p = c .before .before .mark-cells .ensures ∙ ap (λ (i : ℕ). filled i (λ j. f (getD (tile (now (a .units)) (at .from) w) j [])) (take (length m - at .from) (drop (at .from) m))) k in
     let e = tile-next (now (a .units)) (at .from) w f [] (now (a .mask)) m _ (at .inv .4) n p in
-    (omega (arith, t .tile-length .ensures), at .inv .1, at .inv .2, ap length e ∙ length-filled _ _ _ n, e)
+    (omega (arith, t .smaller .ensures), at .inv .1, at .inv .2, ap length e ∙ length-filled _ _ _ n, e)
 
 same-length : tie.Need-same-length Inv-loop μ-loop
 same-length c = search needs
@@ -94,8 +94,8 @@ mark-tiles-spec =
     Inv-loop
     μ-loop
     loop-holds
-    sub-tile-length
-    tile-length-requires
+    sub-smaller
+    smaller-requires
     add-to
     mul-mark-cells
     sub-mark-cells

@@ -27,11 +27,11 @@ body-axes-requires c κs = search needs
 loop-holds : tie.Need-loop-holds Inv-loop μ-loop
 loop-holds c = (omega arith, omega arith, omega arith, refl, filled-zero _ _)
 
-sub-tile-length : tie.Need-sub-tile-length Inv-loop μ-loop
-sub-tile-length c = search needs
+sub-smaller : tie.Need-sub-smaller Inv-loop μ-loop
+sub-smaller c = search needs
 
-tile-length-requires : tie.Need-tile-length-requires Inv-loop μ-loop
-tile-length-requires c κs = search needs
+smaller-requires : tie.Need-smaller-requires Inv-loop μ-loop
+smaller-requires c κs = search needs
 
 add-to : tie.Need-add-to Inv-loop μ-loop
 add-to c = search needs
@@ -72,17 +72,17 @@ loop-again c =
     let o = t .before .before in
     let at = o .loop in
     let a = o .before .before .before .args in
-    let w = t .tile-length .result in
+    let w = t .smaller .result in
     let m = at .values in
-    let n : at .from + w ≤ length (now (a .values)) = omega (arith, t .tile-length .ensures) in
-    let k = length-tile (now (a .units)) (at .from) w (omega (arith, t .tile-length .ensures)) in
+    let n : at .from + w ≤ length (now (a .values)) = omega (arith, t .smaller .ensures) in
+    let k = length-tile (now (a .units)) (at .from) w (omega (arith, t .smaller .ensures)) in
     let f : Vector → Float = λ u. rollDegIn (o .before .body-axes .result) u (a .panel-angle) in
     let units = tile (now (a .units)) (at .from) w in
     let part = take (length m - at .from) (drop (at .from) m) in
-    let i : min 64 (min (length part) (length units)) ≡ w = omega (arith, k, length-drop (at .from) m, ap length (part-lent (at .from) m), t .tile-length .ensures) in
+    let i : min 64 (min (length part) (length units)) ≡ w = omega (arith, k, length-drop (at .from) m, ap length (part-lent (at .from) m), t .smaller .ensures) in
     let p = c .before .before .rolls-deg-in .ensures ∙ ap (λ (i : ℕ). filled i (λ j. f (getD units j [])) part) i in
     let e = tile-next (now (a .units)) (at .from) w f [] (now (a .values)) m _ (at .inv .4) n p in
-    (omega (arith, t .tile-length .ensures), at .inv .1, at .inv .2, ap length e ∙ length-filled _ _ _ n, e)
+    (omega (arith, t .smaller .ensures), at .inv .1, at .inv .2, ap length e ∙ length-filled _ _ _ n, e)
 
 same-length : tie.Need-same-length Inv-loop μ-loop
 same-length c = search needs
@@ -103,8 +103,8 @@ value-row-spec =
     μ-loop
     body-axes-requires
     loop-holds
-    sub-tile-length
-    tile-length-requires
+    sub-smaller
+    smaller-requires
     add-to
     mul-rolls-deg-in
     sub-rolls-deg-in
