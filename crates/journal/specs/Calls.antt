@@ -9,7 +9,7 @@ use Rattle.buffers.specs.Ranges.{tab}
 use Rattle.buffers.specs.Lent.{filled, put}
 use Rattle.buffers.specs.Refusal.{first, carried, Reply, reply, unlessRefused}
 use Rattle.roll_sweep.specs.Sweep.{Sweep, cells, chunks}
-use Rattle.journal.specs.Lines.{lineOf, hasChunk, hasChunks, heldMask, heldProbes, bitOf}
+use Rattle.journal.specs.Lines.{headerLength, lineLength, lineOf, hasChunk, hasChunks, heldMask, heldProbes, bitOf}
 use Rattle.journal.specs.Right.{wholeLines, torn, right}
 
 -- the plan's refusals, which every call tries first: a used length beyond the buffer is part of 1
@@ -25,10 +25,10 @@ wrong s b u = not (right (cells s) (s .samples) (s .header) b u)
 -- ---- 7, of each call that has it: by the lengths of what is lent
 
 unfoldable pub beginShort : ℕ → Bool
-beginShort room = ltb room 107
+beginShort room = ltb room headerLength
 
 unfoldable pub workShort : ℕ → ℕ → Bool
-workShort room u = ltb room (u + 33)
+workShort room u = ltb room (u + lineLength)
 
 unfoldable pub collectShort : Sweep → ℕ → Bool
 collectShort s room = ltb room (cells s)
@@ -46,7 +46,7 @@ beginRefusal s b u =
 -- the used length that it leaves
 unfoldable pub beginReply : Sweep → List ℕ → ℕ → Reply ℕ
 unfolding beginRefusal reply
-beginReply s b u = reply (beginRefusal s b u) 107
+beginReply s b u = reply (beginRefusal s b u) headerLength
 
 unfoldable pub beginBytes : Sweep → List ℕ → ℕ → List ℕ
 unfolding beginRefusal unlessRefused put
@@ -67,7 +67,7 @@ workRefusal s c b u =
 
 unfoldable pub workReply : Sweep → ℕ → List ℕ → ℕ → Reply ℕ
 unfolding workRefusal reply
-workReply s c b u = reply (workRefusal s c b u) (u + 33)
+workReply s c b u = reply (workRefusal s c b u) (u + lineLength)
 
 unfoldable pub workBytes : Sweep → ℕ → List ℕ → ℕ → List ℕ
 unfolding workRefusal unlessRefused put lineOf
@@ -78,7 +78,7 @@ workBytes s c b u = unlessRefused (workRefusal s c b u) (put u (lineOf s c) b) b
 -- to 0 if the header is incomplete, else to the header and its whole lines
 unfoldable pub kept : ℕ → ℕ
 unfolding wholeLines
-kept u = cond (ltb u 107) 0 (107 + 33 * wholeLines u)
+kept u = cond (ltb u headerLength) 0 (headerLength + lineLength * wholeLines u)
 
 unfoldable pub recoverRefusal : Sweep → List ℕ → ℕ → ℕ
 unfolding first planFirst wrong

@@ -7,6 +7,13 @@ use Rattle.buffers.specs.Ranges.{sum, allBelow, anyBelow}
 use Rattle.roll_sweep.specs.Sweep.{Sweep, chunkMask, chunkProbes}
 use Rattle.journal.specs.Hex.{hexText, hexValue}
 
+-- how many bytes a header has, and a line, with their 0a
+abbrev pub headerLength : ℕ
+headerLength = 107
+
+abbrev pub lineLength : ℕ
+lineLength = 33
+
 -- chunk (8 digits), mask (16), probes (8), and byte 0a: 33 bytes
 unfoldable pub lineText : ℕ → ℕ → ℕ → List ℕ
 unfolding hexText
@@ -21,7 +28,7 @@ lineOf s c = lineText c (chunkMask s c) (chunkProbes s c)
 
 -- where line l begins: the header has 107 bytes, a line 33
 unfoldable pub lineStart : ℕ → ℕ
-lineStart l = 107 + 33 * l
+lineStart l = headerLength + lineLength * l
 
 -- its chunk, mask and probes
 unfoldable pub chunkAt : List ℕ → ℕ → ℕ

@@ -5,6 +5,7 @@ use Prim.Native.Nat.{ℕ, zero, suc, _+_, _-_}
 use lib.Dec.{leb}
 use Rattle.buffers.specs.Refusal.{first, carried, Reply, reply, unlessRefused}
 use Rattle.roll_sweep.specs.Sweep.{Sweep}
+use Rattle.journal.specs.Lines.{lineLength}
 use Rattle.journal.specs.Calls.{planFirst, workRefusal, workBytes}
 
 -- how far a range has come: the buffer, its used length, and the chunk that is next
@@ -19,7 +20,7 @@ ranTo b u c = record { bytes = b; used = u; next = c }
 -- after work of the chunk that is next
 unfoldable pub oneMore : Sweep → Ran → Ran
 unfolding workBytes
-oneMore s r = ranTo (workBytes s (r .next) (r .bytes) (r .used)) (r .used + 33) (r .next + 1)
+oneMore s r = ranTo (workBytes s (r .next) (r .bytes) (r .used)) (r .used + lineLength) (r .next + 1)
 
 -- m chunks more, up to but not including the first that work refuses on what the one before left
 unfoldable pub ran : Sweep → ℕ → Ran → Ran

@@ -9,15 +9,15 @@ use lib.ListN.{getD}
 use Rattle.buffers.specs.Ranges.{allBelow}
 use Rattle.roll_sweep.specs.Sweep.{chunks, cellsIn}
 use Rattle.journal.specs.Hex.{areDigits}
-use Rattle.journal.specs.Lines.{lineStart, chunkAt, maskAt, probesAt, hasChunk}
+use Rattle.journal.specs.Lines.{headerLength, lineLength, lineStart, chunkAt, maskAt, probesAt, hasChunk}
 
 -- how many whole lines stand in u used bytes
 unfoldable pub wholeLines : ℕ → ℕ
-wholeLines u = (u - 107) / 33
+wholeLines u = (u - headerLength) / lineLength
 
 -- the header is incomplete, or a tail shorter than a line follows the last whole line
 unfoldable pub torn : ℕ → Bool
-torn u = ltb u 107 || not (eqb ((u - 107) % 33) 0)
+torn u = ltb u headerLength || not (eqb ((u - headerLength) % lineLength) 0)
 
 -- the first m bytes of b are those of h
 unfoldable pub agree : List ℕ → List ℕ → ℕ → Bool
@@ -50,4 +50,4 @@ linesRight n k b l = allBelow l (lineRight n k b)
 -- Document 01's right: the header is this plan's (if shorter than 107 bytes: it begins that header), and each whole line is right.
 unfoldable pub right : ℕ → ℕ → List ℕ → List ℕ → ℕ → Bool
 unfolding agree linesRight wholeLines
-right n k h b u = agree b h (min u 107) && linesRight n k b (wholeLines u)
+right n k h b u = agree b h (min u headerLength) && linesRight n k b (wholeLines u)

@@ -12,6 +12,7 @@ use Rattle.buffers.specs.Refusal.{accepted}
 use Rattle.solar_roll.specs.Plan.{Plan, rowsOf, timesOf, violatesAt}
 use Rattle.roll_sweep.specs.Sweep.{Sweep, cells, chunks, tried}
 use Rattle.roll_sweep.specs.Rolls.{evenRoll}
+use Rattle.journal.specs.Lines.{headerLength, lineLength}
 use Rattle.journal.specs.Plan.{sweepOf}
 use Rattle.ledger.specs.Machine.{Entry, begin, work, cut, recover, collect, Machine, step, done, gathered, answer, trace, run}
 use Rattle.ledger.specs.Ledger.{Event, begins, works, cuts, recovers, collects, none, Ledger, ended, ledgerJournal, isIn, ledgerTrace, ledgerRun}
@@ -46,8 +47,8 @@ pub record Start (s : Sweep) (l : Ledger) : Type 0 where
   -- no chunk is there while the mark is off
   pub off : l .mark ≡ false → l .lines ≡ []
   -- the remnant is a proper beginning of the header while the mark is off; while it is on, shorter than a line, as a proper beginning of one is
-  pub opening : l .mark ≡ false → (length (l .remnant) < 107) × (l .remnant ≡ take (length (l .remnant)) (s .header))
-  pub tail : l .mark ≡ true → length (l .remnant) < 33
+  pub opening : l .mark ≡ false → (length (l .remnant) < headerLength) × (l .remnant ≡ take (length (l .remnant)) (s .header))
+  pub tail : l .mark ≡ true → length (l .remnant) < lineLength
   -- no write has just been made
   pub last : l .last ≡ none
 

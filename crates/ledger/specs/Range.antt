@@ -7,6 +7,7 @@ use lib.Dec.{leb}
 use lib.ListN.{length, take, drop}
 use Rattle.buffers.specs.Refusal.{first, carried}
 use Rattle.roll_sweep.specs.Sweep.{Sweep}
+use Rattle.journal.specs.Lines.{lineLength}
 use Rattle.journal.specs.Range.{rangeRefusal, rangeReply, rangeBytes}
 use Rattle.ledger.specs.Machine.{Entry, work, cut, Machine, usedAfter, step}
 use Rattle.ledger.specs.Ledger.{works, Ledger, ledgerJournal, ledgerRefusal}
@@ -29,11 +30,11 @@ rangeStep s from to x m = record { journal = rangeJournal s from to x m; added =
 -- nothing, whether it was accepted or not
 unfoldable pub worksCut : ℕ → ℕ → ℕ → List ℕ → List Entry
 worksCut zero r c x = work c x ∷ cut r ∷ []
-worksCut (suc q) r c x = work c x ∷ worksCut q r (c + 1) (drop 33 x)
+worksCut (suc q) r c x = work c x ∷ worksCut q r (c + 1) (drop lineLength x)
 
 -- what its write, cut at byte k, comes to: the first k / 33 works, and a cut of k % 33 of the next
 abbrev pub rangeEntries : ℕ → ℕ → List ℕ → List Entry
-rangeEntries k from x = worksCut (k / 33) (k % 33) from x
+rangeEntries k from x = worksCut (k / lineLength) (k % lineLength) from x
 
 -- the number that the ledger gives it: 9 if from is not below to, else that of its work of from
 unfoldable pub ledgerRangeRefusal : Sweep → ℕ → ℕ → ℕ → Ledger → ℕ

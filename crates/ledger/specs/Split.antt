@@ -4,6 +4,7 @@ use mathlib.Core.Bool.{true}
 use mathlib.Core.List.{List, [], _∷_, _++_}
 use Prim.Native.Nat.{ℕ}
 use lib.ListN.{drop}
+use Rattle.journal.specs.Lines.{headerLength}
 use Rattle.roll_sweep.specs.Sweep.{Sweep}
 use Rattle.ledger.specs.Machine.{Entry, recover, step, run, powerUp}
 use Rattle.ledger.specs.Ledger.{none, Ledger, blank, ledgerRun}
@@ -14,7 +15,7 @@ unfoldable pub runChunks : Sweep → List Entry → List ℕ
 runChunks s es = (ledgerRun s (events s es powerUp) blank) .lines
 
 unfoldable pub runLines : Sweep → List Entry → List ℕ
-runLines s es = drop 107 ((step s (recover []) (run s es powerUp)) .journal)
+runLines s es = drop headerLength ((step s (recover []) (run s es powerUp)) .journal)
 
 -- of several runs, one after the other
 unfoldable pub splitChunks : Sweep → List (List Entry) → List ℕ
