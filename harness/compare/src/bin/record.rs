@@ -1,9 +1,12 @@
-//! Writes a sample of the customer's Rust's answers for the program `replay`: `record FOLDER`, one file a section of document 01, and the
-//! answers for targets that are no unit vectors in a file of their own. The seeds stand here, so the files are the same on every run.
-//! (Section 1's roots and arctangents are the program `vectors`'s.)
+//! Writes a sample of the customer's Rust's answers for the program `replay`: one file a section of document 01, and the answers for targets
+//! that are no unit vectors in a file of their own. The seeds stand here, so every run writes the same files. At the repository's root, after
+//! `harness/run`, which builds it:
 //!
-//! A line is a record: words of hexadecimal digits, the first its kind. A float is its bits (every NaN 7ff8000000000000), a time its 64 bits, a
-//! mask 64 samples a word, the first lowest.
+//!     target/cargo/release/record crates/replay/data
+//!
+//! A line is words of hexadecimal digits, the first its kind. A line of kind 0 gives a plan or a row of samples. Each other line asks about
+//! what was given last: two words of what is asked (0 where nothing is), then the Rust's answer up to the line's end. A float is its bits (every
+//! NaN 7ff8000000000000), a time its 64 bits, a mask a word a sample.
 use cases::plans::{for_roll, for_sweep, plan, roll, samples, Targets};
 use cases::{rows, Seeded};
 use model::arithmetic::bits;
@@ -12,22 +15,43 @@ use model::{Plan, Roll};
 use oracle::Oracle;
 use std::{env, fs, path::Path};
 
-const DIFFERENCE: u64 = 1; // a, b, difference
-// The next three begin with a plan: rows, times, tolerance, configured (0 or 1), roll, panel, targets, suns, observers.
-const ROLLS: u64 = 2; // mask of the cells that are not Free, named values; mask of the batch; roll, mask as Sweep; roll, mask as Fixed; target, mask, severities
-const SWEEP: u64 = 3; // n, mask, probes
-const OTHERS: u64 = 4; // n, mask at every roll; time, mask of the targets; roll, mask of the targets at it
-const WINDOWS: u64 = 5; // samples, mask, times, severities; violation windows, visibility windows: each a count, then six words a window
-const EXPAND: u64 = 6; // windows, samples, first times, last times, times; mask, seconds
+// A plan: how many numbers the targets have, and the Suns; the words at which the Suns begin, and the observers; tolerance, configured (0 or 1),
+// roll, panel; targets, Suns, observers.
+// A row: samples, windows; the words at which the times begin, the severities, the windows' first times, their last times; mask, times,
+// severities, first times, last times.
+const GIVEN: u64 = 0;
+const DIFFERENCE: u64 = 1; // a, b: their difference
+const CELL: u64 = 2; // target, time: 0 where Free, else 1 and the roll
+const NAMED_VALUES: u64 = 3; // the values
+const BATCH: u64 = 4; // mask
+const AT_SWEEP: u64 = 5; // roll: mask
+const AT_FIXED: u64 = 6; // roll: mask
+const ROW: u64 = 7; // target: each sample's mark and severity
+const SWEEP: u64 = 8; // n: probes, mask
+const EVERY_ROLL: u64 = 9; // n: mask
+const FIELD: u64 = 10; // time, n: mask of the targets
+const FIELD_AT_ROLL: u64 = 11; // time, roll: mask of the targets
+const VIOLATIONS: u64 = 12; // how many, each window's six words
+const VISIBILITY: u64 = 13; // the same, of `MovingBodyResult`
+const EXPAND: u64 = 14; // mask, at times that never fall
+const EXPAND_REORDERED: u64 = 15; // mask, at other times
+const RESULT: u64 = 16; // how many visibility windows of `ConstraintResult`, each one's first and last time
+const SECONDS: u64 = 17; // the seconds
 
 #[derive(Default)]
 struct File(String);
 
 impl File {
-    fn line(&mut self, kind: u64, parts: &[&[u64]]) {
-        let words: Vec<String> = std::iter::once(&kind).chain(parts.iter().copied().flatten()).map(|w| format!("{w:x}")).collect();
+    fn line(&mut self, words: &[u64]) {
+        let words: Vec<String> = words.iter().map(|w| format!("{w:x}")).collect();
         self.0 += &words.join(" ");
         self.0.push('\n');
+    }
+    fn given(&mut self, words: &[&[u64]]) {
+        self.line(&[&[GIVEN], words.concat().as_slice()].concat());
+    }
+    fn asked(&mut self, kind: u64, what: [u64; 2], answer: &[u64]) {
+        self.line(&[&[kind], &what[..], answer].concat());
     }
 }
 
@@ -38,36 +62,57 @@ fn times(list: &[i64]) -> Vec<u64> {
     list.iter().map(|&t| t as u64).collect()
 }
 fn mask(bytes: &[u8]) -> Vec<u64> {
-    bytes.chunks(64).map(|word| word.iter().enumerate().map(|(k, &b)| (b as u64) << k).sum()).collect()
+    bytes.iter().map(|&b| b as u64).collect()
+}
+fn windows(list: &[Window]) -> Vec<u64> {
+    let window = |w: &Window| [w.first as u64, w.last as u64, w.first_time as u64, w.last_time as u64, bits(w.severity), w.is_last as u64];
+    std::iter::once(list.len() as u64).chain(list.iter().flat_map(window)).collect()
 }
 
-fn words(p: &Plan) -> Vec<u64> {
-    let configured = [p.roll_deg.is_some() as u64, bits(p.roll_deg.unwrap_or(0.0))];
-    let sizes = [p.rows() as u64, p.times() as u64, bits(p.tolerance_deg)];
-    [&sizes[..], &configured, &floats(&p.panel_normal), &floats(&p.targets), &floats(&p.suns), &floats(&p.observers)].concat()
-}
-
-fn original(p: &Plan) -> Oracle {
-    Oracle::new(p, &(0..p.times() as i64).collect::<Vec<_>>())
+/// Length 1 up to 1e-9 of its square.
+fn is_unit(v: [f64; 3]) -> bool {
+    (v[0] * v[0] + v[1] * v[1] + v[2] * v[2] - 1.0).abs() <= 1e-9
 }
 
 fn small(s: &mut Seeded, targets: Targets) -> Plan {
-    let (rows, times) = s.one_of(&[(1, 1), (1, 5), (3, 4), (2, 7), (5, 3), (4, 20)]);
-    plan(s, targets, rows, times)
+    loop {
+        let (rows, times) = s.one_of(&[(1, 1), (1, 5), (3, 4), (2, 7), (5, 3), (4, 20)]);
+        let p = plan(s, targets, rows, times);
+        if targets == Targets::Any || (0..rows).all(|i| is_unit(p.target(i))) {
+            return p;
+        }
+    }
 }
 
-/// Section 2: rolls, marks at one roll, rows.
+fn given(f: &mut File, p: &Plan) -> Oracle {
+    let (t, s) = (p.targets.len() as u64, p.suns.len() as u64);
+    let roll = [p.roll_deg.is_some() as u64, bits(p.roll_deg.unwrap_or(0.0))];
+    let lists = floats(&[&p.panel_normal[..], &p.targets, &p.suns, &p.observers].concat());
+    let head = [t, s, 11 + t, 11 + t + s, bits(p.tolerance_deg)];
+    f.given(&[&head, &roll, &lists]);
+    Oracle::new(p, &(0..p.times() as i64).collect::<Vec<_>>())
+}
+
+/// Section 2: rolls, marks at one roll, a row.
 fn rolls(f: &mut File, s: &mut Seeded, targets: Targets) {
     let mut p = small(s, targets);
     p.roll_deg = if s.once_in(4) { None } else { Some(roll(s, &p)) };
     for_roll(s, &mut p);
-    let o = original(&p);
+    let o = given(f, &p);
+    let (not_free, values) = (o.not_free(), floats(&o.named_values()));
+    for c in 0..p.cells() {
+        let (i, j) = (c / p.times(), c % p.times());
+        let answer: &[u64] = if not_free[c] == 1 { &[1, values[c]] } else { &[0] };
+        f.asked(CELL, [i as u64, j as u64], answer);
+    }
+    f.asked(NAMED_VALUES, [0, 0], &values);
+    f.asked(BATCH, [0, 0], &mask(&o.in_constraint_batch()));
     let (sweep, fixed, target) = (roll(s, &p), roll(s, &p), s.index(p.rows()));
+    f.asked(AT_SWEEP, [bits(sweep), 0], &mask(&o.in_constraint_batch_at_roll(Roll::Sweep(sweep))));
+    f.asked(AT_FIXED, [bits(fixed), 0], &mask(&o.in_constraint_batch_at_roll(Roll::Fixed(fixed))));
     let (marks, severities) = o.row(target);
-    let (at_sweep, at_fixed) = (o.in_constraint_batch_at_roll(Roll::Sweep(sweep)), o.in_constraint_batch_at_roll(Roll::Fixed(fixed)));
-    let cells = [mask(&o.not_free()), floats(&o.named_values()), mask(&o.in_constraint_batch())].concat();
-    let at_rolls = [vec![bits(sweep)], mask(&at_sweep), vec![bits(fixed)], mask(&at_fixed)].concat();
-    f.line(ROLLS, &[&words(&p), &cells, &at_rolls, &[target as u64], &mask(&marks), &floats(&severities)]);
+    let samples: Vec<u64> = marks.iter().zip(&severities).flat_map(|(&m, &x)| [m as u64, bits(x)]).collect();
+    f.asked(ROW, [target as u64, 0], &samples);
 }
 
 /// Section 3: sweeps.
@@ -75,8 +120,8 @@ fn sweeps(f: &mut File, s: &mut Seeded, targets: Targets) {
     let mut p = small(s, targets);
     let n = samples(s);
     for_sweep(s, &mut p, n);
-    let (marks, tried) = original(&p).sweep(n);
-    f.line(SWEEP, &[&words(&p), &[n], &mask(&marks), &[tried.iter().sum()]]);
+    let (marks, tried) = given(f, &p).sweep(n);
+    f.asked(SWEEP, [n, 0], &[&[tried.iter().sum()], mask(&marks).as_slice()].concat());
 }
 
 /// Section 6.
@@ -84,40 +129,13 @@ fn others(f: &mut File, s: &mut Seeded, targets: Targets) {
     let mut p = small(s, targets);
     let n = if s.once_in(10) { 0 } else { samples(s) };
     for_sweep(s, &mut p, n.max(1));
-    let (o, time, at) = (original(&p), s.index(p.times()), roll(s, &p));
-    let marks = [mask(&o.field_of_regard_violated_batch(time, n)), vec![bits(at)], mask(&o.field_of_regard_violated_at_roll(time, at))];
-    f.line(OTHERS, &[&words(&p), &[n], &mask(&o.constrained_at_every_roll(n)), &[time as u64], &marks.concat()]);
+    let (o, time, at) = (given(f, &p), s.index(p.times()), roll(s, &p));
+    f.asked(EVERY_ROLL, [n, 0], &mask(&o.constrained_at_every_roll(n)));
+    f.asked(FIELD, [time as u64, n], &mask(&o.field_of_regard_violated_batch(time, n)));
+    f.asked(FIELD_AT_ROLL, [time as u64, bits(at)], &mask(&o.field_of_regard_violated_at_roll(time, at)));
 }
 
-fn listed(list: &[Window]) -> Vec<u64> {
-    let window = |w: &Window| [w.first as u64, w.last as u64, w.first_time as u64, w.last_time as u64, bits(w.severity), w.is_last as u64];
-    std::iter::once(list.len() as u64).chain(list.iter().flat_map(window)).collect()
-}
-
-fn section_5() -> File {
-    let (mut f, mut s) = (File::default(), Seeded::new(15));
-    for k in 0..100u64 {
-        // All masks of up to four samples, then longer ones.
-        let m = match k {
-            0..=30 => rows::mask_of(k + 1 - (1 << (k + 1).ilog2()), (k + 1).ilog2() as usize),
-            _ => {
-                let n = s.within(5, 40) as usize;
-                rows::mask(&mut s, n)
-            }
-        };
-        let (at, severities) = (rows::times(&mut s, m.len()), rows::severities(&mut s, m.len()));
-        let violations = listed(&oracle::violation_windows(&m, &severities, &at));
-        let visible = listed(&oracle::visibility_windows(&m, &at));
-        f.line(WINDOWS, &[&[m.len() as u64], &mask(&m), &times(&at), &floats(&severities), &violations, &visible]);
-        let (first, last) = rows::windows(&mut s, &at, 12);
-        let sizes = [first.len() as u64, at.len() as u64];
-        let answers = [mask(&oracle::expand(&first, &last, &at)), floats(&[oracle::seconds(&first, &last)])].concat();
-        f.line(EXPAND, &[&sizes, &times(&first), &times(&last), &times(&at), &answers]);
-    }
-    f
-}
-
-/// Records of one kind, each by its own seed.
+/// Records of one kind of plan, each by its own seed.
 fn many(seed: u64, count: u64, targets: Targets, record: impl Fn(&mut File, &mut Seeded, Targets)) -> File {
     let mut f = File::default();
     for k in 0..count {
@@ -127,18 +145,46 @@ fn many(seed: u64, count: u64, targets: Targets, record: impl Fn(&mut File, &mut
 }
 
 fn section_2() -> File {
-    let mut f = many(12, 60, Targets::Unit, rolls);
+    let mut f = many(12, 30, Targets::Unit, rolls);
     let mut s = Seeded::new(12);
     let none = Plan::default();
     for _ in 0..100 {
         let (a, b) = (roll(&mut s, &none), roll(&mut s, &none));
-        f.line(DIFFERENCE, &[&floats(&[a, b, oracle::circular_diff_deg(a, b)])]);
+        f.asked(DIFFERENCE, [bits(a), bits(b)], &floats(&[oracle::circular_diff_deg(a, b)]));
+    }
+    f
+}
+
+fn section_5() -> File {
+    let (mut f, mut s) = (File::default(), Seeded::new(15));
+    for k in 0..75u64 {
+        // All masks of up to four samples, then longer ones.
+        let m = match k {
+            0..=30 => rows::mask_of(k + 1 - (1 << (k + 1).ilog2()), (k + 1).ilog2() as usize),
+            _ => {
+                let n = s.within(5, 40) as usize;
+                rows::mask(&mut s, n)
+            }
+        };
+        let (at, severities) = (rows::times(&mut s, m.len()), rows::severities(&mut s, m.len()));
+        let (first, last) = rows::windows(&mut s, &at, 12);
+        let (n, w) = (m.len() as u64, first.len() as u64);
+        let head = [n, w, 7 + n, 7 + 2 * n, 7 + 3 * n, 7 + 3 * n + w];
+        f.given(&[&head, &mask(&m), &times(&at), &floats(&severities), &times(&first), &times(&last)]);
+        f.asked(VIOLATIONS, [0, 0], &windows(&oracle::violation_windows(&m, &severities, &at)));
+        f.asked(VISIBILITY, [0, 0], &windows(&oracle::visibility_windows(&m, &at)));
+        let kind = if at.windows(2).all(|pair| pair[0] <= pair[1]) { EXPAND } else { EXPAND_REORDERED };
+        f.asked(kind, [0, 0], &mask(&oracle::expand(&first, &last, &at)));
+        let ends = oracle::visibility_of_result(&first, &last, &at);
+        let numbers: Vec<u64> = ends.iter().flat_map(|&(a, b)| [a as u64, b as u64]).collect();
+        f.asked(RESULT, [0, 0], &[&[ends.len() as u64], numbers.as_slice()].concat());
+        f.asked(SECONDS, [0, 0], &floats(&[oracle::seconds(&first, &last)]));
     }
     f
 }
 
 fn any_targets() -> File {
-    let [a, b, c] = [many(22, 20, Targets::Any, rolls), many(23, 20, Targets::Any, sweeps), many(26, 20, Targets::Any, others)];
+    let [a, b, c] = [many(22, 15, Targets::Any, rolls), many(23, 20, Targets::Any, sweeps), many(26, 15, Targets::Any, others)];
     File(a.0 + &b.0 + &c.0)
 }
 
@@ -148,11 +194,12 @@ fn main() {
         ("section-2", section_2()),
         ("section-3", many(13, 80, Targets::Unit, sweeps)),
         ("section-5", section_5()),
-        ("section-6", many(16, 60, Targets::Unit, others)),
+        ("section-6", many(16, 50, Targets::Unit, others)),
         ("any-targets", any_targets()),
     ] {
         let longest = file.0.lines().map(|l| l.split(' ').count()).max().unwrap();
-        println!("{name}: {} records, {} bytes, at most {longest} words", file.0.lines().count(), file.0.len());
+        assert!(longest <= 256 && file.0.len() < 65_536, "the program has room for it");
+        println!("{name}: {} lines, {} bytes", file.0.lines().count(), file.0.len());
         fs::write(Path::new(&folder).join(name), file.0).expect("the folder can be written");
     }
 }

@@ -1,0 +1,267 @@
+// Questions about a plan. Above a function stands what its lines ask, if anything, and after a colon what they answer.
+use crate::kinds::AT_FIXED;
+use crate::kinds::AT_SWEEP;
+use crate::kinds::BATCH;
+use crate::kinds::CELL;
+use crate::kinds::EVERY_ROLL;
+use crate::kinds::FIELD;
+use crate::kinds::NAMED_VALUES;
+use crate::kinds::ROW;
+use crate::kinds::SWEEP;
+use crate::words::UNWRITTEN;
+use crate::words::number;
+use crate::words::numbers;
+use crate::words::same_marks;
+use crate::words::same_numbers;
+use crate::words::word;
+use buffers::Answer;
+use float::bits;
+use float::of_bits;
+use solar_masks::evaluate;
+use solar_masks::field_of_regard_violated_at_roll;
+use solar_masks::field_of_regard_violated_batch;
+use solar_masks::in_constraint_batch;
+use solar_masks::in_constraint_batch_at_roll;
+use solar_masks::in_constraint_batch_constrained_at_every_roll;
+use solar_masks::named_values;
+use solar_roll::CellRoll;
+use solar_roll::ConfiguredRoll;
+use solar_roll::EvaluationRoll;
+use solar_roll::SolarRollConfig;
+use solar_roll::cell_roll;
+use solar_roll::circular_diff_deg;
+use solar_roll::triple;
+
+// a, b: their difference.
+pub(crate) fn difference(asked: &[u64; 256]) -> bool {
+    bits(circular_diff_deg(number(asked, 1), number(asked, 2))) == word(asked, 3)
+}
+
+fn settings(given: &[u64; 256]) -> SolarRollConfig {
+    let panel_normal = [number(given, 8), number(given, 9), number(given, 10)];
+    let roll_deg = if word(given, 6) == 0 {
+        ConfiguredRoll::None
+    } else {
+        ConfiguredRoll::Some(number(given, 7))
+    };
+    SolarRollConfig {
+        tolerance_deg: number(given, 5),
+        roll_deg,
+        panel_normal,
+    }
+}
+
+pub(crate) fn plan(given: &[u64; 256], asked: &[u64; 256], kind: u64) -> bool {
+    let mut targets = [0.0f64; 24];
+    let mut suns = [0.0f64; 72];
+    let mut observers = [0.0f64; 72];
+    let t = numbers(given, 11, word(given, 1), &mut targets);
+    let s = numbers(given, word(given, 3), word(given, 2), &mut suns);
+    let o = numbers(given, word(given, 4), word(given, 2), &mut observers);
+    asked_of_plan(
+        asked,
+        kind,
+        &targets[..t],
+        &suns[..s],
+        &observers[..o],
+        settings(given),
+    )
+}
+
+fn asked_of_plan(
+    asked: &[u64; 256],
+    kind: u64,
+    targets: &[f64],
+    suns: &[f64],
+    observers: &[f64],
+    config: SolarRollConfig,
+) -> bool {
+    match kind {
+        CELL => cell(asked, targets, suns, observers, config),
+        NAMED_VALUES => values(asked, targets, suns, observers, config),
+        BATCH | AT_SWEEP | AT_FIXED => batch(asked, kind, targets, suns, observers, config),
+        ROW => row(asked, targets, suns, observers, config),
+        SWEEP => sweep(asked, targets, suns, observers, config),
+        _ => section_6(asked, kind, targets, suns, observers, config),
+    }
+}
+
+// Target, time: 0 where Free, else 1 and the roll.
+fn cell(
+    asked: &[u64; 256],
+    targets: &[f64],
+    suns: &[f64],
+    observers: &[f64],
+    config: SolarRollConfig,
+) -> bool {
+    let target = triple(targets, word(asked, 1) as usize);
+    let time = word(asked, 2) as usize;
+    let panel_normal = config.panel_normal;
+    let cell = cell_roll(
+        target,
+        triple(suns, time),
+        triple(observers, time),
+        panel_normal,
+    );
+    same_cell(asked, cell)
+}
+
+fn same_cell(asked: &[u64; 256], cell: CellRoll) -> bool {
+    match cell {
+        CellRoll::Free => word(asked, 3) == 0,
+        CellRoll::At(roll) => word(asked, 3) == 1 && word(asked, 4) == bits(roll),
+        CellRoll::Refused(_) => false,
+    }
+}
+
+fn accepted(answer: Answer) -> bool {
+    match answer {
+        Answer::Accepted(_) => true,
+        Answer::Refused(_) => false,
+    }
+}
+
+// The values.
+fn values(
+    asked: &[u64; 256],
+    targets: &[f64],
+    suns: &[f64],
+    observers: &[f64],
+    config: SolarRollConfig,
+) -> bool {
+    let unwritten = of_bits(UNWRITTEN);
+    let mut values = [unwritten; 96];
+    let answer = named_values(targets, suns, observers, config, &mut values);
+    accepted(answer) && same_numbers(&values, asked, 3, 1)
+}
+
+// Target: each sample's mark and severity.
+fn row(
+    asked: &[u64; 256],
+    targets: &[f64],
+    suns: &[f64],
+    observers: &[f64],
+    config: SolarRollConfig,
+) -> bool {
+    let unwritten = of_bits(UNWRITTEN);
+    let mut mask = [7u8; 24];
+    let mut severities = [unwritten; 24];
+    let target = word(asked, 1);
+    let answer = evaluate(
+        targets,
+        suns,
+        observers,
+        config,
+        target,
+        &mut mask,
+        &mut severities,
+    );
+    accepted(answer) && same_marks(&mask, asked, 3, 2) && same_numbers(&severities, asked, 4, 2)
+}
+
+// The used length that a call of the journal left.
+fn used(answer: Answer) -> u64 {
+    match answer {
+        Answer::Accepted(used) => used,
+        Answer::Refused(_) => 0,
+    }
+}
+
+// Begins a journal and works on its one or two chunks. Where there is one, the second work is refused.
+fn journal_of(
+    targets: &[f64],
+    suns: &[f64],
+    observers: &[f64],
+    config: SolarRollConfig,
+    n: u64,
+    file: &mut [u8],
+) -> u64 {
+    let begun = used(journal::begin(targets, suns, observers, config, n, file, 0));
+    let end = used(journal::work(targets, suns, observers, config, n, 0, file, begun));
+    match journal::work(targets, suns, observers, config, n, 1, file, end) {
+        Answer::Accepted(second) => second,
+        Answer::Refused(_) => end,
+    }
+}
+
+// n: probes, mask.
+fn sweep(
+    asked: &[u64; 256],
+    targets: &[f64],
+    suns: &[f64],
+    observers: &[f64],
+    config: SolarRollConfig,
+) -> bool {
+    let n = word(asked, 1);
+    let mut file = [0u8; 256];
+    let mut mask = [7u8; 96];
+    let end = journal_of(targets, suns, observers, config, n, &mut file);
+    match journal::collect(targets, suns, observers, config, n, &file, end, &mut mask) {
+        Answer::Accepted(probes) => probes == word(asked, 3) && same_marks(&mask, asked, 4, 1),
+        Answer::Refused(_) => false,
+    }
+}
+
+// A roll, if any: mask.
+fn batch(
+    asked: &[u64; 256],
+    kind: u64,
+    targets: &[f64],
+    suns: &[f64],
+    observers: &[f64],
+    config: SolarRollConfig,
+) -> bool {
+    let mut mask = [7u8; 96];
+    let roll = number(asked, 1);
+    let answer = match kind {
+        BATCH => in_constraint_batch(targets, suns, observers, config, &mut mask),
+        AT_SWEEP => {
+            let swept = EvaluationRoll::Sweep(roll);
+            in_constraint_batch_at_roll(targets, suns, observers, config, swept, &mut mask)
+        }
+        _ => {
+            let fixed = EvaluationRoll::Fixed(roll);
+            in_constraint_batch_at_roll(targets, suns, observers, config, fixed, &mut mask)
+        }
+    };
+    accepted(answer) && same_mask(asked, &mask)
+}
+
+// n: mask. Time, n or roll: mask of the targets.
+fn section_6(
+    asked: &[u64; 256],
+    kind: u64,
+    targets: &[f64],
+    suns: &[f64],
+    observers: &[f64],
+    config: SolarRollConfig,
+) -> bool {
+    let mut mask = [7u8; 96];
+    let a = word(asked, 1);
+    let b = word(asked, 2);
+    let answer = match kind {
+        EVERY_ROLL => in_constraint_batch_constrained_at_every_roll(
+            targets,
+            suns,
+            observers,
+            config,
+            a,
+            &mut mask,
+        ),
+        FIELD => field_of_regard_violated_batch(targets, suns, observers, config, a, b, &mut mask),
+        _ => field_of_regard_violated_at_roll(
+            targets,
+            suns,
+            observers,
+            config,
+            a,
+            of_bits(b),
+            &mut mask,
+        ),
+    };
+    accepted(answer) && same_mask(asked, &mask)
+}
+
+fn same_mask(asked: &[u64; 256], mask: &[u8; 96]) -> bool {
+    same_marks(mask, asked, 3, 1)
+}
