@@ -2,6 +2,7 @@
 pub mod MaximalRuns
 pub mod NextRun
 pub mod Severities
+pub mod TopBits
 pub mod Refusals
 pub mod WindowLists
 pub mod Spread

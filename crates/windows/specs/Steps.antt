@@ -5,6 +5,7 @@ use mathlib.Core.Bool.{Bool, true, cond}
 use mathlib.Core.List.{List, [], _∷_, map}
 use Prim.Native.Nat.{ℕ, zero, suc, _-_, _≤_, _<_}
 use lib.ListN.{length, drop, set}
+use lib.Dec.{leb}
 use lib.IntN.{ℤ}
 use lib.Ieee.{Float}
 use Rattle.buffers.specs.Refusal.{Reply, refused, accepted}
@@ -14,6 +15,10 @@ use Rattle.windows.specs.Windows.{Columns, largest, windowOf}
 use Rattle.windows.specs.declared.Window.{Window}
 use Rattle.windows.specs.declared.Listing.{Listing}
 use Rattle.windows.specs.declared.Listing.the-variants.{Violations, Visibility}
+
+-- whether the top bit of a 64-bit number is set
+abbrev pub topBit : ℕ → Bool
+topBit n = leb 0x8000_0000_0000_0000 n
 
 -- how many elements at the front of a list have the property p
 unfoldable pub leading : {A : Type 0} → (A → Bool) → List A → ℕ
