@@ -1,17 +1,18 @@
 -- The runs of a mask, one after the other: what the loops over a mask ask. In order: how many elements lead a list; clear samples are passed, and a
--- run ends; what is left of a listing's runs after each. Assumes nothing.
+-- run ends; what is left of a listing's runs after each; how many runs start from a sample on. Assumes nothing.
 use Prim.Native.Nat.{ℕ, zero, suc, _+_, _-_, _≤_, _<_}
 use native.Mathlib.Nat.{add-zero, add-suc, suc-add}
 use native.Mathlib.Numerals.{add-one}
 use native.Mathlib.Omega.{arith}
 use mathlib.Core.Path.{_≡_, refl, sym, _∙_, ap, subst}
-use mathlib.Core.Bool.{Bool, true, false, not, _||_, cond, or-true, true≢false}
+use mathlib.Core.Bool.{Bool, true, false, not, _&&_, _||_, cond, or-true, true≢false}
 use mathlib.Core.List.{List, [], _∷_, map}
 use lib.ListN.{length, getD, drop, length-drop, drop-of-length-le}
 use lib.Seq.{drop-cons, drop-drop, getD-drop}
 use lib.Dec.{ltb, eqb}
 use borrow.Author.Tests.{lt-ltb, le-ltb, eq-eqb, ne-eqb, eqb-true}
-use Rattle.windows.specs.Runs.{Run, run, Open, shut, since, runsFrom, are, filter, violationRuns, visibilityRuns}
+use Rattle.buffers.specs.Ranges.{flag}
+use Rattle.windows.specs.Runs.{Run, run, Open, shut, since, runsFrom, are, filter, violationRuns, visibilityRuns, starts}
 use Rattle.windows.specs.Steps.{leading, byteOf, keeps, runsLeft, Next}
 use Rattle.windows.specs.declared.Listing.{Listing}
 use Rattle.windows.specs.declared.Listing.the-variants.{Violations, Visibility}
@@ -218,3 +219,35 @@ violations-left mask = filter-all (keeps Violations (length mask)) (runsFrom 0 s
 pub visibility-left : (mask : List ℕ) → runsLeft Visibility mask 0 ≡ visibilityRuns mask
 unfolding runsLeft visibilityRuns keeps byteOf
 visibility-left mask = refl
+
+-- ---- starts, sample by sample
+
+module _ (mask : List ℕ) where
+  -- whether sample k is marked
+  abbrev pub at : ℕ → Bool
+  at k = eqb (getD mask k 0) 1
+
+  -- how many runs of marked samples start from sample i on, where i is not the first
+  pub startsLeft : ℕ → ℕ
+  startsLeft i = starts (at (i - 1)) (are 1 (drop i mask))
+
+  here-or-on : (i : ℕ) (b : Bool) → i < length mask → starts b (are 1 (drop i mask)) ≡ flag (at i && not b) + startsLeft (i + 1)
+  unfolding starts are startsLeft
+  here-or-on i b h =
+      let e : i ≡ i + 1 - 1 = omega arith in
+      rw (add-one i, drop-cons mask i 0) (ap (λ (k : ℕ). flag (at i && not b) + starts (at k) (are 1 (drop (suc i) mask))) (e ∙ ap (λ (k : ℕ). k - 1) (add-one i)))
+
+  pub starts-none : length mask ≡ 0 → 0 ≡ starts false (are 1 mask)
+  unfolding starts are
+  starts-none h = let n : length mask ≤ 0 = omega arith in sym (ap (λ (l : List ℕ). starts false (are 1 l)) (drop-of-length-le mask n))
+
+  pub starts-first : 0 < length mask → starts false (are 1 mask) ≡ flag (at 0 && true) + startsLeft 1
+  starts-first h = here-or-on 0 false h
+
+  pub starts-next : (i : ℕ) → i < length mask → startsLeft i ≡ flag (at i && not (at (i - 1))) + startsLeft (i + 1)
+  unfolding startsLeft
+  starts-next i h = here-or-on i (at (i - 1)) h
+
+  pub starts-end : (i : ℕ) → length mask ≤ i → startsLeft i ≡ 0
+  unfolding starts are startsLeft
+  starts-end i h = ap (λ (l : List ℕ). starts (at (i - 1)) (are 1 l)) (drop-of-length-le mask h)

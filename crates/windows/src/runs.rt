@@ -1,10 +1,11 @@
 // The runs of a mask, one after the other.
 ghost use mathlib.Core.Path.{_≡_};
-ghost use mathlib.Core.Bool.{not};
+ghost use mathlib.Core.Bool.{false, not, _&&_};
 ghost use Prim.Native.Nat.{ℕ, _+_, _-_, _<_, _≤_};
 ghost use lib.ListN.{length, drop};
 ghost use lib.Dec.{eqb};
-ghost use Rattle.windows.specs.Runs.{run};
+ghost use Rattle.buffers.specs.Ranges.{flag};
+ghost use Rattle.windows.specs.Runs.{run, are, starts};
 ghost use Rattle.windows.specs.Steps.{leading, byteOf, keeps, runsLeft, Next};
 use crate::Listing;
 
@@ -91,8 +92,8 @@ pub(crate) fn next_run(listing: Listing, mask: &[u8], from: usize) -> Stretch
     }
 }
 
-// How many runs are listed.
-pub(crate) fn count_runs(listing: Listing, mask: &[u8]) -> usize
+// How many runs are listed, one after the other.
+fn count_listed(listing: Listing, mask: &[u8]) -> usize
     ensures { λ r. ⌜ (r ≡ length (runsLeft listing (now (mask .entry)) 0)) × (r ≤ length (now (mask .entry))) ⌝ }
 {
     let mut count = 0usize;
@@ -105,4 +106,49 @@ pub(crate) fn count_runs(listing: Listing, mask: &[u8]) -> usize
         }
     }
     count
+}
+
+// 1 if a run of marked samples starts at this byte.
+fn start_at(before: u8, byte: u8) -> u32
+    ensures { λ r. ⌜ r ≡ flag (eqb byte 1 && not (eqb before 1)) ⌝ }
+{
+    if byte != 1 {
+        return 0;
+    }
+    if before == 1 { 0 } else { 1 }
+}
+
+// How many runs of marked samples start in a row. No turn of the loop waits for the one before it, so that it can run over many
+// samples at a time: over more of them with a counter of 32 bits, which a row's count fits, than with one of 64.
+fn count_starts(mask: &[u8]) -> u32
+    requires { ⌜ length (now mask) ≤ 65_536 ⌝ }
+    ensures { λ r. ⌜ r ≡ starts false (are 1 (now (mask .entry))) ⌝ }
+{
+    if mask.len() == 0 {
+        return 0;
+    }
+    let mut count = 0u32;
+    let mut i = 1usize;
+    while i < mask.len() {
+        let before = mask[i - 1];
+        let byte = mask[i];
+        i += 1;
+        count += start_at(before, byte);
+    }
+    count + start_at(0, mask[0])
+}
+
+// How many runs are listed. Every run of marked samples is, so that it is enough to count their starts.
+pub(crate) fn count_runs(listing: Listing, mask: &[u8]) -> usize
+    ensures { λ r. ⌜ (r ≡ length (runsLeft listing (now (mask .entry)) 0)) × (r ≤ length (now (mask .entry))) ⌝ }
+{
+    match listing {
+        Listing::Violations => {
+            if mask.len() <= 65_536 {
+                return count_starts(mask) as usize;
+            }
+            count_listed(listing, mask)
+        }
+        Listing::Visibility => count_listed(listing, mask),
+    }
 }

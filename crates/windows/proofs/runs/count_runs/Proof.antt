@@ -1,62 +1,63 @@
--- `windows::runs::count_runs` meets its contract. The invariant: the runs counted and the runs left are all runs. Assumes nothing.
-use Prim.Native.Nat.{ℕ, _+_, _-_, _≤_, _<_}
-use mathlib.Core.Path.{_≡_, ap}
+-- `windows::runs::count_runs` meets its contract. Assumes nothing.
+use Prim.Native.Nat.{ℕ, _≤_}
+use mathlib.Core.Path.{_≡_, sym, _∙_, ap}
+use mathlib.Core.Bool.{false}
+use mathlib.Core.List.{List}
 use native.Mathlib.Omega.{arith}
 use lib.ListN.{length}
+use Rattle.windows.specs.Runs.{are, starts}
 use Rattle.windows.specs.Steps.{runsLeft}
-use Rattle.windows.proofs.NextRun.{left-none}
+use Rattle.windows.specs.declared.Listing.{Listing}
+use Rattle.windows.specs.declared.Listing.the-variants.{Violations}
+use Rattle.windows.proofs.MaximalRuns.{violation-count, violation-bound}
+use Rattle.windows.proofs.NextRun.{violations-left}
+use borrow.Author.Needs.{needs}
 use Rattle.windows.proofs.runs.count_runs.Statement.{statement}
 use Rattle.windows.proofs.runs.count_runs.Tie as tie
 
-abbrev Inv-loop : tie.InvT-loop
-Inv-loop listing mask count₀ from₀ count from = (from ≤ length mask) × (count + length (runsLeft listing mask from) ≡ length (runsLeft listing mask 0)) × (count ≤ from)
+-- each violation run has one start
+each-start : (l : Listing) (mask : List ℕ) (n : ℕ) → l ≡ Violations → n ≡ starts false (are 1 mask) → (n ≡ length (runsLeft l mask 0)) × (n ≤ length mask)
+each-start l mask n e q =
+    let r : length (runsLeft l mask 0) ≡ starts false (are 1 mask) = ap (λ (k : Listing). length (runsLeft k mask 0)) e ∙ ap length (violations-left mask) ∙ violation-count mask in
+    (q ∙ sym r, omega (arith, violation-count mask, violation-bound mask))
 
-abbrev μ-loop : tie.MeasureT-loop
-μ-loop listing mask count₀ from₀ count from = length mask - from
+enum-told : tie.Need-enum-told
+enum-told c = search needs
 
-loop-holds : tie.Need-loop-holds Inv-loop μ-loop
-loop-holds c = omega arith
+count-starts-requires : tie.Need-count-starts-requires
+count-starts-requires c κs = search needs
 
-next-run-requires : tie.Need-next-run-requires Inv-loop μ-loop
-next-run-requires c κs = omega arith
+cast-result : tie.Need-cast-result
+cast-result c = search needs
 
-add-count : tie.Need-add-count Inv-loop μ-loop
-add-count c = let n = c .before .before .next-run .ensures in omega (arith, n .onward (c .before .before .before .loop-test .taken))
+returns : tie.Need-returns
+returns c = let s = c .before .before .before .before .before in each-start (s .args .listing) (s .args .mask .now) _ (c .before .before .enum-told .given .1) (c .count-starts .ensures)
 
-loop-less : tie.Need-loop-less Inv-loop μ-loop
-loop-less c = let n = c .before .before .next-run .ensures in omega (arith, n .onward (c .before .before .before .loop-test .taken))
+count-listed-requires : tie.Need-count-listed-requires
+count-listed-requires c κs = search needs
 
-loop-again : tie.Need-loop-again Inv-loop μ-loop
-loop-again c =
-    let n = c .before .before .next-run .ensures in
-    let i = c .before .before .before .before .loop .inv in
-    omega (arith, n .within, n .onward (c .before .before .before .loop-test .taken), ap length (n .some (c .if1 .taken)))
+enum-told-2 : tie.Need-enum-told-2
+enum-told-2 c = search needs
 
-loop-less-2 : tie.Need-loop-less-2 Inv-loop μ-loop
-loop-less-2 c = let n = c .before .before .next-run .ensures in omega (arith, n .onward (c .before .before .before .loop-test .taken))
+count-listed-requires-2 : tie.Need-count-listed-requires-2
+count-listed-requires-2 c κs = search needs
 
-loop-again-2 : tie.Need-loop-again-2 Inv-loop μ-loop
-loop-again-2 c =
-    let n = c .before .before .next-run .ensures in
-    let i = c .before .before .before .before .loop .inv in
-    let s = c .before .before .before .before .before .before in
-    let z = n .none (c .if1 .left) in
-    omega (arith, n .within, n .onward (c .before .before .before .loop-test .taken), ap length (z .0), ap length (left-none (s .args .listing) (s .args .mask .now) (c .before .before .next-run .result .end) (omega (arith, z .1))))
+returns-2 : tie.Need-returns-2
+returns-2 c = search needs
 
-returns : tie.Need-returns Inv-loop μ-loop
-returns c = let l = c .before in let s = l .before .before in omega (arith, ap length (left-none (s .args .listing) (s .args .mask .now) (l .loop .from) (c .loop-test .left)))
+returns-3 : tie.Need-returns-3
+returns-3 c = search needs
 
 pub count-runs-spec : {M : Type 1} → statement M
 count-runs-spec =
     tie.close
     (tie.spec
-    Inv-loop
-    μ-loop
-    loop-holds
-    next-run-requires
-    add-count
-    loop-less
-    loop-again
-    loop-less-2
-    loop-again-2
-    returns)
+    enum-told
+    count-starts-requires
+    cast-result
+    returns
+    count-listed-requires
+    enum-told-2
+    count-listed-requires-2
+    returns-2
+    returns-3)
