@@ -146,12 +146,14 @@ module _ (v : ℕ) (mask : List ℕ) where
     pub in-row : j ≤ length mask
     pub left : rest i ≡ run i (j - 1) ∷ rest j
 
-  pub stopped : (i j : ℕ) → i < length mask → getD mask i 0 ≡ v → j ≡ i + leading marked (drop i mask) → Stopped i j
+  pub stopped : (i j : ℕ) → i < length mask → getD mask i 0 ≡ v → j ≡ i + 1 + leading marked (drop (i + 1) mask) → Stopped i j
   unfolding are
-  stopped i j h g e =
+  stopped i j h g p =
       let n = leading marked (drop i mask) in
       let b : n ≤ length mask - i = subst (λ (k : ℕ). n ≤ k) (length-drop i mask) (leading-length marked (drop i mask)) in
-      let some : 0 < n = rw (here marked mask 0 i h, eq-eqb (getD mask i 0) v g) (omega arith) in
+      let q : n ≡ suc (leading marked (drop (i + 1) mask)) = here marked mask 0 i h ∙ ap (λ (t : Bool). cond t (suc (leading marked (drop (i + 1) mask))) 0) (eq-eqb (getD mask i 0) v g) in
+      let e : j ≡ i + n = omega arith in
+      let some : 0 < n = omega arith in
       let same : leading itself (are v (drop i mask)) ≡ n = leading-map marked itself (drop i mask) in
       record {
         later = omega arith;

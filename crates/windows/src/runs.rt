@@ -80,7 +80,7 @@ pub(crate) fn next_run(listing: Listing, mask: &[u8], from: usize) -> Stretch
     let v = byte_of(listing);
     let mut first = start_of_run(mask, v, from);
     while first < samples {
-        let end = end_of_run(mask, v, first);
+        let end = end_of_run(mask, v, first + 1);
         if is_listed(listing, first, end, samples) {
             return Stretch { first, end };
         }

@@ -18,7 +18,7 @@ use Rattle.windows.proofs.runs.next_run.Tie as tie
 starts : (l : Listing) (mask : List ℕ) (v i j : ℕ) → v ≡ byteOf l → i ≤ length mask → j ≡ i + leading (λ (b : ℕ). not (eqb b v)) (drop i mask) → Started (byteOf l) mask i j
 starts l mask v i j q h e = subst (λ (w : ℕ). Started w mask i j) q (started v mask i j h e)
 
-stops : (l : Listing) (mask : List ℕ) (v i j : ℕ) → v ≡ byteOf l → i < length mask → getD mask i 0 ≡ byteOf l → j ≡ i + leading (λ (b : ℕ). eqb b v) (drop i mask) → Stopped (byteOf l) mask i j
+stops : (l : Listing) (mask : List ℕ) (v i j : ℕ) → v ≡ byteOf l → i < length mask → getD mask i 0 ≡ byteOf l → j ≡ i + 1 + leading (λ (b : ℕ). eqb b v) (drop (i + 1) mask) → Stopped (byteOf l) mask i j
 stops l mask v i j q h g e = subst (λ (w : ℕ). Stopped w mask i j) q (stopped v mask i j h (g ∙ sym q) e)
 
 -- a run starts at `first`, with the runs left there that are left at `from`
@@ -55,6 +55,9 @@ loop-holds c =
     let s = c .before .before .before in
     let b = starts (s .args .listing) (s .args .mask .now) _ _ _ (c .before .byte-of .ensures) (s .pre) (c .start-of-run .ensures) in
     (b .later, b .in-row, b .stands, sym (left-started _ _ _ _ b))
+
+add-end-of-run : tie.Need-add-end-of-run Inv-loop μ-loop
+add-end-of-run c = omega arith
 
 end-of-run-requires : tie.Need-end-of-run-requires Inv-loop μ-loop
 end-of-run-requires c κs = omega arith
@@ -97,6 +100,7 @@ next-run-spec =
     byte-of-requires
     start-of-run-requires
     loop-holds
+    add-end-of-run
     end-of-run-requires
     is-listed-requires
     returns
