@@ -36,20 +36,20 @@ use std::num::wrapping_add_u64;
 use words::UNWRITTEN;
 use words::digit;
 use words::put;
-use words::word;
 
 // Whether a line's answer is the library's too.
-fn agrees(given: &[u64; 256], asked: &[u64; 256], kind: u64) -> bool {
+fn agrees(given: &[u64; 256], asked: &[u64; 256]) -> bool {
+    let kind = asked[0];
     if kind == DIFFERENCE {
         return difference(asked);
     }
     if kind <= FIELD_AT_ROLL {
-        return plan(given, asked, kind);
+        return plan(given, asked);
     }
     if kind <= VISIBILITY {
-        return samples(given, asked, kind);
+        return samples(given, asked);
     }
-    windows(given, asked, kind)
+    windows(given, asked)
 }
 
 // Where a kind's answers are counted; those that differ are 18 places later. At 0, which gives and does not ask, stands what is of
@@ -61,10 +61,9 @@ fn place(kind: u64) -> usize
 }
 
 fn count(given: &[u64; 256], asked: &[u64; 256], counts: &mut [u64; 36]) {
-    let kind = word(asked, 0);
-    let k = place(kind);
+    let k = place(asked[0]);
     counts[k] = wrapping_add_u64(counts[k], 1);
-    if !agrees(given, asked, kind) {
+    if !agrees(given, asked) {
         let d = k + 18;
         counts[d] = wrapping_add_u64(counts[d], 1);
     }
@@ -90,7 +89,7 @@ fn replay(text: &[u8], counts: &mut [u64; 36]) {
         if byte == b' ' {
             continue;
         }
-        if word(&asked, 0) == GIVEN {
+        if asked[0] == GIVEN {
             given = asked;
         } else {
             count(&given, &asked, counts);

@@ -9,11 +9,10 @@ use crate::kinds::NAMED_VALUES;
 use crate::kinds::ROW;
 use crate::kinds::SWEEP;
 use crate::words::UNWRITTEN;
-use crate::words::number;
+use crate::words::accepted;
 use crate::words::numbers;
 use crate::words::same_marks;
 use crate::words::same_numbers;
-use crate::words::word;
 use buffers::Answer;
 use float::bits;
 use float::of_bits;
@@ -34,33 +33,32 @@ use solar_roll::triple;
 
 // a, b: their difference.
 pub(crate) fn difference(asked: &[u64; 256]) -> bool {
-    bits(circular_diff_deg(number(asked, 1), number(asked, 2))) == word(asked, 3)
+    bits(circular_diff_deg(of_bits(asked[1]), of_bits(asked[2]))) == asked[3]
 }
 
 fn settings(given: &[u64; 256]) -> SolarRollConfig {
-    let panel_normal = [number(given, 8), number(given, 9), number(given, 10)];
-    let roll_deg = if word(given, 6) == 0 {
+    let panel_normal = [of_bits(given[8]), of_bits(given[9]), of_bits(given[10])];
+    let roll_deg = if given[6] == 0 {
         ConfiguredRoll::None
     } else {
-        ConfiguredRoll::Some(number(given, 7))
+        ConfiguredRoll::Some(of_bits(given[7]))
     };
     SolarRollConfig {
-        tolerance_deg: number(given, 5),
+        tolerance_deg: of_bits(given[5]),
         roll_deg,
         panel_normal,
     }
 }
 
-pub(crate) fn plan(given: &[u64; 256], asked: &[u64; 256], kind: u64) -> bool {
+pub(crate) fn plan(given: &[u64; 256], asked: &[u64; 256]) -> bool {
     let mut targets = [0.0f64; 24];
     let mut suns = [0.0f64; 72];
     let mut observers = [0.0f64; 72];
-    let t = numbers(given, 11, word(given, 1), &mut targets);
-    let s = numbers(given, word(given, 3), word(given, 2), &mut suns);
-    let o = numbers(given, word(given, 4), word(given, 2), &mut observers);
+    let t = numbers(given, 11, given[1], &mut targets);
+    let s = numbers(given, given[3], given[2], &mut suns);
+    let o = numbers(given, given[4], given[2], &mut observers);
     asked_of_plan(
         asked,
-        kind,
         &targets[..t],
         &suns[..s],
         &observers[..o],
@@ -70,19 +68,19 @@ pub(crate) fn plan(given: &[u64; 256], asked: &[u64; 256], kind: u64) -> bool {
 
 fn asked_of_plan(
     asked: &[u64; 256],
-    kind: u64,
     targets: &[f64],
     suns: &[f64],
     observers: &[f64],
     config: SolarRollConfig,
 ) -> bool {
+    let kind = asked[0];
     match kind {
         CELL => cell(asked, targets, suns, observers, config),
         NAMED_VALUES => values(asked, targets, suns, observers, config),
-        BATCH | AT_SWEEP | AT_FIXED => batch(asked, kind, targets, suns, observers, config),
+        BATCH | AT_SWEEP | AT_FIXED => batch(asked, targets, suns, observers, config),
         ROW => row(asked, targets, suns, observers, config),
         SWEEP => sweep(asked, targets, suns, observers, config),
-        _ => section_6(asked, kind, targets, suns, observers, config),
+        _ => section_6(asked, targets, suns, observers, config),
     }
 }
 
@@ -94,8 +92,8 @@ fn cell(
     observers: &[f64],
     config: SolarRollConfig,
 ) -> bool {
-    let target = triple(targets, word(asked, 1) as usize);
-    let time = word(asked, 2) as usize;
+    let target = triple(targets, asked[1] as usize);
+    let time = asked[2] as usize;
     let panel_normal = config.panel_normal;
     let cell = cell_roll(
         target,
@@ -108,16 +106,9 @@ fn cell(
 
 fn same_cell(asked: &[u64; 256], cell: CellRoll) -> bool {
     match cell {
-        CellRoll::Free => word(asked, 3) == 0,
-        CellRoll::At(roll) => word(asked, 3) == 1 && word(asked, 4) == bits(roll),
+        CellRoll::Free => asked[3] == 0,
+        CellRoll::At(roll) => asked[3] == 1 && asked[4] == bits(roll),
         CellRoll::Refused(_) => false,
-    }
-}
-
-fn accepted(answer: Answer) -> bool {
-    match answer {
-        Answer::Accepted(_) => true,
-        Answer::Refused(_) => false,
     }
 }
 
@@ -132,7 +123,7 @@ fn values(
     let unwritten = of_bits(UNWRITTEN);
     let mut values = [unwritten; 96];
     let answer = named_values(targets, suns, observers, config, &mut values);
-    accepted(answer) && same_numbers(&values, asked, 3, 1)
+    accepted(answer, 0) && same_numbers(&values, asked, 3, 1)
 }
 
 // Target: each sample's mark and severity.
@@ -146,7 +137,7 @@ fn row(
     let unwritten = of_bits(UNWRITTEN);
     let mut mask = [7u8; 24];
     let mut severities = [unwritten; 24];
-    let target = word(asked, 1);
+    let target = asked[1];
     let answer = evaluate(
         targets,
         suns,
@@ -156,7 +147,7 @@ fn row(
         &mut mask,
         &mut severities,
     );
-    accepted(answer) && same_marks(&mask, asked, 3, 2) && same_numbers(&severities, asked, 4, 2)
+    accepted(answer, 0) && same_marks(&mask, asked, 3, 2) && same_numbers(&severities, asked, 4, 2)
 }
 
 // The used length that a call of the journal left.
@@ -192,12 +183,12 @@ fn sweep(
     observers: &[f64],
     config: SolarRollConfig,
 ) -> bool {
-    let n = word(asked, 1);
+    let n = asked[1];
     let mut file = [0u8; 256];
     let mut mask = [7u8; 96];
     let end = journal_of(targets, suns, observers, config, n, &mut file);
     match journal::collect(targets, suns, observers, config, n, &file, end, &mut mask) {
-        Answer::Accepted(probes) => probes == word(asked, 3) && same_marks(&mask, asked, 4, 1),
+        Answer::Accepted(probes) => probes == asked[3] && same_marks(&mask, asked, 4, 1),
         Answer::Refused(_) => false,
     }
 }
@@ -205,14 +196,14 @@ fn sweep(
 // A roll, if any: mask.
 fn batch(
     asked: &[u64; 256],
-    kind: u64,
     targets: &[f64],
     suns: &[f64],
     observers: &[f64],
     config: SolarRollConfig,
 ) -> bool {
     let mut mask = [7u8; 96];
-    let roll = number(asked, 1);
+    let kind = asked[0];
+    let roll = of_bits(asked[1]);
     let answer = match kind {
         BATCH => in_constraint_batch(targets, suns, observers, config, &mut mask),
         AT_SWEEP => {
@@ -224,21 +215,21 @@ fn batch(
             in_constraint_batch_at_roll(targets, suns, observers, config, fixed, &mut mask)
         }
     };
-    accepted(answer) && same_mask(asked, &mask)
+    accepted(answer, 0) && same_mask(asked, &mask)
 }
 
 // n: mask. Time, n or roll: mask of the targets.
 fn section_6(
     asked: &[u64; 256],
-    kind: u64,
     targets: &[f64],
     suns: &[f64],
     observers: &[f64],
     config: SolarRollConfig,
 ) -> bool {
     let mut mask = [7u8; 96];
-    let a = word(asked, 1);
-    let b = word(asked, 2);
+    let kind = asked[0];
+    let a = asked[1];
+    let b = asked[2];
     let answer = match kind {
         EVERY_ROLL => in_constraint_batch_constrained_at_every_roll(
             targets,
@@ -259,7 +250,7 @@ fn section_6(
             &mut mask,
         ),
     };
-    accepted(answer) && same_mask(asked, &mask)
+    accepted(answer, 0) && same_mask(asked, &mask)
 }
 
 fn same_mask(asked: &[u64; 256], mask: &[u8; 96]) -> bool {

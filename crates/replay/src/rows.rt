@@ -5,6 +5,7 @@ use crate::kinds::RESULT;
 use crate::kinds::SECONDS;
 use crate::kinds::VIOLATIONS;
 use crate::words::UNWRITTEN;
+use crate::words::accepted;
 use crate::words::marks;
 use crate::words::numbers;
 use crate::words::same_marks;
@@ -12,8 +13,6 @@ use crate::words::same_numbers;
 use crate::words::same_times;
 use crate::words::same_words;
 use crate::words::times;
-use crate::words::word;
-use buffers::Answer;
 use float::bits;
 use float::of_bits;
 use windows::Duration;
@@ -23,36 +22,31 @@ use windows::violation_windows;
 use windows::visibility_windows;
 
 // About the samples.
-pub(crate) fn samples(given: &[u64; 256], asked: &[u64; 256], kind: u64) -> bool {
-    let count = word(given, 1);
+pub(crate) fn samples(given: &[u64; 256], asked: &[u64; 256]) -> bool {
+    let count = given[1];
     let mut mask = [0u8; 48];
     let mut instants = [0i64; 48];
     let mut severities = [0.0f64; 48];
     let m = marks(given, 7, count, &mut mask);
-    let t = times(given, word(given, 3), count, &mut instants);
-    let s = numbers(given, word(given, 4), count, &mut severities);
-    listing(asked, kind, &mask[..m], &instants[..t], &severities[..s])
+    let t = times(given, given[3], count, &mut instants);
+    let s = numbers(given, given[4], count, &mut severities);
+    listing(asked, &mask[..m], &instants[..t], &severities[..s])
 }
 
 // About the windows, over the samples' times.
-pub(crate) fn windows(given: &[u64; 256], asked: &[u64; 256], kind: u64) -> bool {
-    let count = word(given, 2);
+pub(crate) fn windows(given: &[u64; 256], asked: &[u64; 256]) -> bool {
+    let count = given[2];
     let mut instants = [0i64; 48];
     let mut first = [0i64; 16];
     let mut last = [0i64; 16];
-    let t = times(given, word(given, 3), word(given, 1), &mut instants);
-    let f = times(given, word(given, 5), count, &mut first);
-    let l = times(given, word(given, 6), count, &mut last);
-    asked_of_windows(asked, kind, &first[..f], &last[..l], &instants[..t])
+    let t = times(given, given[3], given[1], &mut instants);
+    let f = times(given, given[5], count, &mut first);
+    let l = times(given, given[6], count, &mut last);
+    asked_of_windows(asked, &first[..f], &last[..l], &instants[..t])
 }
 
-fn asked_of_windows(
-    asked: &[u64; 256],
-    kind: u64,
-    first: &[i64],
-    last: &[i64],
-    instants: &[i64],
-) -> bool {
+fn asked_of_windows(asked: &[u64; 256], first: &[i64], last: &[i64], instants: &[i64]) -> bool {
+    let kind = asked[0];
     match kind {
         EXPAND | EXPAND_REORDERED => expansion(asked, first, last, instants),
         RESULT => result(asked, first, last, instants),
@@ -61,22 +55,8 @@ fn asked_of_windows(
     }
 }
 
-// Whether so many windows were listed.
-fn listed(answer: Answer, count: u64) -> bool {
-    match answer {
-        Answer::Accepted(windows) => windows == count,
-        Answer::Refused(_) => false,
-    }
-}
-
 // How many windows, each one's six words; of a result, its first and last time.
-fn listing(
-    asked: &[u64; 256],
-    kind: u64,
-    mask: &[u8],
-    instants: &[i64],
-    severities: &[f64],
-) -> bool {
+fn listing(asked: &[u64; 256], mask: &[u8], instants: &[i64], severities: &[f64]) -> bool {
     let unwritten = of_bits(UNWRITTEN);
     let mut first = [UNWRITTEN; 24];
     let mut last = [UNWRITTEN; 24];
@@ -84,6 +64,7 @@ fn listing(
     let mut last_time = [7i64; 24];
     let mut severity = [unwritten; 24];
     let mut is_last = [7u8; 24];
+    let kind = asked[0];
     let answer = if kind == VIOLATIONS {
         violation_windows(
             mask,
@@ -108,7 +89,7 @@ fn listing(
             &mut is_last,
         )
     };
-    if !listed(answer, word(asked, 3)) {
+    if !accepted(answer, asked[3]) {
         return false;
     }
     if kind == RESULT {
@@ -149,7 +130,7 @@ fn same_columns(
 // The mask.
 fn expansion(asked: &[u64; 256], first: &[i64], last: &[i64], instants: &[i64]) -> bool {
     let mut mask = [7u8; 48];
-    listed(expand(first, last, instants, &mut mask), 0) && same_marks(&mask, asked, 3, 1)
+    accepted(expand(first, last, instants, &mut mask), 0) && same_marks(&mask, asked, 3, 1)
 }
 
 fn first_marks(mask: &[u8], count: usize) -> &[u8] {
@@ -161,20 +142,14 @@ fn first_marks(mask: &[u8], count: usize) -> &[u8] {
 
 fn result(asked: &[u64; 256], first: &[i64], last: &[i64], instants: &[i64]) -> bool {
     let mut mask = [7u8; 48];
-    listed(expand(first, last, instants, &mut mask), 0)
-        && listing(
-            asked,
-            RESULT,
-            first_marks(&mask, instants.len()),
-            instants,
-            &[],
-        )
+    accepted(expand(first, last, instants, &mut mask), 0)
+        && listing(asked, first_marks(&mask, instants.len()), instants, &[])
 }
 
 // The seconds.
 fn seconds(asked: &[u64; 256], first: &[i64], last: &[i64]) -> bool {
     match total_violation_duration(first, last) {
-        Duration::Seconds(total) => bits(total) == word(asked, 3),
+        Duration::Seconds(total) => bits(total) == asked[3],
         Duration::Refused(_) => false,
     }
 }

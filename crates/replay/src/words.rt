@@ -2,9 +2,18 @@
 ghost use Prim.Native.Nat.{_≤_};
 ghost use mathlib.Core.Path.{_≡_};
 ghost use lib.ListN.{length, take};
+use buffers::Answer;
 use float::bits;
 use float::of_bits;
 use std::num::wrapping_add_u64;
+
+// Whether a call is accepted with this number.
+pub(crate) fn accepted(answer: Answer, number: u64) -> bool {
+    match answer {
+        Answer::Accepted(n) => n == number,
+        Answer::Refused(_) => false,
+    }
+}
 
 // What stands past a line's last word, and in every type what a lent place holds before a call.
 pub(crate) const UNWRITTEN: u64 = 7;
@@ -19,7 +28,7 @@ pub(crate) fn digit(c: u8) -> u64 {
 }
 
 // Word i.
-pub(crate) fn word(words: &[u64; 256], i: u64) -> u64 {
+fn word(words: &[u64; 256], i: u64) -> u64 {
     if i < 256 {
         words[i as usize]
     } else {
@@ -32,11 +41,6 @@ pub(crate) fn put(value: u64, i: u64, words: &mut [u64; 256]) {
     if i < 256 {
         words[i as usize] = value;
     }
-}
-
-// The f64 whose bits are word i.
-pub(crate) fn number(words: &[u64; 256], i: u64) -> f64 {
-    of_bits(word(words, i))
 }
 
 // The i64 whose 64 bits these are.

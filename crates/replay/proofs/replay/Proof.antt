@@ -41,8 +41,8 @@ loop-less-2 c = search needs
 loop-again-2 : tie.Need-loop-again-2 Inv-loop μ-loop
 loop-again-2 c = search needs
 
-word-requires : tie.Need-word-requires Inv-loop μ-loop
-word-requires c κs = search needs
+array-read-if3 : tie.Need-array-read-if3 Inv-loop μ-loop
+array-read-if3 c = search needs
 
 count-requires : tie.Need-count-requires Inv-loop μ-loop
 count-requires c κs = search needs
@@ -78,7 +78,7 @@ replay-spec =
     wrapping-add-u64-requires
     loop-less-2
     loop-again-2
-    word-requires
+    array-read-if3
     count-requires
     loop-less-3
     loop-again-3
