@@ -44,19 +44,25 @@ module _ (l : Listing) (mask : List ℕ) (times : List ℤ) (severities : List F
             let w : ⊥ = omega arith in absurd w
       ]
 
-  -- and its window is the next
-  pub next-is : (from first end : ℕ) (s : Float) (w : Window) → Next l mask from first end → first < end → s ≡ severityOf l severities (run first (end - 1)) → w ≡ windowOf times (λ (_ : Run). s) (run first (end - 1))
-      → (windowsLeft l mask times severities from ≡ w ∷ windowsLeft l mask times severities (w .last + 1)) × (w .last < length mask) × (w .«is_last» ≤ 1)
+  -- and its window w is the next
+  pub record NextWindow (from end : ℕ) (w : Window) : Type 0 where
+    pub left : windowsLeft l mask times severities from ≡ w ∷ windowsLeft l mask times severities (w .last + 1)
+    pub in-row : w .last < length mask
+    pub flagged : w .«is_last» ≤ 1
+    pub onward : w .last + 1 ≡ end
+
+  pub next-is : (from first end : ℕ) (w : Window) → Next l mask from first end → first < end → w ≡ windowOf times (severityOf l severities) (run first (end - 1)) → NextWindow from end w
   unfolding windowsLeft windowOf
-  next-is from first end s w n h e q =
+  next-is from first end w n h p =
       let W : Run → Window = windowOf times (severityOf l severities) in
-      let p : w ≡ W (run first (end - 1)) = q ∙ ap (λ (x : Float). windowOf times (λ (_ : Run). x) (run first (end - 1))) e in
       let g : w .last ≡ end - 1 = ap (λ (v : Window). v .last) p in
-      let b : w .last + 1 ≡ end = omega arith in (
-        ap (map W) (n .some h) ∙ ap (λ (v : Window). v ∷ map W (runsLeft l mask end)) (sym p) ∙ ap (λ (k : ℕ). w ∷ map W (runsLeft l mask k)) (sym b),
-        omega (arith, n .within),
-        subst (λ (k : ℕ). k ≤ 1) (sym (ap (λ (v : Window). v .«is_last») p)) (flag-le (eqb (end - 1 + 1) (length times))),
-      )
+      let b : w .last + 1 ≡ end = omega arith in
+      record {
+        left = ap (map W) (n .some h) ∙ ap (λ (v : Window). v ∷ map W (runsLeft l mask end)) (sym p) ∙ ap (λ (k : ℕ). w ∷ map W (runsLeft l mask k)) (sym b);
+        in-row = omega (arith, n .within);
+        flagged = subst (λ (k : ℕ). k ≤ 1) (sym (ap (λ (v : Window). v .«is_last») p)) (flag-le (eqb (end - 1 + 1) (length times)));
+        onward = b;
+      }
 
 -- ---- k windows are written, and the rest is left from sample `from` on
 
@@ -163,12 +169,12 @@ module _ (l : Listing) (mask : List ℕ) (times : List ℤ) (severities : List F
     pub storing-lengths : k ≤ n → SameLengths d c
     storing-lengths j = same-lengths (take k (left l mask times severities 0)) d c (s .are) n (omega (arith, done j)) room
 
-    pub storing-next : k < n → (w : Window) (c' : Columns) → left l mask times severities from ≡ w ∷ left l mask times severities (w .last + 1) → w .last < length mask → c' ≡ stored k w c → Storing l mask times severities (k + 1) (w .last + 1) d c'
-    storing-next j w c' e b q = record {
-      reached = reached-next l mask times severities k from w (s .reached) e b;
+    pub storing-next : k < n → (end : ℕ) (w : Window) (c' : Columns) → NextWindow l mask times severities from end w → c' ≡ stored k w c → Storing l mask times severities (k + 1) end d c'
+    storing-next j end w c' x q = record {
+      reached = subst (Reached l mask times severities (k + 1)) (x .onward) (reached-next l mask times severities k from w (s .reached) (x .left) (x .in-row));
       are =
           store-next (take k (left l mask times severities 0)) d c (s .are) k n w c' q (done (omega arith)) j room
-          ∙ ap (λ (t : List Window). written t d) (sym (taken-next l mask times severities k from w (s .reached) e));
+          ∙ ap (λ (t : List Window). written t d) (sym (taken-next l mask times severities k from w (s .reached) (x .left)));
     }
 
 -- ---- after an answer: what may be stored, and what is then written

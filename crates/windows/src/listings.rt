@@ -76,6 +76,21 @@ fn window_at(times: &[i64], first: usize, last: usize, severity: f64) -> Window
     }
 }
 
+// The window of the run from first to last in a listing, by value.
+fn run_window(
+    listing: Listing,
+    times: &[i64],
+    severities: &[f64],
+    first: usize,
+    last: usize,
+) -> Window
+    requires { ⌜ (first ≤ last) × (last < length (now times)) × (listing ≡ Listing.Violations → last < length (now severities)) ⌝ }
+    ensures { λ r. ⌜ r ≡ windowOf (now (times .entry)) (severityOf listing (now (severities .entry))) (run first last) ⌝ }
+{
+    let severity = severity_of(listing, severities, first, last);
+    window_at(times, first, last, severity)
+}
+
 // The next window from sample `from` on. The caller knows that there is one.
 pub(crate) fn next_window(
     listing: Listing,
@@ -92,8 +107,7 @@ pub(crate) fn next_window(
     let run = next_run(listing, mask, from);
     let first = run.first;
     let last = run.end - 1;
-    let severity = severity_of(listing, severities, first, last);
-    window_at(times, first, last, severity)
+    run_window(listing, times, severities, first, last)
 }
 
 // The next violation window, and the next visibility window.
@@ -146,7 +160,8 @@ fn store(
     is_last[k] = w.is_last as u8;
 }
 
-// Stores the first `count` windows of a listing.
+// Stores the first `count` windows of a listing. They are made here run by run: a window that `next_window` hands over goes
+// through memory, and the next run would wait for it.
 fn store_windows(
     listing: Listing,
     mask: &[u8],
@@ -169,8 +184,10 @@ fn store_windows(
     let mut k = 0usize;
     let mut from = 0usize;
     while k < count {
-        let w = next_window(listing, mask, times, severities, from);
-        from = w.last as usize + 1;
+        let run = next_run(listing, mask, from);
+        let start = run.first;
+        from = run.end;
+        let w = run_window(listing, times, severities, start, from - 1);
         store(k, w, first, last, first_time, last_time, severity, is_last);
         k += 1;
     }

@@ -1,9 +1,7 @@
 -- `windows::listings::next_window` meets its contract. Assumes nothing.
 use Prim.Native.Nat.{_<_}
-use mathlib.Core.Path.{_≡_}
 use native.Mathlib.Omega.{arith}
 use Rattle.windows.proofs.WindowLists.{next-found, next-is}
-use borrow.Author.Needs.{needs}
 use Rattle.windows.proofs.listings.next_window.Statement.{statement}
 use Rattle.windows.proofs.listings.next_window.Tie as tie
 
@@ -19,23 +17,19 @@ next-run-requires c κs = c .before .before .pre .0
 sub-last : tie.Need-sub-last
 sub-last c = omega (arith, found (c .before))
 
-severity-of-requires : tie.Need-severity-of-requires
-severity-of-requires c κs =
-    let s = c .before .before .before .before in
-    (omega (arith, found (c .before)), λ e. omega (arith, found (c .before), c .before .next-run .ensures .within, s .pre .1 .rated e))
-
-window-at-requires : tie.Need-window-at-requires
-window-at-requires c κs =
-    let n = c .before .before in
+run-window-requires : tie.Need-run-window-requires
+run-window-requires c κs =
+    let n = c .before in
     let s = n .before .before .before in
-    omega (arith, found n, n .next-run .ensures .within, s .pre .1 .timed)
+    (omega (arith, found n), omega (arith, found n, n .next-run .ensures .within, s .pre .1 .timed), λ e. omega (arith, found n, n .next-run .ensures .within, s .pre .1 .rated e))
 
 returns : tie.Need-returns
 returns c =
-    let n = c .before .before .before in
+    let n = c .before .before in
     let s = n .before .before .before in
-    next-is (s .args .listing) (s .args .mask .now) (s .args .times .now) (s .args .severities .now) _ _ _ _ _ (n .next-run .ensures) (found n) (c .before .severity-of .ensures) (c .window-at .ensures)
+    let w = next-is (s .args .listing) (s .args .mask .now) (s .args .times .now) (s .args .severities .now) _ _ _ _ (n .next-run .ensures) (found n) (c .run-window .ensures) in
+    (w .left, w .in-row, w .flagged)
 
 pub next-window-spec : {M : Type 1} → statement M
 next-window-spec =
-    tie.close (tie.spec next-run-requires sub-last severity-of-requires window-at-requires returns)
+    tie.close (tie.spec next-run-requires sub-last run-window-requires returns)

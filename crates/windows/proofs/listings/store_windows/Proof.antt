@@ -1,13 +1,11 @@
 -- `windows::listings::store_windows` meets its contract. The invariant: k windows are stored, and the rest is left from sample `from` on. Assumes nothing.
-use Prim.Native.Nat.{_-_, _≤_}
-use mathlib.Core.Path.{_≡_, _∙_, ap, sym}
+use Prim.Native.Nat.{ℕ, _-_, _≤_, _<_}
+use mathlib.Core.Path.{_≡_, _∙_, ap}
 use native.Mathlib.Omega.{arith}
-use Prim.Native.Nat.{ℕ}
-use mathlib.Core.List.{List}
-use lib.ListN.{length, take}
-use Rattle.windows.specs.Windows.{Columns, columns, written}
+use lib.ListN.{take}
+use Rattle.windows.specs.Windows.{columns, written}
 use Rattle.windows.specs.Steps.{windowsLeft}
-use Rattle.windows.proofs.WindowLists.{SameLengths, Storing, storing-none, storing-room, storing-lengths, storing-next, some-left}
+use Rattle.windows.proofs.WindowLists.{SameLengths, Storing, NextWindow, next-found, next-is, storing-none, storing-room, storing-lengths, storing-next, some-left}
 use Rattle.windows.proofs.listings.store_windows.Statement.{statement}
 use Rattle.windows.proofs.listings.store_windows.Tie as tie
 
@@ -21,24 +19,45 @@ abbrev μ-loop : tie.MeasureT-loop
 loop-holds : tie.Need-loop-holds Inv-loop μ-loop
 loop-holds c = (omega arith, storing-none _ _ _ _ _)
 
-next-window-requires : tie.Need-next-window-requires Inv-loop μ-loop
-next-window-requires c κs =
-    let i = c .before .loop .inv in
-    let s = c .before .before .before .before .before .before .before .before in
-    (i .1 .reached .in-row, s .pre .1 (omega arith), some-left _ _ _ _ _ _ (i .1 .reached) (omega (arith, s .pre .0, c .loop-test .taken)))
+-- a run is found, and its window is the next
+found : (c : tie.After-next-run Inv-loop μ-loop) → c .next-run .result .first < c .next-run .result .end
+found c =
+    let i = c .before .before .loop .inv in
+    let s = c .before .before .before .before .before .before .before .before .before in
+    next-found (s .args .listing) (s .args .mask .now) (s .args .times .now) (s .args .severities .now) _ _ _ (c .next-run .ensures) (some-left _ _ _ _ _ _ (i .1 .reached) (omega (arith, s .pre .0, c .before .loop-test .taken)))
 
-add-from : tie.Need-add-from Inv-loop μ-loop
-add-from c = omega (arith, c .next-window .ensures .1)
+next : (c : tie.After-run-window Inv-loop μ-loop) →
+    let n = c .before in
+    let s = n .before .before .before .before .before .before .before .before .before in
+    NextWindow (s .args .listing) (s .args .mask .now) (s .args .times .now) (s .args .severities .now) (n .before .before .loop .from) (n .next-run .result .end) (c .run-window .result)
+next c =
+    let n = c .before in
+    let s = n .before .before .before .before .before .before .before .before .before in
+    next-is (s .args .listing) (s .args .mask .now) (s .args .times .now) (s .args .severities .now) _ _ _ _ (n .next-run .ensures) (found n) (c .run-window .ensures)
+
+next-run-requires : tie.Need-next-run-requires Inv-loop μ-loop
+next-run-requires c κs = c .before .loop .inv .1 .reached .in-row
+
+sub-run-window : tie.Need-sub-run-window Inv-loop μ-loop
+sub-run-window c = omega (arith, found c)
+
+run-window-requires : tie.Need-run-window-requires Inv-loop μ-loop
+run-window-requires c κs =
+    let s = c .before .before .before .before .before .before .before .before .before in
+    let r = s .pre .1 (omega (arith, c .before .loop-test .taken)) in
+    (omega (arith, found c), omega (arith, found c, c .next-run .ensures .within, r .timed), λ e. omega (arith, found c, c .next-run .ensures .within, r .rated e))
 
 store-requires : tie.Need-store-requires Inv-loop μ-loop
 store-requires c κs =
-    let n = c .before .before .before .before .before .before in
-    let l = n .before .before in
-    let s = n .before .before .before .before .before .before .before .before .before in
-    (storing-room _ _ _ _ (s .args .count) _ _ _ _ (s .pre .0) (s .pre .2) (l .loop .inv .1) (n .before .loop-test .taken), n .next-window .ensures .2)
+    let w = c .before .before .before .before .before .before in
+    let l = w .before .before .before in
+    let s = l .before .before .before .before .before .before .before in
+    (storing-room _ _ _ _ (s .args .count) _ _ _ _ (s .pre .0) (s .pre .2) (l .loop .inv .1) (w .before .before .loop-test .taken), next w .flagged)
 
 add-k : tie.Need-add-k Inv-loop μ-loop
-add-k c = omega (arith, c .before .before .before .before .before .before .before .before .before .before .before .before .before .before .before .before .before .before .before .before .before .before .before .before .before .before .fits .count, c .before .before .before .before .before .before .before .before .before .before .before .before .before .before .before .before .before .before .loop-test .taken)
+add-k c =
+    let w = c .before .before .before .before .before .before .before .before .before .before .before .before .before .before .before .before .before in
+    omega (arith, w .before .before .before .before .before .before .before .before .before .before .fits .count, w .before .before .loop-test .taken)
 
 loop-less : tie.Need-loop-less Inv-loop μ-loop
 loop-less c = omega arith
@@ -46,10 +65,10 @@ loop-less c = omega arith
 loop-again : tie.Need-loop-again Inv-loop μ-loop
 loop-again c =
     let p = c .before .before .before .before .before .before .before .before .before .before in
-    let n = p .before .before .before .before .before .before .before in
-    let l = n .before .before in
-    let s = n .before .before .before .before .before .before .before .before .before in
-    (omega (arith, n .before .loop-test .taken), storing-next _ _ _ _ (s .args .count) _ _ _ _ (s .pre .0) (s .pre .2) (l .loop .inv .1) (n .before .loop-test .taken) _ _ (n .next-window .ensures .0) (n .next-window .ensures .1) (p .store .ensures))
+    let w = p .before .before .before .before .before .before .before in
+    let l = w .before .before .before in
+    let s = l .before .before .before .before .before .before .before in
+    (omega (arith, w .before .before .loop-test .taken), storing-next _ _ _ _ (s .args .count) _ _ _ _ (s .pre .0) (s .pre .2) (l .loop .inv .1) (w .before .before .loop-test .taken) _ _ _ (next w) (p .store .ensures))
 
 -- at the loop's end
 at-end : (c : tie.After-loop Inv-loop μ-loop) → SameLengths
@@ -91,8 +110,9 @@ store-windows-spec =
     Inv-loop
     μ-loop
     loop-holds
-    next-window-requires
-    add-from
+    next-run-requires
+    sub-run-window
+    run-window-requires
     store-requires
     add-k
     loop-less
