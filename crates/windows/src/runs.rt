@@ -78,13 +78,17 @@ pub(crate) fn next_run(listing: Listing, mask: &[u8], from: usize) -> Stretch
 {
     let samples = mask.len();
     let v = byte_of(listing);
-    let mut first = start_of_run(mask, v, from);
-    while first < samples {
+    let mut at = from;
+    while at < samples {
+        let first = start_of_run(mask, v, at);
+        if first == samples {
+            return Stretch { first, end: first };
+        }
         let end = end_of_run(mask, v, first + 1);
         if is_listed(listing, first, end, samples) {
             return Stretch { first, end };
         }
-        first = start_of_run(mask, v, end);
+        at = end;
     }
     Stretch {
         first: samples,
