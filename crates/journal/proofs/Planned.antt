@@ -2,29 +2,30 @@
 use mathlib.Core.Path.{_≡_, refl, sym, ap, _∙_}
 use mathlib.Core.Bool.{Bool}
 use mathlib.Core.List.{List}
-use Prim.Native.Nat.{ℕ, _*_, _≤_, _<_}
+use Prim.Native.Nat.{ℕ, _+_, _*_, _≤_, _<_}
 use native.Mathlib.Omega.{arith}
 use lib.Dec.{ltb, lit<}
 use lib.ListN.{length, replicate, length-replicate}
 use lib.Ieee.{Float, binary64, toBits}
 use borrow.Author.Tests.{le-leb, le-ltb, ltb-false}
-use Rattle.buffers.specs.Refusal.{reply}
-use Rattle.buffers.proofs.Refusal.{first-clear, carried-clear}
+use Rattle.buffers.specs.Ranges.{tab}
+use Rattle.buffers.proofs.Ranges.{length-tab}
+use Rattle.buffers.specs.Refusal.{reply, accepted}
+use Rattle.buffers.proofs.Refusal.{reply-none, first-clear, carried-clear}
 use Rattle.buffers.specs.Lent.{over, put}
 use Rattle.buffers.proofs.Lent.{put-first, over-all}
 use Rattle.buffers.proofs.Tests.{or-right}
 use Rattle.solar_roll.specs.Vectors.{Vector, x, y, z}
 use Rattle.solar_roll.specs.declared.cell.ConfiguredRoll.{ConfiguredRoll}
-use Rattle.solar_roll.specs.Plan.{Plan, rowsOf, timesOf, headTolerance, headConfigured, headPanel, unlikeLengths, samplingOf, planRefusal, PlanFacts}
+use Rattle.solar_roll.specs.Plan.{Plan, rowsOf, timesOf, headTolerance, headConfigured, headPanel, unlikeLengths, samplingOf, planRefusal, sunAt, PlanFacts}
 use Rattle.solar_roll.proofs.Accepted.{plan-facts}
 use Rattle.roll_sweep.specs.Sweep.{chunks}
 use Rattle.roll_sweep.specs.Rolls.{evenRolls}
-use Rattle.roll_sweep.specs.Chunk.{sweepOver, sweptOf, chunkRefusal, chunkReply}
-use Rattle.roll_sweep.specs.declared.chunk.Swept.{Swept}
-use Rattle.roll_sweep.specs.declared.chunk.ChunkAnswer.{ChunkAnswer}
-use Rattle.roll_sweep.specs.declared.chunk.ChunkAnswer.the-variants.{Accepted, Refused}
+use Rattle.roll_sweep.specs.Chunk.{cellViolated, unitsViolated, sweepOver, sweptOf, chunkRefusal, sweptReply}
 use Rattle.roll_sweep.proofs.Even.{length-even}
-use Rattle.roll_sweep.proofs.Accepted.{sampled, chunk-accepted, answer-swept, answer-never}
+use Rattle.roll_sweep.proofs.Accepted.{sampled, chunk-facts, held, chunk-accepted}
+use Rattle.roll_sweep.proofs.Swept.{swept-ext, swept-chunk}
+use Rattle.roll_sweep.proofs.Cells.{units-violated}
 use Rattle.journal.specs.Header.{hasRoll, rollBits, settingsHeader, headerOf}
 use Rattle.journal.specs.Pass.{Passed}
 use Rattle.journal.specs.Plan.{sweepOf}
@@ -113,19 +114,24 @@ sampling-passed : (n : ℕ) → 1 ≤ n → n ≤ 3600 → samplingOf n ≡ 0
 unfolding samplingOf
 sampling-passed n h l = simp (le-leb 1 n h, le-leb n 3600 l)
 
-module _ (p : Plan) (n c : ℕ) (f : PlanFacts p) (one : 1 ≤ n) (most : n ≤ 3600) (exists : c < chunks (rowsOf p * timesOf p))
-    (rolls : List Float) (even : rolls ≡ evenRolls n) (a : ChunkAnswer)
-    (told : (refusal : Bool → ℕ) (header : List ℕ)
-    → chunkReply a ≡ reply (chunkRefusal (rowsOf p) (timesOf p) (length rolls) c) (sweptOf (sweepOver p rolls refusal header) c)) where
+module _ (p : Plan) (n c : ℕ) (f : PlanFacts p) (one : 1 ≤ n) (most : n ≤ 3600) (exists : c < chunks (rowsOf p * timesOf p)) (rolls : List Float) (even : rolls ≡ evenRolls n) where
   not-refused : chunkRefusal (rowsOf p) (timesOf p) (length rolls) c ≡ 0
   not-refused =
       chunk-accepted p (length rolls) c f (ap samplingOf (ap length even ∙ length-even n) ∙ sampling-passed n one most) exists
 
-  pub even-swept : (s : Swept) → a ≡ Accepted s → s ≡ sweptOf (sweepOf p n) c
+  pub even-swept : sweptReply (rowsOf p) (timesOf p) (length rolls) (cellViolated p rolls) c ≡ accepted (sweptOf (sweepOf p n) c)
   unfolding sweepOf
-  even-swept s e =
-      answer-swept a _ _ s (told (planRefusal p (samplingOf n)) (headerOf p n)) not-refused e
-      ∙ ap (λ (r : List Float). sweptOf (sweepOver p r (planRefusal p (samplingOf n)) (headerOf p n)) c) even
+  even-swept =
+      reply-none _ _ not-refused
+      ∙ ap accepted (swept-chunk (sweepOver p rolls (planRefusal p (samplingOf n)) (headerOf p n)) c _ refl
+      ∙ ap (λ (r : List Float). sweptOf (sweepOver p r (planRefusal p (samplingOf n)) (headerOf p n)) c) even)
 
-  pub even-never : (j : ℕ) → a ≡ Refused j → ⊥
-  even-never j e = answer-never a _ j _ (told (planRefusal p (samplingOf n)) (headerOf p n)) not-refused e
+  -- by a table of the Sun's units
+  pub even-swept-by : (units : List Vector) → units ≡ tab (timesOf p) (sunAt p)
+      → sweptReply (rowsOf p) (length units) (length rolls) (unitsViolated (p .targets) units (p .config) rolls) c ≡ accepted (sweptOf (sweepOf p n) c)
+  even-swept-by units e =
+      let size : length units ≡ timesOf p = ap length e ∙ length-tab (timesOf p) (sunAt p) in
+      let some : 0 < timesOf p = held _ _ _ _ _ (chunk-facts _ _ _ _ not-refused) refl .positive in
+      ap (λ (t : ℕ). sweptReply (rowsOf p) t (length rolls) (unitsViolated (p .targets) units (p .config) rolls) c) size
+      ∙ ap (reply (chunkRefusal (rowsOf p) (timesOf p) (length rolls) c)) (swept-ext _ (length rolls) _ _ (λ k s h g. units-violated p rolls units (64 * c + k) s some e))
+      ∙ even-swept

@@ -1,8 +1,12 @@
 -- The sweep of a plan: here alone the plan and its rolls enter what is said of chunks, journals and the ledger. Definitions only. Assumes nothing.
+use mathlib.Core.Path.{_≡_}
 use mathlib.Core.List.{List}
-use Prim.Native.Nat.{ℕ}
+use Prim.Native.Nat.{ℕ, _<_}
+use lib.ListN.{length}
 use lib.Ieee.{Float}
-use Rattle.solar_roll.specs.Plan.{Plan, planOf, samplingOf, planRefusal}
+use Rattle.buffers.specs.Ranges.{tab}
+use Rattle.solar_roll.specs.Vectors.{Vector}
+use Rattle.solar_roll.specs.Plan.{Plan, planOf, timesOf, sunAt, samplingOf, planRefusal}
 use Rattle.solar_roll.specs.declared.plan.SolarRollConfig.{SolarRollConfig}
 use Rattle.roll_sweep.specs.Sweep.{Sweep}
 use Rattle.roll_sweep.specs.Rolls.{evenRolls}
@@ -17,3 +21,7 @@ sweepOf p n = sweepOver p (evenRolls n) (planRefusal p (samplingOf n)) (headerOf
 -- that of a plan as it is lent
 abbrev pub lentSweep : List Float → List Float → List Float → SolarRollConfig → ℕ → Sweep
 lentSweep targets suns observers config n = sweepOf (planOf targets suns observers config) n
+
+-- a table of the Sun's units, one a time of the plan, or none
+abbrev pub UnitsOf : Plan → List Vector → Type 0
+UnitsOf p units = 0 < length units → units ≡ tab (timesOf p) (sunAt p)

@@ -1,41 +1,57 @@
-// The lines of a range of chunks, once nothing but 9, 10 and 7 of work's refusals is left to be tried. The rolls are a table that is filled once.
+// The lines of a range of chunks, once nothing but 9, 10 and 7 of work's refusals is left to be tried. The rolls are a table that is filled once, and
+// so are the Sun's units where that pays.
 ghost use mathlib.Core.Path.{_≡_};
-ghost use mathlib.Core.Bool.{not, _||_};
+ghost use mathlib.Core.Bool.{true, not, _||_};
 ghost use Prim.Native.Nat.{_+_, _-_, _*_, _≤_, _<_};
 ghost use lib.Dec.{leb, ltb, eqb};
 ghost use lib.ListN.{length, getD};
 ghost use Rattle.solar_roll.specs.Plan.{planOf, count, PlanFacts};
 ghost use Rattle.roll_sweep.specs.Sweep.{chunks};
 ghost use Rattle.roll_sweep.specs.Rolls.{evenRolls};
-ghost use Rattle.roll_sweep.specs.Chunk.{sweptOf};
+ghost use Rattle.roll_sweep.specs.Chunk.{sweptOf, chunkReply};
+ghost use Rattle.roll_sweep.specs.declared.chunk.Swept.{Swept};
+ghost use Rattle.buffers.specs.Refusal.{accepted};
 ghost use Rattle.journal.specs.Pass.{Ready};
-ghost use Rattle.journal.specs.Plan.{lentSweep};
+ghost use Rattle.journal.specs.Plan.{lentSweep, UnitsOf};
 ghost use Rattle.journal.specs.Range.{ranTo, ran};
 use crate::line::append_line;
 use roll_sweep::ChunkAnswer;
 use roll_sweep::Swept;
 use roll_sweep::even_rolls;
 use roll_sweep::sweep_chunk;
+use roll_sweep::sweep_chunk_by_units;
 use solar_roll::SolarRollConfig;
+use solar_roll::sun_units;
 
-// Sweeps a chunk of an accepted plan over its even rolls.
+// What an accepted sweep gives.
+fn accepted(answer: ChunkAnswer) -> Swept
+    ensures { λ r. ⌜ ((x : Swept) → chunkReply answer ≡ accepted x → r ≡ x) ⌝ }
+{
+    match answer {
+        ChunkAnswer::Accepted(swept) => swept,
+        ChunkAnswer::Refused(_) => Swept { mask: 0, probes: 0 },
+    }
+}
+
+// Sweeps a chunk of an accepted plan over its even rolls, by a table of the Sun's units of all times, if there is one.
 fn sweep_even(
     targets: &[f64],
     suns: &[f64],
     observers: &[f64],
     config: SolarRollConfig,
     rolls: &[f64],
+    units: &[[f64; 3]],
     chunk: u64,
 ) -> Swept
     requires { ⌜ PlanFacts (planOf (now targets) (now suns) (now observers) config) × (1 ≤ length (now rolls)) × (length (now rolls) ≤ 3600)
-        × (now rolls ≡ evenRolls (length (now rolls))) × (chunk < chunks (count (now targets) * count (now suns))) ⌝ }
+        × (now rolls ≡ evenRolls (length (now rolls))) × UnitsOf (planOf (now targets) (now suns) (now observers) config) (now units)
+        × (chunk < chunks (count (now targets) * count (now suns))) ⌝ }
     ensures { λ r. ⌜ r ≡ sweptOf (lentSweep (now (targets .entry)) (now (suns .entry)) (now (observers .entry)) config (length (now (rolls .entry)))) chunk ⌝ }
 {
-    match sweep_chunk(targets, suns, observers, config, rolls, chunk) {
-        ChunkAnswer::Accepted(swept) => swept,
-        // Never: what it refuses has been refused.
-        ChunkAnswer::Refused(_) => Swept { mask: 0, probes: 0 },
+    if 0 < units.len() {
+        return accepted(sweep_chunk_by_units(targets, units, config, rolls, chunk));
     }
+    accepted(sweep_chunk(targets, suns, observers, config, rolls, chunk))
 }
 
 // Work refuses the chunk: it does not exist, it has a line, or there is no room for one.
@@ -60,13 +76,14 @@ fn append_swept(
     observers: &[f64],
     config: SolarRollConfig,
     rolls: &[f64],
+    units: &[[f64; 3]],
     from: u64,
     to: u64,
     journal: &mut [u8],
     used: u64,
     seen: &[u8],
 ) -> u64
-    requires { ⌜ (now rolls ≡ evenRolls (length (now rolls)))
+    requires { ⌜ (now rolls ≡ evenRolls (length (now rolls))) × UnitsOf (planOf (now targets) (now suns) (now observers) config) (now units)
         × Ready (lentSweep (now targets) (now suns) (now observers) config (length (now rolls))) (now journal) used (now seen) ⌝ }
     ensures { λ r. ⌜ ranTo (now (journal .exit)) (used + 33 * (r - from)) r
         ≡ ran (lentSweep (now (targets .entry)) (now (suns .entry)) (now (observers .entry)) config (length (now (rolls .entry)))) (to - from) (ranTo (now (journal .entry)) used from) ⌝ }
@@ -78,12 +95,62 @@ fn append_swept(
         if is_refused(seen, chunks, journal.len() - at, chunk) {
             return chunk;
         }
-        let swept = sweep_even(targets, suns, observers, config, rolls, chunk);
+        let swept = sweep_even(targets, suns, observers, config, rolls, units, chunk);
         append_line(journal, at, chunk, swept.mask, swept.probes);
         at += 33;
         chunk += 1;
     }
     chunk
+}
+
+// Whether a table of the Sun's units of all times pays: it has room for them, and there are more cells than times to sweep.
+fn pays(times: usize, from: u64, to: u64) -> bool
+    ensures { λ r. ⌜ (r ≡ true → times ≤ 8784) ⌝ }
+{
+    if 8784 < times {
+        return false;
+    }
+    if to <= from {
+        return false;
+    }
+    let whole = (times / 64) as u64;
+    whole < to - from
+}
+
+// The same, by such a table: of the hours of a year at most, 206 KB.
+fn append_by_units(
+    targets: &[f64],
+    suns: &[f64],
+    observers: &[f64],
+    config: SolarRollConfig,
+    rolls: &[f64],
+    from: u64,
+    to: u64,
+    journal: &mut [u8],
+    used: u64,
+    seen: &[u8],
+) -> u64
+    requires { ⌜ (now rolls ≡ evenRolls (length (now rolls))) × (count (now suns) ≤ 8784)
+        × Ready (lentSweep (now targets) (now suns) (now observers) config (length (now rolls))) (now journal) used (now seen) ⌝ }
+    ensures { λ r. ⌜ ranTo (now (journal .exit)) (used + 33 * (r - from)) r
+        ≡ ran (lentSweep (now (targets .entry)) (now (suns .entry)) (now (observers .entry)) config (length (now (rolls .entry)))) (to - from) (ranTo (now (journal .entry)) used from) ⌝ }
+{
+    let mut units = [[0.0; 3]; 8784];
+    sun_units(suns, observers, 0, &mut units);
+    let end = suns.len() / 3;
+    append_swept(
+        targets,
+        suns,
+        observers,
+        config,
+        rolls,
+        &units[..end],
+        from,
+        to,
+        journal,
+        used,
+        seen,
+    )
 }
 
 // The same, at n even steps.
@@ -106,12 +173,28 @@ pub(crate) fn append_lines(
     let mut rolls = [0.0; 3600];
     even_rolls(n as u32, &mut rolls);
     let end = n as usize;
+    if pays(suns.len() / 3, from, to) {
+        return append_by_units(
+            targets,
+            suns,
+            observers,
+            config,
+            &rolls[..end],
+            from,
+            to,
+            journal,
+            used,
+            seen,
+        );
+    }
+    let none = [[0.0; 3]; 0];
     append_swept(
         targets,
         suns,
         observers,
         config,
         &rolls[..end],
+        &none,
         from,
         to,
         journal,

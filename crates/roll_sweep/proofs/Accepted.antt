@@ -5,8 +5,8 @@ use Prim.Native.Nat.{ℕ, zero, suc, _+_, _-_, _*_, _≤_, _<_}
 use native.Mathlib.Omega.{arith}
 use lib.Dec.{leb, ltb, lit<}
 use borrow.Author.Tests.{ltb-false, leb-true, leb-false, le-ltb, lt-leb}
-use Rattle.buffers.specs.Refusal.{accepted, reply}
-use Rattle.buffers.proofs.Refusal.{reply-none, first-none, first-skip, first-clear, carried-skip, carried-clear}
+use Rattle.buffers.specs.Refusal.{accepted}
+use Rattle.buffers.proofs.Refusal.{first-none, first-skip, first-clear, carried-skip, carried-clear}
 use Rattle.buffers.proofs.Tests.{and-left, and-right, or-left, or-right}
 use Rattle.solar_roll.specs.Plan.{Plan, rowsOf, timesOf, tooMany, samplingOf, PlanFacts}
 use Rattle.roll_sweep.specs.Sweep.{chunks, cellsIn}
@@ -87,15 +87,15 @@ chunk-accepted p samples c f s h =
 
 -- ---- the answer of a chunk that is not refused
 
-pub answer-swept : (a : ChunkAnswer) (k : ℕ) (x s : Swept) → chunkReply a ≡ reply k x → k ≡ 0 → a ≡ Accepted s → s ≡ x
+pub answer-swept : (a : ChunkAnswer) (x s : Swept) → chunkReply a ≡ accepted x → a ≡ Accepted s → s ≡ x
 unfolding chunkReply
-answer-swept a k x s h e q =
-    let z : chunkReply (Accepted s) ≡ accepted x = sym (ap chunkReply q) ∙ h ∙ reply-none k x e in
+answer-swept a x s h q =
+    let z : chunkReply (Accepted s) ≡ accepted x = sym (ap chunkReply q) ∙ h in
     cc
 
-pub answer-never : (a : ChunkAnswer) (k j : ℕ) (x : Swept) → chunkReply a ≡ reply k x → k ≡ 0 → a ≡ Refused j → ⊥
+pub answer-never : (a : ChunkAnswer) (j : ℕ) (x : Swept) → chunkReply a ≡ accepted x → a ≡ Refused j → ⊥
 unfolding chunkReply
-answer-never a k j x h e q =
-    let z : chunkReply (Refused j) ≡ accepted x = sym (ap chunkReply q) ∙ h ∙ reply-none k x e in
+answer-never a j x h q =
+    let z : chunkReply (Refused j) ≡ accepted x = sym (ap chunkReply q) ∙ h in
     let o : _≡_ {A = ℕ} 0 1 = cc in
     omega arith

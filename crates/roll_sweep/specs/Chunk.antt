@@ -1,14 +1,19 @@
 -- Section 3: the sweep of a plan over a list of rolls, and what the sweep of one of its chunks answers. Definitions only. Assumes nothing.
 use mathlib.Core.Bool.{Bool}
 use mathlib.Core.List.{List, [], _∷_}
-use Prim.Native.Nat.{ℕ, _*_, _/_, _%_}
+use Prim.Native.Nat.{ℕ, _+_, _*_, _/_, _%_}
 use lib.Dec.{leb}
 use lib.ListN.{length, getD}
 use lib.Ieee.{Float, nan}
 use Rattle.buffers.specs.Ranges.{sum, allBelow}
 use Rattle.buffers.specs.Refusal.{first, carried, Reply, refused, accepted, reply}
-use Rattle.solar_roll.specs.Plan.{Plan, rowsOf, timesOf, violatesAt, tooMany, samplingOf}
-use Rattle.roll_sweep.specs.Sweep.{Sweep, tried, chunks, word, chunkMask, chunkProbes}
+use Rattle.solar_roll.specs.Vectors.{Vector}
+use Rattle.solar_roll.specs.Roll.{bodyAxes, panelOf}
+use Rattle.solar_roll.specs.Cell.{rollIn, violates, inForce}
+use Rattle.solar_roll.specs.Plan.{Plan, rowsOf, timesOf, rowDirection, rowConfig, violatesAt, tooMany, samplingOf}
+use Rattle.solar_roll.specs.declared.cell.EvaluationRoll.the-variants.{Sweep as SweepRoll}
+use Rattle.solar_roll.specs.declared.plan.SolarRollConfig.{SolarRollConfig}
+use Rattle.roll_sweep.specs.Sweep.{Sweep, tried, chunks, cellsIn, word, chunkMask, chunkProbes}
 use Rattle.roll_sweep.specs.declared.chunk.Swept.{Swept}
 use Rattle.roll_sweep.specs.declared.chunk.ChunkAnswer.{ChunkAnswer}
 use Rattle.roll_sweep.specs.declared.chunk.ChunkAnswer.the-variants.{Accepted, Refused}
@@ -17,6 +22,18 @@ use Rattle.roll_sweep.specs.declared.chunk.ChunkAnswer.the-variants.{Acc
 unfoldable pub cellViolated : Plan → List Float → ℕ → ℕ → Bool
 unfolding violatesAt
 cellViolated p rolls i k = violatesAt p (i / timesOf p) (i % timesOf p) (getD rolls k nan)
+
+-- sample k violates a cell of row r at a time with this unit of the Sun
+unfoldable pub violatedIn : List Float → SolarRollConfig → List Float → ℕ → Vector → ℕ → Bool
+violatedIn targets config rolls r unit k =
+    violates (rollIn (bodyAxes (rowDirection targets r)) unit (panelOf (config .«panel_normal»)))
+    (inForce (SweepRoll (getD rolls k nan)) (config .«roll_deg»))
+    (rowConfig config r .«tolerance_deg»)
+
+-- sample k violates cell i, where the Sun's units are given, one a time
+unfoldable pub unitsViolated : List Float → List Vector → SolarRollConfig → List Float → ℕ → ℕ → Bool
+unfolding violatedIn
+unitsViolated targets units config rolls i = violatedIn targets config rolls (i / length units) (getD units (i % length units) [])
 
 -- the sweep of a plan over the rolls, with the plan's refusal and its header
 abbrev pub sweepOver : Plan → List Float → (Bool → ℕ) → List ℕ → Sweep
@@ -42,9 +59,10 @@ chunkRefusal rows times samples c =
     ∷ (leb (chunks (rows * times)) c, 9)
     ∷ [])
 
--- what the sweep of chunk c answers
-abbrev pub sweptReply : Sweep → ℕ → Reply Swept
-sweptReply s c = reply (chunkRefusal (s .rows) (s .times) (s .samples) c) (sweptOf s c)
+-- what the sweep of chunk c answers, where v says which sample violates which cell
+abbrev pub sweptReply : ℕ → ℕ → ℕ → (ℕ → ℕ → Bool) → ℕ → Reply Swept
+sweptReply rows times samples v c =
+    reply (chunkRefusal rows times samples c) (sweptBy (cellsIn (rows * times) c) samples (λ k. v (64 * c + k)))
 
 -- the number and the value of each case of the answer
 unfoldable pub chunkReply : ChunkAnswer → Reply Swept

@@ -16,9 +16,8 @@ use solar_roll::sun_unit;
 use solar_roll::triple;
 use solar_roll::violated;
 ghost use mathlib.Core.Path.{_≡_};
-ghost use mathlib.Core.Bool.{Bool};
-ghost use mathlib.Core.List.{List, []};
-ghost use Prim.Native.Nat.{ℕ, _+_, _-_, _*_, _/_, _%_, _≤_, _<_, min};
+ghost use mathlib.Core.List.{[]};
+ghost use Prim.Native.Nat.{_+_, _-_, _*_, _/_, _%_, _≤_, _<_, min};
 ghost use lib.Count.{ones};
 ghost use lib.ListN.{length, getD, take};
 ghost use lib.Ieee.{nan};
@@ -27,7 +26,7 @@ ghost use Rattle.solar_roll.specs.Roll.{sunUnit};
 ghost use Rattle.solar_roll.specs.Cell.{rollIn, violates, inForce};
 ghost use Rattle.solar_roll.specs.Plan.{planOf, triple, count};
 ghost use Rattle.roll_sweep.specs.Sweep.{cellsIn};
-ghost use Rattle.roll_sweep.specs.Chunk.{cellViolated, sweepOver, sweptBy, chunkRefusal, chunkReply, sweptReply};
+ghost use Rattle.roll_sweep.specs.Chunk.{cellViolated, violatedIn, unitsViolated, sweptBy, chunkRefusal, chunkReply, sweptReply};
 
 // What the sweep of cells gives: bit k of the mask is cell k, set where every sample violates it;
 // probes is how many samples were tried.
@@ -111,36 +110,36 @@ fn sweep_row(
     Swept { mask, probes }
 }
 
-// Sweeps `cells` cells from number `first` on, row by row, so that a row's axes are worked out once.
+// Sweeps `cells` cells from number `first` on, row by row, so that a row's axes are worked out once. The Sun's unit of
+// cell i is entry i % L of a table of L units: of all times, or of one chunk's 64 cells.
 fn sweep_cells(
     targets: &[f64],
-    suns: &[f64],
-    observers: &[f64],
+    times: usize,
+    units: &[[f64; 3]],
     config: SolarRollConfig,
     rolls: &[f64],
     first: usize,
     cells: usize,
 ) -> Swept
-    requires { ⌜ (cells ≤ 64) × (length (now rolls) ≤ 3600) × (0 < count (now suns)) × (count (now suns) ≤ 65536) × (first + cells ≤ 1048576) ⌝ }
-    ensures { λ r. ⌜ r ≡ sweptBy cells (length (now (rolls .entry))) (λ k. cellViolated (planOf (now (targets .entry)) (now (suns .entry)) (now (observers .entry)) config) (now (rolls .entry)) (first + k)) ⌝ }
+    requires { ⌜ (cells ≤ 64) × (length (now rolls) ≤ 3600) × (0 < times) × (times ≤ 65536) × (0 < length (now units)) × (first + cells ≤ 1048576) ⌝ }
+    ensures { λ r. ⌜ r ≡ sweptBy cells (length (now (rolls .entry))) (λ k. violatedIn (now (targets .entry)) config (now (rolls .entry)) ((first + k) / times) (getD (now (units .entry)) ((first + k) % length (now (units .entry))) [])) ⌝ }
 {
-    let times = suns.len() / 3;
     let normal = config.panel_normal;
     let panel = panel_of(normal);
     let configured = config.roll_deg;
-    let units = chunk_units(suns, observers, first, cells);
     let mut mask: u64 = 0;
     let mut probes: u64 = 0;
     let mut k = 0;
     while k < cells {
         let row = (first + k) / times;
-        let time = (first + k) % times;
-        let end = smaller(k + (times - time), cells);
+        let left = times - (first + k) % times;
+        let start = (first + k) % units.len();
+        let count = smaller(smaller(left, cells - k), units.len() - start);
         let axes = body_axes(direction(targets, row));
         let settings = row_config(config, row);
         let part = sweep_row(
             axes,
-            &units[k..end],
+            &units[start..start + count],
             panel,
             configured,
             settings.tolerance_deg,
@@ -148,7 +147,7 @@ fn sweep_cells(
         );
         mask |= part.mask << k;
         probes += part.probes;
-        k = end;
+        k += count;
     }
     Swept { mask, probes }
 }
@@ -163,6 +162,30 @@ fn repeated(one: Swept, n: usize) -> Swept
     Swept {
         mask: one.mask,
         probes: one.probes + again * marked,
+    }
+}
+
+// The same. With a configured roll every sample is the same, and one is tried for all.
+fn sweep_samples(
+    targets: &[f64],
+    times: usize,
+    units: &[[f64; 3]],
+    config: SolarRollConfig,
+    rolls: &[f64],
+    first: usize,
+    cells: usize,
+) -> Swept
+    requires { ⌜ (cells ≤ 64) × (length (now rolls) ≤ 3600) × (0 < times) × (times ≤ 65536) × (0 < length (now units)) × (first + cells ≤ 1048576) × (1 ≤ length (now rolls)) ⌝ }
+    ensures { λ r. ⌜ r ≡ sweptBy cells (length (now (rolls .entry))) (λ k. violatedIn (now (targets .entry)) config (now (rolls .entry)) ((first + k) / times) (getD (now (units .entry)) ((first + k) % length (now (units .entry))) [])) ⌝ }
+{
+    let configured = config.roll_deg;
+    match configured {
+        ConfiguredRoll::None => sweep_cells(targets, times, units, config, rolls, first, cells),
+        ConfiguredRoll::Some(_) => {
+            let one = 1;
+            let tried = sweep_cells(targets, times, units, config, &rolls[..one], first, cells);
+            repeated(tried, rolls.len())
+        }
     }
 }
 
@@ -190,8 +213,7 @@ fn chunk_refusal(rows: usize, times: usize, samples: usize, chunk: u64) -> u64
     0
 }
 
-// Sweeps a chunk: cells 64 · chunk to 64 · chunk + 63, the last chunk perhaps fewer. With a
-// configured roll every sample is the same, and one is tried for all.
+// Sweeps a chunk: cells 64 · chunk to 64 · chunk + 63, the last chunk perhaps fewer.
 pub fn sweep_chunk(
     targets: &[f64],
     suns: &[f64],
@@ -200,7 +222,7 @@ pub fn sweep_chunk(
     rolls: &[f64],
     chunk: u64,
 ) -> ChunkAnswer
-    ensures { λ r. ⌜ ((refusal : Bool → ℕ) (header : List ℕ) → chunkReply r ≡ sweptReply (sweepOver (planOf (now (targets .entry)) (now (suns .entry)) (now (observers .entry)) config) (now (rolls .entry)) refusal header) chunk) ⌝ }
+    ensures { λ r. ⌜ chunkReply r ≡ sweptReply (count (now (targets .entry))) (count (now (suns .entry))) (length (now (rolls .entry))) (cellViolated (planOf (now (targets .entry)) (now (suns .entry)) (now (observers .entry)) config) (now (rolls .entry))) chunk ⌝ }
 {
     let rows = targets.len() / 3;
     let times = suns.len() / 3;
@@ -210,29 +232,27 @@ pub fn sweep_chunk(
     }
     let first = 64 * chunk as usize;
     let cells = cells_in((rows * times) as u64, chunk) as usize;
-    let configured = config.roll_deg;
-    match configured {
-        ConfiguredRoll::None => ChunkAnswer::Accepted(sweep_cells(
-            targets,
-            suns,
-            observers,
-            config,
-            rolls,
-            first,
-            cells,
-        )),
-        ConfiguredRoll::Some(_) => {
-            let one = 1;
-            let tried = sweep_cells(
-                targets,
-                suns,
-                observers,
-                config,
-                &rolls[..one],
-                first,
-                cells,
-            );
-            ChunkAnswer::Accepted(repeated(tried, rolls.len()))
-        }
+    let units = chunk_units(suns, observers, first, cells);
+    ChunkAnswer::Accepted(sweep_samples(targets, times, &units, config, rolls, first, cells))
+}
+
+// The same, where the Sun's units are given, one a time, so that chunk after chunk can use them.
+pub fn sweep_chunk_by_units(
+    targets: &[f64],
+    units: &[[f64; 3]],
+    config: SolarRollConfig,
+    rolls: &[f64],
+    chunk: u64,
+) -> ChunkAnswer
+    ensures { λ r. ⌜ chunkReply r ≡ sweptReply (count (now (targets .entry))) (length (now (units .entry))) (length (now (rolls .entry))) (unitsViolated (now (targets .entry)) (now (units .entry)) config (now (rolls .entry))) chunk ⌝ }
+{
+    let rows = targets.len() / 3;
+    let times = units.len();
+    let refusal = chunk_refusal(rows, times, rolls.len(), chunk);
+    if refusal != 0 {
+        return ChunkAnswer::Refused(refusal);
     }
+    let first = 64 * chunk as usize;
+    let cells = cells_in((rows * times) as u64, chunk) as usize;
+    ChunkAnswer::Accepted(sweep_samples(targets, times, units, config, rolls, first, cells))
 }

@@ -3,7 +3,6 @@
 mod field;
 mod mask;
 mod row;
-mod units;
 mod values;
 
 pub use field::field_of_regard_violated_at_roll;

@@ -1,6 +1,4 @@
 // Masks: a byte a cell, 0 clear or 1 marked, in order of cell number.
-use crate::units::block_length;
-use crate::units::fill_units;
 use buffers::Answer;
 use buffers::smaller;
 use float::rem_euclid;
@@ -18,6 +16,7 @@ use solar_roll::plan_refusal;
 use solar_roll::rolls_deg_in;
 use solar_roll::row_config;
 use solar_roll::sampling_or_none;
+use solar_roll::sun_units;
 use solar_roll::violated;
 ghost use mathlib.Core.Path.{_≡_};
 ghost use Prim.Native.Nat.{_+_, _-_, _*_, _≤_};
@@ -259,8 +258,8 @@ fn mark(
     let mut units = [[0.0; 3]; 2048];
     let mut from = 0;
     while from < times {
-        let count = block_length(times, from);
-        fill_units(suns, observers, from, count, &mut units);
+        let count = smaller(units.len(), times - from);
+        sun_units(suns, observers, from, &mut units);
         mark_block(
             targets,
             config,

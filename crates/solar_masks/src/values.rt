@@ -1,7 +1,5 @@
 // Named values: the optimal roll of each cell, of free cells too.
 use crate::mask::cells_refusal;
-use crate::units::block_length;
-use crate::units::fill_units;
 use buffers::Answer;
 use buffers::smaller;
 use solar_roll::Panel;
@@ -10,6 +8,7 @@ use solar_roll::body_axes;
 use solar_roll::direction;
 use solar_roll::panel_of;
 use solar_roll::rolls_deg_in;
+use solar_roll::sun_units;
 ghost use mathlib.Core.Path.{_≡_};
 ghost use Prim.Native.Nat.{_+_, _-_, _*_, _≤_};
 ghost use mathlib.Core.List.{[]};
@@ -85,8 +84,8 @@ fn write_values(
     let mut units = [[0.0; 3]; 2048];
     let mut from = 0;
     while from < times {
-        let count = block_length(times, from);
-        fill_units(suns, observers, from, count, &mut units);
+        let count = smaller(units.len(), times - from);
+        sun_units(suns, observers, from, &mut units);
         value_block(targets, angle, &units, times, from, count, values);
         from += count;
     }

@@ -3,6 +3,7 @@
 mod cell;
 mod plan;
 mod roll;
+mod units;
 mod vectors;
 
 pub use cell::CellRoll;
@@ -29,3 +30,4 @@ pub use roll::roll_is_unconstrained;
 pub use roll::rolls_deg_in;
 pub use roll::solar_optimal_roll_deg;
 pub use roll::sun_unit;
+pub use units::sun_units;

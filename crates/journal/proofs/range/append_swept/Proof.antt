@@ -20,11 +20,11 @@ use Rattle.journal.proofs.range.append_swept.Statement.{statement}
 use Rattle.journal.proofs.range.append_swept.Tie as tie
 
 abbrev Inv-loop : tie.InvT-loop
-Inv-loop targets suns observers config rolls from to journal₀ used seen chunks at₀ chunk₀ journal at chunk =
+Inv-loop targets suns observers config rolls units from to journal₀ used seen chunks at₀ chunk₀ journal at chunk =
     Along (lentSweep targets suns observers config (length rolls)) from to seen journal₀ used chunk journal at
 
 abbrev μ-loop : tie.MeasureT-loop
-μ-loop targets suns observers config rolls from to journal₀ used seen chunks at₀ chunk₀ journal at chunk = to - chunk
+μ-loop targets suns observers config rolls units from to journal₀ used seen chunks at₀ chunk₀ journal at chunk = to - chunk
 
 -- ---- what is known at the places of the code
 
@@ -32,10 +32,10 @@ abbrev Start : Type 0
 Start = tie.Start Inv-loop μ-loop
 
 plan : (x : Start) → PlanPassed (planOf (x .args .targets .now) (x .args .suns .now) (x .args .observers .now) (x .args .config)) (length (x .args .rolls .now)) (length (x .args .journal .now)) (x .args .used)
-plan x = passed _ _ _ _ (x .pre .1 .plan)
+plan x = passed _ _ _ _ (x .pre .2 .plan)
 
 sweep : (x : Start) → Accepted (lentSweep (x .args .targets .now) (x .args .suns .now) (x .args .observers .now) (x .args .config) (length (x .args .rolls .now)))
-sweep x = accepted-sweep _ _ (length (x .args .journal .now)) (x .args .used) (x .pre .1 .plan)
+sweep x = accepted-sweep _ _ (length (x .args .journal .now)) (x .args .used) (x .pre .2 .plan)
 
 -- the test of the next chunk
 told : (c : tie.After-is-refused Inv-loop μ-loop) (t : Bool) → c .is-refused .result ≡ t
@@ -60,7 +60,7 @@ add-chunks c = omega (arith, (plan (c .before .before .before .before .before .b
 loop-holds : tie.Need-loop-holds Inv-loop μ-loop
 loop-holds c =
     let x = c .before .before .before .before .before .before in
-    along-start _ (sweep x) (x .args .from) (x .args .to) (x .args .seen .now) (x .args .journal .now) (x .args .used) (x .pre .1) ((plan x) .used)
+    along-start _ (sweep x) (x .args .from) (x .args .to) (x .args .seen .now) (x .args .journal .now) (x .args .used) (x .pre .2) ((plan x) .used)
 
 sub-is-refused : tie.Need-sub-is-refused Inv-loop μ-loop
 sub-is-refused c = omega (arith, c .before .loop .inv .within)
@@ -90,6 +90,7 @@ sweep-even-requires c κs =
       (plan x) .one,
       (plan x) .most,
       x .pre .0,
+      x .pre .1,
       next-exists _ (sweep x) (x .args .from) (x .args .to) (x .args .seen .now) (x .args .journal .now) (x .args .used) (p .chunk) (p .journal) (p .at) (p .inv) (told (c .before) false (c .if1 .left)),
     )
 
@@ -100,7 +101,7 @@ add-at : tie.Need-add-at Inv-loop μ-loop
 add-at c =
     let k = c .before .before .before .before .before in
     let x = k .before .before .before .before .before .before .before .before .before .before in
-    omega (arith, room k, k .before .before .before .loop .inv .room, x .good .1 .1 .1 .1 .1 .1 .1 .0 .0)
+    omega (arith, room k, k .before .before .before .loop .inv .room, x .good .1 .1 .1 .1 .1 .1 .1 .1 .0 .0)
 
 add-chunk : tie.Need-add-chunk Inv-loop μ-loop
 add-chunk c = omega arith

@@ -1,5 +1,6 @@
-use Prim.Native.Nat.{ℕ, _+_, _-_, _≤_, _<_}
+use Prim.Native.Nat.{ℕ, _+_, _-_, _≤_, _<_, min}
 use Rattle.buffers.proofs.Rows.{columns-ext, columns-zero, columns-add, columns-all}
+use Rattle.buffers.specs.Lent.{filled}
 use Rattle.buffers.specs.Rows.{Columns}
 use Rattle.float.specs.Arithmetic.{zero·0}
 use Rattle.solar_masks.proofs.Shared.{value-shared}
@@ -13,7 +14,6 @@ use lib.Ieee.{Float}
 use lib.ListN.{length, getD}
 use mathlib.Core.List.{List, []}
 use Rattle.buffers.proofs.Lent.{length-filled, getD-filled}
-use Rattle.solar_roll.specs.Vectors.{Vector}
 use mathlib.Core.Path.{_≡_, refl, ap, _∙_, subst}
 use native.Mathlib.Omega.{arith}
 use Rattle.solar_masks.proofs.values.write_values.Statement.{statement}
@@ -35,12 +35,29 @@ plan o = let a = Start-of o .args in planOf (now (a .targets)) (now (a .suns)) (
 abbrev F : tie.At-loop Inv-loop μ-loop → ℕ → ℕ → Float
 F o r j = rollDegIn (bodyAxes (directionOf (plan o) r)) (sunUnit (triple (plan o .suns) j) (triple (plan o .observers) j)) (o .before .panel-of .result .angle)
 
--- the table's length stays
-kept : (c : tie.After-fill-units Inv-loop μ-loop) → c .before .before .block-length .result ≤ length (c .fill-units .last .1 .1 .1 .1 .0)
+-- the block of n times from `from` on
+record Block (from times n : ℕ) : Type 0 where
+  pub more : 0 < n
+  pub few : n ≤ 2048
+  pub within : from + n ≤ times
+
+block : (c : tie.After-smaller Inv-loop μ-loop) → Block (c .before .before .loop .from) (timesOf (plan (c .before .before))) (c .smaller .result)
+block c = record { more = omega arith; few = omega arith; within = omega arith }
+
+-- the table's first n places hold the units of the block; its length stays
+filled-units : (c : tie.After-sun-units Inv-loop μ-loop) →
+    let o = c .before .before .before .before in
+    c .sun-units .last .1 .1 .1 .0 ≡ filled (c .before .before .smaller .result) (λ t. sunAt (plan o) (o .loop .from + t)) (o .loop .units)
+unfolding sunAt
+filled-units c =
+    let o = c .before .before .before .before in
+    let n : min (length (o .loop .units)) (timesOf (plan o) - o .loop .from) ≡ c .before .before .smaller .result = omega (arith, o .loop .inv .1) in
+    c .sun-units .ensures ∙ ap (λ (m : ℕ). filled m (λ t. sunAt (plan o) (o .loop .from + t)) (o .loop .units)) n
+
+kept : (c : tie.After-sun-units Inv-loop μ-loop) → c .before .before .smaller .result ≤ length (c .sun-units .last .1 .1 .1 .0)
 kept c =
-    let b = c .before .before .block-length in
-    let h : b .result ≤ length (c .before .before .before .before .loop .units) = omega (arith, c .before .before .before .before .loop .inv .1, b .ensures .1) in
-    omega (arith, ap length (c .fill-units .ensures) ∙ length-filled _ _ _ h, h)
+    let h : c .before .before .smaller .result ≤ length (c .before .before .before .before .loop .units) = omega (arith, c .before .before .before .before .loop .inv .1, block (c .before .before) .few) in
+    omega (arith, ap length (filled-units c) ∙ length-filled _ _ _ h, h)
 
 panel-of-requires : tie.Need-panel-of-requires Inv-loop μ-loop
 panel-of-requires c κs = search needs
@@ -48,43 +65,46 @@ panel-of-requires c κs = search needs
 loop-holds : tie.Need-loop-holds Inv-loop μ-loop
 loop-holds c = (omega arith, refl, columns-zero _ _ _ _ _ _)
 
-block-length-requires : tie.Need-block-length-requires Inv-loop μ-loop
-block-length-requires c κs = search needs
+sub-smaller : tie.Need-sub-smaller Inv-loop μ-loop
+sub-smaller c = search needs
 
-slice-aggregate-fill-units : tie.Need-slice-aggregate-fill-units Inv-loop μ-loop
-slice-aggregate-fill-units c = search needs
+smaller-requires : tie.Need-smaller-requires Inv-loop μ-loop
+smaller-requires c κs = search needs
 
-fill-units-requires : tie.Need-fill-units-requires Inv-loop μ-loop
-fill-units-requires c κs = (omega (arith, c .before .before .before .loop .inv .1, c .before .block-length .ensures .1), omega (arith, c .before .block-length .ensures .2, Start-of (c .before .before .before) .pre .1))
+slice-aggregate-sun-units : tie.Need-slice-aggregate-sun-units Inv-loop μ-loop
+slice-aggregate-sun-units c = search needs
+
+sun-units-requires : tie.Need-sun-units-requires Inv-loop μ-loop
+sun-units-requires c κs = search needs
 
 slice-aggregate-value-block : tie.Need-slice-aggregate-value-block Inv-loop μ-loop
 slice-aggregate-value-block c = search needs
 
 value-block-requires : tie.Need-value-block-requires Inv-loop μ-loop
-value-block-requires c κs = let o = c .before .before .before .before .before .before .before in (omega (arith, o .loop .inv .2 .same, Start-of o .pre .0), c .before .before .before .before .before .block-length .ensures .2, omega (arith, kept (c .before .before .before)))
+value-block-requires c κs = let o = c .before .before .before .before .before .before .before in (omega (arith, o .loop .inv .2 .same, Start-of o .pre .0), block (c .before .before .before .before .before) .within, omega (arith, kept (c .before .before .before)))
 
 add-from : tie.Need-add-from Inv-loop μ-loop
-add-from c = omega (arith, c .before .before .before .before .before .before .before .before .block-length .ensures .2, Start-of (c .before .before .before .before .before .before .before .before .before .before) .pre .1)
+add-from c = omega (arith, block (c .before .before .before .before .before .before .before .before) .within, Start-of (c .before .before .before .before .before .before .before .before .before .before) .pre .1)
 
 loop-less : tie.Need-loop-less Inv-loop μ-loop
-loop-less c = omega (arith, c .before .before .before .before .before .before .before .before .block-length .ensures .0, c .before .before .before .before .before .before .before .before .block-length .ensures .2)
+loop-less c = omega (arith, block (c .before .before .before .before .before .before .before .before) .more, block (c .before .before .before .before .before .before .before .before) .within)
 
 loop-again : tie.Need-loop-again Inv-loop μ-loop
+unfolding sunAt
 loop-again c =
     let o = c .before .before .before .before .before .before .before .before .before .before in
     let a = Start-of o .args in
     let p = plan o in
-    let b = c .before .before .before .before .before .before .before .before .block-length in
-    let n = b .result in
-    let units = c .before .before .before .before .before .before .fill-units .last .1 .1 .1 .1 .0 in
+    let n = c .before .before .before .before .before .before .before .before .smaller .result in
+    let units = c .before .before .before .before .before .before .sun-units .last .1 .1 .1 .0 in
     let new = c .before .before .value-block .last .1 .1 .1 .1 .1 .1 .0 in
     let G : ℕ → ℕ → Float = λ r j. rollDegIn (bodyAxes (directionOf p r)) (getD units (j - o .loop .from) []) (o .before .panel-of .result .angle) in
     let e : (r j : ℕ) → r < rowsOf p → o .loop .from ≤ j → j < o .loop .from + n → G r j ≡ F o r j = λ r j h l u.
     let q : o .loop .from + (j - o .loop .from) ≡ j = omega arith in
     ap (λ (unit : Vector). rollDegIn (bodyAxes (directionOf p r)) unit (o .before .panel-of .result .angle))
-    (ap (λ (x : List Vector). getD x (j - o .loop .from) []) (c .before .before .before .before .before .before .fill-units .ensures) ∙ getD-filled _ n _ [] (j - o .loop .from) (omega arith)
-    ∙ ap (λ (t : ℕ). sunUnit (triple (p .suns) t) (triple (p .observers) t)) q) in (
-      b .ensures .2,
+    (ap (λ (x : List Vector). getD x (j - o .loop .from) []) (filled-units (c .before .before .before .before .before .before)) ∙ getD-filled _ n _ [] (j - o .loop .from) (omega arith)
+    ∙ ap (sunAt p) q) in (
+      block (c .before .before .before .before .before .before .before .before) .within,
       search needs,
       columns-add (rowsOf p) (timesOf p) (F o) zero·0 (o .loop .from) n (now (a .values)) (o .loop .values) new (o .loop .inv .2)
           (columns-ext (rowsOf p) (timesOf p) (o .loop .from) n G zero·0 (rowsOf p) (F o) (o .loop .values) new e (c .before .before .value-block .ensures)),
@@ -113,9 +133,10 @@ write-values-spec =
     μ-loop
     panel-of-requires
     loop-holds
-    block-length-requires
-    slice-aggregate-fill-units
-    fill-units-requires
+    sub-smaller
+    smaller-requires
+    slice-aggregate-sun-units
+    sun-units-requires
     slice-aggregate-value-block
     value-block-requires
     add-from
