@@ -166,8 +166,8 @@ int64_t wilfnusk_field_of_regard_violated_at_roll(WILFNUSK_PLAN, uint64_t time, 
  * (clear + n * marked) to n * cells of its chunk.
  *
  * These calls take a buffer and how many of its bytes are used. begin, work and work_range write only the bytes that they add, from the
- * used length on; write the same bytes to the file. After a failure of power read the file, call recover, and shorten the file to the answer before
- * anything is written.
+ * used length on; write the same bytes to the file. After a power cut, read the file, call recover, and shorten the file to the answer
+ * before anything is written.
  */
 
 /* Writes the header into an empty journal. Answers the used length after it, 107.
@@ -212,8 +212,8 @@ typedef struct wilfnusk_window {
     uint64_t is_last;   /* the flag: 0 or 1 */
 } wilfnusk_window;
 
-/* Lists the longest runs of marked samples, in order. A window's severity is the largest of its samples'. A row of s samples has at most
- * (s + 1) / 2 of them. Answers their number.
+/* Lists the maximal runs of marked samples, in order: those with no marked sample directly before or after them. A window's severity is
+ * the largest of its samples'. A row of s samples has at most (s + 1) / 2 windows. Answers their number.
  * Refuses: -1 if mask, times and severities, or the six columns, are not equally long; -2; -8; -14; -7 if there are more windows than
  * places. */
 int64_t wilfnusk_violation_windows(const uint8_t *mask, size_t mask_len, const int64_t *times, size_t times_len,
@@ -221,8 +221,8 @@ int64_t wilfnusk_violation_windows(const uint8_t *mask, size_t mask_len, const i
                                    size_t last_len, int64_t *first_time, size_t first_time_len, int64_t *last_time,
                                    size_t last_time_len, double *severity, size_t severity_len, uint8_t *is_last, size_t is_last_len);
 
-/* Lists the longest runs of clear samples, in order: those of two samples or more, and one of any length that reaches the last sample.
- * Severities are 0. Answers their number.
+/* Lists the maximal runs of clear samples, in order: those of two samples or more, and one of any length that reaches the last sample.
+ * Severities are 0. A row of s samples has at most (s + 1) / 2 windows. Answers their number.
  * Refuses: -1 if mask and times, or the six columns, are not equally long; -2; -8; -14; -7 if there are more windows than places. */
 int64_t wilfnusk_visibility_windows(const uint8_t *mask, size_t mask_len, const int64_t *times, size_t times_len, uint64_t *first,
                                     size_t first_len, uint64_t *last, size_t last_len, int64_t *first_time, size_t first_time_len,
