@@ -144,8 +144,7 @@ impl Sweep {
     }
 }
 
-/// As many chunks as are worked out before their lines are written: the journal is checked once for all of them. They take some milliseconds, at
-/// 3,600 rolls a tenth of a second.
+/// As many chunks as are worked out before their lines are written: the journal is checked once for all of them.
 const AT_ONCE: u64 = 64;
 
 /// The chunks at the front of the list, as far as each follows the one before.
