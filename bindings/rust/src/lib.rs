@@ -1,4 +1,4 @@
-//! Solar roll, windows and the sweep journal, proved; here for Rust: slices in, `Result` out.
+//! Solar roll, windows and the sweep journal for Rust: slices in, `Result` out.
 //!
 //! Every answer is the proved library's own: this crate only passes slices on. A refused call leaves everything
 //! that it was lent unchanged and gives a [`Refusal`] with the number of the reason and its sentence.
@@ -96,6 +96,7 @@ impl Plan<'_> {
     pub fn in_constraint_batch(&self, mask: &mut [u8]) -> Result<(), Refusal> {
         with_plan!(self, Masks, wilfnusk_in_constraint_batch, mask.as_mut_ptr(), mask.len()).map(drop)
     }
+    /// The mask at this roll, or at the configured one where it stands in its place.
     pub fn in_constraint_batch_at_roll(&self, roll: Roll, mask: &mut [u8]) -> Result<(), Refusal> {
         let (fixed, degrees) = match roll {
             Roll::Sweep(r) => (0, r),
@@ -107,7 +108,7 @@ impl Plan<'_> {
     pub fn constrained_at_every_roll(&self, n: u64, mask: &mut [u8]) -> Result<(), Refusal> {
         with_plan!(self, Masks, wilfnusk_constrained_at_every_roll, n, mask.as_mut_ptr(), mask.len()).map(drop)
     }
-    /// One target's row: its mask and severities at the configured roll.
+    /// One target's row at the configured roll: its mask and severities; without one, all zero.
     pub fn evaluate(&self, target: u64, mask: &mut [u8], severities: &mut [f64]) -> Result<(), Refusal> {
         with_plan!(self, Row, wilfnusk_evaluate, target, mask.as_mut_ptr(), mask.len(), severities.as_mut_ptr(), severities.len()).map(drop)
     }
