@@ -26,6 +26,7 @@ eventOf (cut k) m = cuts k
 eventOf (recover x) m = recovers (length (m .journal ++ x))
 eventOf (collect x o) m = collects (length (m .journal ++ x)) (length o)
 
+-- a list of entries as the ledger is fed it, each on the machine that the one before left
 unfoldable pub events : Sweep → List Entry → Machine → List Event
 unfolding step
 events s [] m = []

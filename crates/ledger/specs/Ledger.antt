@@ -38,9 +38,12 @@ pub record Ledger : Type 0 where
   pub mark : Bool
   -- L, its oldest chunk first
   pub lines : List ℕ
+  -- what a cut left of a write, the header's or a line's, until recover drops it
   pub remnant : List ℕ
+  -- the write that a cut would cut: document 01 has it in "directly after an accepted begin or work"
   pub last : Write
 
+-- the ledger at first
 abbrev pub blank : Ledger
 blank = record { mark = false; lines = []; remnant = []; last = none }
 
@@ -141,10 +144,12 @@ unfoldable pub ledgerStep : Sweep → Event → Ledger → Ledger
 unfolding ledgerRefusal unlessRefused ledgerAccepts
 ledgerStep s v l = unlessRefused (ledgerRefusal s v l) (ledgerAccepts s v l) (idle l)
 
+-- the number that it is refused with, or its outcome
 unfoldable pub ledgerAnswer : Sweep → Event → Ledger → Reply Outcome
 unfolding ledgerRefusal reply ledgerOutcome
 ledgerAnswer s v l = reply (ledgerRefusal s v l) (ledgerOutcome s v)
 
+-- what each event answers, and J after it: what the machine's trace is compared with
 unfoldable pub ledgerTrace : Sweep → List Event → Ledger → List Seen
 unfolding ledgerAnswer ledgerJournal ledgerStep
 ledgerTrace s [] l = []

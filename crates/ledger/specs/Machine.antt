@@ -23,6 +23,7 @@ pub record Machine : Type 0 where
   pub journal : List ℕ
   pub added : ℕ
 
+-- the machine at first
 abbrev pub powerUp : Machine
 powerUp = record { journal = []; added = 0 }
 
@@ -54,6 +55,7 @@ journalAfter s (recover x) m =
     take (usedAfter (recoverReply s b u) u) b
 journalAfter s (collect x o) m = m .journal
 
+-- the machine after an entry
 unfoldable pub step : Sweep → Entry → Machine → Machine
 unfolding journalAfter
 step s e m = record { journal = journalAfter s e m; added = length (journalAfter s e m) - length (m .journal) }
@@ -86,6 +88,7 @@ pub record Seen : Type 0 where
   pub reply : Reply Outcome
   pub bytes : List ℕ
 
+-- what is seen after each entry of a list
 unfoldable pub trace : Sweep → List Entry → Machine → List Seen
 unfolding answer step
 trace s [] m = []
