@@ -4,9 +4,9 @@
  * Which targets a satellite may look at, at which times, and how far it may roll before its solar panel turns from the Sun; a roll sweep
  * that can be cut off at any byte of its journal and taken up again; and the windows that follow from it.
  *
- * Link libwilfnusk.a (`rt staticlib wilfnusk` writes it to target/staticlib/) and the C library's mathematics (-lm). It allocates nothing,
- * has no global state, reads and writes nothing but what it is lent, and always returns; a call needs up to 256 KiB of stack. Any number
- * of threads may call it at the same time.
+ * Link libwilfnusk.a, for x86-64 (`rt staticlib wilfnusk` writes it to target/staticlib/), and the C library's mathematics (-lm). It
+ * allocates nothing, has no global state, reads and writes nothing but what it is lent, and always returns; a call needs up to 256 KiB of
+ * stack. Any number of threads may call it at the same time.
  *
  *
  * ANSWERS
