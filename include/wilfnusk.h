@@ -238,7 +238,7 @@ int64_t wilfnusk_visibility_records(const uint8_t *mask, size_t mask_len, const 
 
 /* Marks the samples whose times lie in a window, ends included. Answers 0. For windows from wilfnusk_violation_windows and strictly
  * increasing times this gives the mask back. If times never fall, windows that ended before a sample are passed for good; if they do
- * fall, each sample looks at the windows from the first up to one that starts later. For windows that are out of order, or overlap, this
+ * fall, each sample looks at the windows from the first up to one that starts later. For windows whose first times are out of order this
  * can leave a sample clear that lies in one.
  * Refuses: -1 if first_time and last_time are not equally long; -2 if there are more than 65,536 windows or times; -8; -7 if mask_len is
  * below the number of times. */
