@@ -14,9 +14,9 @@ use Rattle.solar_roll.specs.Vectors.{Vector}
 use Rattle.solar_roll.specs.Cell.{inForce}
 use Rattle.solar_roll.specs.Plan.{Plan, timesOf, rowConfig, sunAt, cellOf, headConfigured, violatesAt}
 use Rattle.solar_roll.specs.declared.plan.SolarRollConfig.{SolarRollConfig}
-use Rattle.solar_roll.specs.declared.cell.ConfiguredRoll.the-variants.{Some}
+use Rattle.solar_roll.specs.declared.cell.ConfiguredRoll.the-variants.{None, Some}
 use Rattle.solar_roll.proofs.Cells.{roll-shared}
-use Rattle.roll_sweep.specs.Chunk.{cellViolated, violatedIn, unitsViolated, sweptBy}
+use Rattle.roll_sweep.specs.Chunk.{cellViolated, violatedAtRoll, violatedIn, unitsViolated, sweptBy}
 use Rattle.roll_sweep.proofs.Swept.{swept-ext}
 
 -- an entry of a table that stands in a list's first places
@@ -25,7 +25,7 @@ entry w f l d k e h = sym (getD-take w l k d h) ∙ ap (λ (t : List _). getD t 
 
 -- a cell of a plan: its row at its time
 pub cell-violated : (p : Plan) (rolls : List Float) (i k : ℕ) → cellViolated p rolls i k ≡ violatedIn (p .targets) (p .config) rolls (i / timesOf p) (sunAt p (i % timesOf p)) k
-unfolding cellViolated violatesAt violatedIn cellOf rowConfig headConfigured
+unfolding cellViolated violatesAt violatedIn violatedAtRoll cellOf rowConfig headConfigured
 cell-violated p rolls i k = rw roll-shared
 
 -- by a table of the Sun's units of all times
@@ -54,26 +54,31 @@ chunk-swept p rolls units c w few size u =
 pub row-swept : (targets : List Float) (config : SolarRollConfig) (rolls : List Float) (units : List Vector) (times first k m w : ℕ) → w ≡ m
     → (first + k) % times + m ≤ times → (first + k) % length units + m ≤ length units
     → let part : List Vector = take w (drop ((first + k) % length units) units) in
-    sweptBy (length part) (length rolls) (λ j. violatedIn targets config rolls ((first + k) / times) (getD part j []))
-    ≡ sweptBy m (length rolls) (λ j. violatedIn targets config rolls ((first + (k + j)) / times) (getD units ((first + (k + j)) % length units) []))
+    sweptBy (length part) (length rolls) (λ j s. violatedAtRoll targets config ((first + k) / times) (getD part j []) (getD rolls s nan))
+    ≡ sweptBy m (length rolls) (λ j s. violatedAtRoll targets config ((first + (k + j)) / times) (getD units ((first + (k + j)) % length units) []) (getD rolls s nan))
 row-swept targets config rolls units times first k m w e a b =
     let L : ℕ = length units in
     let i : ℕ = first + k in
     let start : ℕ = i % L in
     let part : List Vector = take w (drop start units) in
     let size : length part ≡ m = length-take-le w (drop start units) (omega (arith, length-drop start units)) ∙ e in
-    ap (λ (n : ℕ). sweptBy n (length rolls) (λ j. violatedIn targets config rolls (i / times) (getD part j []))) size
-    ∙ swept-ext m (length rolls) (λ j. violatedIn targets config rolls (i / times) (getD part j [])) (λ j. violatedIn targets config rolls ((first + (k + j)) / times) (getD units ((first + (k + j)) % L) []))
+    ap (λ (n : ℕ). sweptBy n (length rolls) (λ j s. violatedAtRoll targets config (i / times) (getD part j []) (getD rolls s nan))) size
+    ∙ swept-ext m (length rolls) (λ j s. violatedAtRoll targets config (i / times) (getD part j []) (getD rolls s nan)) (λ j s. violatedAtRoll targets config ((first + (k + j)) / times) (getD units ((first + (k + j)) % L) []) (getD rolls s nan))
     (λ j s h g.
     let in-row : first + (k + j) ≡ i / times * times + (i % times + j) = omega (arith, div-add-mod' i times) in
     let row : (first + (k + j)) / times ≡ i / times = ap (λ (n : ℕ). n / times) in-row ∙ cell-row times (i / times) (i % times + j) (omega arith) in
     let in-table : first + (k + j) ≡ i / L * L + (start + j) = omega (arith, div-add-mod' i L) in
     let place : (first + (k + j)) % L ≡ start + j = ap (λ (n : ℕ). n % L) in-table ∙ cell-time L (i / L) (start + j) (omega arith) in
     let unit : getD part j [] ≡ getD units (start + j) [] = getD-take w (drop start units) j [] (omega arith) ∙ getD-drop start units j [] in
-    ap₂ (λ (r : ℕ) (x : Vector). violatedIn targets config rolls r x s) (sym row) (unit ∙ ap (λ (n : ℕ). getD units n []) (sym place)))
+    ap₂ (λ (r : ℕ) (x : Vector). violatedAtRoll targets config r x (getD rolls s nan)) (sym row) (unit ∙ ap (λ (n : ℕ). getD units n []) (sym place)))
 
--- a configured roll stands for every sample, of any list
-pub configured-same : (targets : List Float) (config : SolarRollConfig) (c : Float) (rolls others : List Float) (r : ℕ) (unit : Vector) (k l : ℕ) → config .«roll_deg» ≡ Some c
-    → violatedIn targets config rolls r unit k ≡ violatedIn targets config others r unit l
+-- a configured roll stands for every sample; without one a sample is in force itself
+pub configured-same : (targets : List Float) (config : SolarRollConfig) (c : Float) (rolls : List Float) (r : ℕ) (unit : Vector) (k : ℕ) → config .«roll_deg» ≡ Some c
+    → violatedIn targets config rolls r unit k ≡ violatedAtRoll targets config r unit c
 unfolding violatedIn inForce
-configured-same targets config c rolls others r unit k l e = rw e
+configured-same targets config c rolls r unit k e = rw e
+
+pub unconfigured : (targets : List Float) (config : SolarRollConfig) (rolls : List Float) (r : ℕ) (unit : Vector) (k : ℕ) → config .«roll_deg» ≡ None
+    → violatedIn targets config rolls r unit k ≡ violatedAtRoll targets config r unit (getD rolls k nan)
+unfolding violatedIn inForce
+unconfigured targets config rolls r unit k e = rw e

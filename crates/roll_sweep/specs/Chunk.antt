@@ -23,12 +23,15 @@ unfoldable pub cellViolated : Plan → List Float → ℕ → ℕ → Bool
 unfolding violatesAt
 cellViolated p rolls i k = violatesAt p (i / timesOf p) (i % timesOf p) (getD rolls k nan)
 
--- sample k violates a cell of row r at a time with this unit of the Sun
+-- a cell of row r, at a time with this unit of the Sun, is violated at this roll
+unfoldable pub violatedAtRoll : List Float → SolarRollConfig → ℕ → Vector → Float → Bool
+violatedAtRoll targets config r unit roll =
+    violates (rollIn (bodyAxes (rowDirection targets r)) unit (panelOf (config .«panel_normal»))) roll (rowConfig config r .«tolerance_deg»)
+
+-- at sample k of the rolls
 unfoldable pub violatedIn : List Float → SolarRollConfig → List Float → ℕ → Vector → ℕ → Bool
-violatedIn targets config rolls r unit k =
-    violates (rollIn (bodyAxes (rowDirection targets r)) unit (panelOf (config .«panel_normal»)))
-    (inForce (SweepRoll (getD rolls k nan)) (config .«roll_deg»))
-    (rowConfig config r .«tolerance_deg»)
+unfolding violatedAtRoll
+violatedIn targets config rolls r unit k = violatedAtRoll targets config r unit (inForce (SweepRoll (getD rolls k nan)) (config .«roll_deg»))
 
 -- sample k violates cell i, where the Sun's units are given, one a time
 unfoldable pub unitsViolated : List Float → List Vector → SolarRollConfig → List Float → ℕ → ℕ → Bool

@@ -1,13 +1,11 @@
 // The sweep of one chunk of cells.
 use buffers::smaller;
 use solar_roll::ConfiguredRoll;
-use solar_roll::EvaluationRoll;
 use solar_roll::Panel;
 use solar_roll::SolarRollConfig;
 use solar_roll::body_axes;
 use solar_roll::direction;
 use solar_roll::free_or_at;
-use solar_roll::in_force;
 use solar_roll::panel_of;
 use solar_roll::rolls_deg_in;
 use solar_roll::row_config;
@@ -23,10 +21,10 @@ ghost use lib.ListN.{length, getD, take};
 ghost use lib.Ieee.{nan};
 ghost use Rattle.buffers.specs.Ranges.{tab};
 ghost use Rattle.solar_roll.specs.Roll.{sunUnit};
-ghost use Rattle.solar_roll.specs.Cell.{rollIn, violates, inForce};
+ghost use Rattle.solar_roll.specs.Cell.{rollIn, violates};
 ghost use Rattle.solar_roll.specs.Plan.{planOf, triple, count};
 ghost use Rattle.roll_sweep.specs.Sweep.{cellsIn};
-ghost use Rattle.roll_sweep.specs.Chunk.{cellViolated, violatedIn, unitsViolated, sweptBy, chunkRefusal, chunkReply, sweptReply};
+ghost use Rattle.roll_sweep.specs.Chunk.{cellViolated, violatedAtRoll, violatedIn, unitsViolated, sweptBy, chunkRefusal, chunkReply, sweptReply};
 
 // What the sweep of cells gives: bit k of the mask is cell k, set where every sample violates it;
 // probes is how many samples were tried.
@@ -77,17 +75,16 @@ fn chunk_units(suns: &[f64], observers: &[f64], first: usize, cells: usize) -> [
 }
 
 // Sweeps cells of one row, a cell for each of the Sun's units: their optimal rolls are worked out side
-// by side; then the samples of each are tried in turn, up to the first clear one.
+// by side; then the rolls are tried on each in turn, up to the first at which it is clear.
 fn sweep_row(
     axes: [[f64; 3]; 3],
     units: &[[f64; 3]],
     panel: Panel,
-    configured: ConfiguredRoll,
     tolerance_deg: f64,
     rolls: &[f64],
 ) -> Swept
     requires { ⌜ (length (now units) ≤ 64) × (length (now rolls) ≤ 3600) ⌝ }
-    ensures { λ r. ⌜ r ≡ sweptBy (length (now (units .entry))) (length (now (rolls .entry))) (λ k s. violates (rollIn axes (getD (now (units .entry)) k []) panel) (inForce (EvaluationRoll.Sweep (getD (now (rolls .entry)) s nan)) configured) «tolerance_deg») ⌝ }
+    ensures { λ r. ⌜ r ≡ sweptBy (length (now (units .entry))) (length (now (rolls .entry))) (λ k s. violates (rollIn axes (getD (now (units .entry)) k []) panel) (getD (now (rolls .entry)) s nan) «tolerance_deg») ⌝ }
 {
     let mut optimal = [0.0; 64];
     rolls_deg_in(axes, units, panel.angle, &mut optimal);
@@ -99,8 +96,7 @@ fn sweep_row(
         let cell = free_or_at(axes, unit, panel, best);
         'rolls: for s in 0..rolls.len() {
             probes += 1;
-            let sample = rolls[s];
-            let roll = in_force(EvaluationRoll::Sweep(sample), configured);
+            let roll = rolls[s];
             if !violated(cell, roll, tolerance_deg) {
                 continue 'cells;
             }
@@ -110,8 +106,8 @@ fn sweep_row(
     Swept { mask, probes }
 }
 
-// Sweeps `cells` cells from number `first` on, row by row, so that a row's axes are worked out once. The Sun's unit of
-// cell i is entry i % L of a table of L units: of all times, or of one chunk's 64 cells.
+// Sweeps `cells` cells from number `first` on over rolls that are in force, row by row, so that a row's axes are worked
+// out once. The Sun's unit of cell i is entry i % L of a table of L units: of all times, or of one chunk's 64 cells.
 fn sweep_cells(
     targets: &[f64],
     times: usize,
@@ -122,11 +118,10 @@ fn sweep_cells(
     cells: usize,
 ) -> Swept
     requires { ⌜ (cells ≤ 64) × (length (now rolls) ≤ 3600) × (0 < times) × (times ≤ 65536) × (0 < length (now units)) × (first + cells ≤ 1048576) ⌝ }
-    ensures { λ r. ⌜ r ≡ sweptBy cells (length (now (rolls .entry))) (λ k. violatedIn (now (targets .entry)) config (now (rolls .entry)) ((first + k) / times) (getD (now (units .entry)) ((first + k) % length (now (units .entry))) [])) ⌝ }
+    ensures { λ r. ⌜ r ≡ sweptBy cells (length (now (rolls .entry))) (λ k s. violatedAtRoll (now (targets .entry)) config ((first + k) / times) (getD (now (units .entry)) ((first + k) % length (now (units .entry))) []) (getD (now (rolls .entry)) s nan)) ⌝ }
 {
     let normal = config.panel_normal;
     let panel = panel_of(normal);
-    let configured = config.roll_deg;
     let mut mask: u64 = 0;
     let mut probes: u64 = 0;
     let mut k = 0;
@@ -141,7 +136,6 @@ fn sweep_cells(
             axes,
             &units[start..start + count],
             panel,
-            configured,
             settings.tolerance_deg,
             rolls,
         );
@@ -165,7 +159,7 @@ fn repeated(one: Swept, n: usize) -> Swept
     }
 }
 
-// The same. With a configured roll every sample is the same, and one is tried for all.
+// The same over samples. A configured roll stands for every sample, so it is tried once for all.
 fn sweep_samples(
     targets: &[f64],
     times: usize,
@@ -181,9 +175,9 @@ fn sweep_samples(
     let configured = config.roll_deg;
     match configured {
         ConfiguredRoll::None => sweep_cells(targets, times, units, config, rolls, first, cells),
-        ConfiguredRoll::Some(_) => {
-            let one = 1;
-            let tried = sweep_cells(targets, times, units, config, &rolls[..one], first, cells);
+        ConfiguredRoll::Some(roll_deg) => {
+            let one = [roll_deg];
+            let tried = sweep_cells(targets, times, units, config, &one, first, cells);
             repeated(tried, rolls.len())
         }
     }

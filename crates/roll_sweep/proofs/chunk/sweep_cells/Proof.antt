@@ -8,25 +8,25 @@ use native.Mathlib.Omega.{arith}
 use borrow.Author.Needs.{needs}
 use lib.ListN.{length, getD}
 use lib.Bits.{bitOr}
-use lib.Ieee.{Float}
+use lib.Ieee.{Float, nan}
 use Rattle.solar_roll.specs.Vectors.{Vector}
 use Rattle.solar_roll.specs.declared.plan.SolarRollConfig.{SolarRollConfig}
-use Rattle.roll_sweep.specs.Chunk.{violatedIn, sweptBy}
+use Rattle.roll_sweep.specs.Chunk.{violatedAtRoll, sweptBy}
 use Rattle.roll_sweep.proofs.Swept.{Upto, upto-zero, upto-whole, upto-le, upto-part}
 use Rattle.roll_sweep.proofs.Cells.{row-swept}
 use Rattle.roll_sweep.proofs.chunk.sweep_cells.Statement.{statement}
 use Rattle.roll_sweep.proofs.chunk.sweep_cells.Tie as tie
 
--- sample s violates the k-th cell
+-- the k-th cell is violated at roll s
 abbrev nth-violated : List Float → ℕ → List Vector → SolarRollConfig → List Float → ℕ → ℕ → ℕ → Bool
-nth-violated targets times units config rolls first k = violatedIn targets config rolls ((first + k) / times) (getD units ((first + k) % length units) [])
+nth-violated targets times units config rolls first k s = violatedAtRoll targets config ((first + k) / times) (getD units ((first + k) % length units) []) (getD rolls s nan)
 
 abbrev Inv-loop : tie.InvT-loop
-Inv-loop targets times units config rolls first cells panel configured mask₀ probes₀ k₀ mask probes k =
+Inv-loop targets times units config rolls first cells panel mask₀ probes₀ k₀ mask probes k =
     (k ≤ cells) × Upto (length rolls) (nth-violated targets times units config rolls first) k mask probes
 
 abbrev μ-loop : tie.MeasureT-loop
-μ-loop targets times units config rolls first cells panel configured mask₀ probes₀ k₀ mask probes k = cells - k
+μ-loop targets times units config rolls first cells panel mask₀ probes₀ k₀ mask probes k = cells - k
 
 -- the part of a row that is swept together
 record Part (i times table k cells m : ℕ) : Type 0 where
@@ -56,7 +56,7 @@ stepped : (c : tie.After-sweep-row Inv-loop μ-loop) →
     let m = c .before .before .before .before .before .smaller2 .result in
     Upto (length (a .rolls .now)) (nth-violated (a .targets .now) (a .times) (a .units .now) (a .config) (a .rolls .now) (a .first))
     (at .k + m) (bitOr (at .mask) ((c .sweep-row .result .mask * 2 ^ at .k) % 2 ^ 64)) (at .probes + c .sweep-row .result .probes)
-unfolding violatedIn
+unfolding violatedAtRoll
 stepped c =
     let a = c .before .before .before .before .before .before .before .before .before .before .before .before .before .args in
     let at = c .before .before .before .before .before .before .before .before .loop in

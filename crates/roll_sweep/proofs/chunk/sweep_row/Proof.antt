@@ -1,4 +1,4 @@
--- `sweep_row`: before cell k, mask and probes are those of the cells before it; before sample s of it, all samples before s violate it. Assumes nothing.
+-- `sweep_row`: before cell k, mask and probes are those of the cells before it; before roll s of it, it is violated at all rolls before s. Assumes nothing.
 use Prim.Native.Nat.{ℕ, _+_, _-_, _≤_, _<_}
 use mathlib.Core.Path.{_≡_, refl, sym, ap, _∙_}
 use mathlib.Core.Bool.{Bool, true}
@@ -14,32 +14,30 @@ use Rattle.buffers.proofs.Lent.{getD-filled}
 use Rattle.buffers.proofs.Ranges.{all-zero, all-next}
 use Rattle.solar_roll.specs.Vectors.{Vector}
 use Rattle.solar_roll.specs.Roll.{Axes, rollDegIn}
-use Rattle.solar_roll.specs.Cell.{rollIn, violates, inForce}
+use Rattle.solar_roll.specs.Cell.{rollIn, violates}
 use Rattle.solar_roll.specs.declared.roll.Panel.{Panel}
-use Rattle.solar_roll.specs.declared.cell.ConfiguredRoll.{ConfiguredRoll}
-use Rattle.solar_roll.specs.declared.cell.EvaluationRoll.the-variants.{Sweep}
 use Rattle.roll_sweep.proofs.Swept.{Upto, upto-zero, upto-whole, upto-le, upto-clear, upto-marked}
 use Rattle.roll_sweep.proofs.chunk.sweep_row.Statement.{statement}
 use Rattle.roll_sweep.proofs.chunk.sweep_row.Tie as tie
 
--- sample s violates the row's cell k
-abbrev row-violated : Axes → List Vector → Panel → ConfiguredRoll → Float → List Float → ℕ → ℕ → Bool
-row-violated axes units panel configured tolerance rolls k s = violates (rollIn axes (getD units k []) panel) (inForce (Sweep (getD rolls s nan)) configured) tolerance
+-- the row's cell k is violated at roll s
+abbrev row-violated : Axes → List Vector → Panel → Float → List Float → ℕ → ℕ → Bool
+row-violated axes units panel tolerance rolls k s = violates (rollIn axes (getD units k []) panel) (getD rolls s nan) tolerance
 
 abbrev Inv-rolls : tie.InvT-rolls
-Inv-rolls axes units panel configured tolerance-deg rolls optimal mask probes₀ k₀ best cell s₀ k-end s-end probes k s =
+Inv-rolls axes units panel tolerance-deg rolls optimal mask probes₀ k₀ best cell s₀ k-end s-end probes k s =
     (k ≡ k₀) × (s ≤ length rolls) × (s-end ≡ length rolls) × (probes ≡ probes₀ + s)
-    × (allBelow s (row-violated axes units panel configured tolerance-deg rolls k₀) ≡ true)
+    × (allBelow s (row-violated axes units panel tolerance-deg rolls k₀) ≡ true)
 
 abbrev μ-rolls : tie.MeasureT-rolls
-μ-rolls axes units panel configured tolerance-deg rolls optimal mask probes₀ k₀ best cell s₀ k-end s-end probes k s = s-end - s
+μ-rolls axes units panel tolerance-deg rolls optimal mask probes₀ k₀ best cell s₀ k-end s-end probes k s = s-end - s
 
 abbrev Inv-cells : tie.InvT-cells
-Inv-cells axes units panel configured tolerance-deg rolls optimal mask₀ probes₀ k₀ k-end mask probes k =
-    (k ≤ length units) × (k-end ≡ length units) × Upto (length rolls) (row-violated axes units panel configured tolerance-deg rolls) k mask probes
+Inv-cells axes units panel tolerance-deg rolls optimal mask₀ probes₀ k₀ k-end mask probes k =
+    (k ≤ length units) × (k-end ≡ length units) × Upto (length rolls) (row-violated axes units panel tolerance-deg rolls) k mask probes
 
 abbrev μ-cells : tie.MeasureT-cells
-μ-cells axes units panel configured tolerance-deg rolls optimal mask₀ probes₀ k₀ k-end mask probes k = k-end - k
+μ-cells axes units panel tolerance-deg rolls optimal mask₀ probes₀ k₀ k-end mask probes k = k-end - k
 
 -- the optimal roll of a cell
 optimal-at : (c : tie.After-unit Inv-rolls μ-rolls Inv-cells μ-cells) →
@@ -50,16 +48,16 @@ optimal-at c =
     let k = c .before .before .cells .k in
     ap (λ (l : List Float). getD l k nan) (c .before .before .before .before .rolls-deg-in .ensures) ∙ getD-filled _ _ _ nan k (omega arith)
 
--- what `violated` answers says whether the sample violates the cell
+-- what `violated` answers says so
 at-sample : (c : tie.After-violated Inv-rolls μ-rolls Inv-cells μ-cells) →
-    let a = c .before .before .before .before .before .before .before .before .before .before .before .before .before .args in
-    row-violated (a .axes) (a .units .now) (a .panel) (a .configured) (a .tolerance-deg) (a .rolls .now)
-    (c .before .before .before .before .before .before .before .before .cells .k) (c .before .before .before .before .rolls .s)
+    let a = c .before .before .before .before .before .before .before .before .before .before .before .before .args in
+    row-violated (a .axes) (a .units .now) (a .panel) (a .tolerance-deg) (a .rolls .now)
+    (c .before .before .before .before .before .before .before .cells .k) (c .before .before .before .rolls .s)
     ≡ c .violated .result
 unfolding rollIn
 at-sample c =
-    let f = c .before .before .before .before .before in
-    rw (← optimal-at (f .before), ← f .free-or-at .ensures, ← c .before .in-force .ensures) (sym (c .violated .ensures))
+    let f = c .before .before .before .before in
+    rw (← optimal-at (f .before), ← f .free-or-at .ensures) (sym (c .violated .ensures))
 
 slice-aggregate-rolls-deg-in : tie.Need-slice-aggregate-rolls-deg-in Inv-rolls μ-rolls Inv-cells μ-cells
 slice-aggregate-rolls-deg-in c = search needs
@@ -96,14 +94,11 @@ add-probes c =
     let few : length (a .rolls .now) ≤ 3600 = omega arith in
     record { fits = omega (arith, upto-le _ _ (out .inv .2), mul-le-mul k64 few) }
 
-mul-sample : tie.Need-mul-sample Inv-rolls μ-rolls Inv-cells μ-cells
-mul-sample c = search needs
+mul-roll : tie.Need-mul-roll Inv-rolls μ-rolls Inv-cells μ-cells
+mul-roll c = search needs
 
-shared-slice-read-sample : tie.Need-shared-slice-read-sample Inv-rolls μ-rolls Inv-cells μ-cells
-shared-slice-read-sample c = search needs
-
-in-force-requires : tie.Need-in-force-requires Inv-rolls μ-rolls Inv-cells μ-cells
-in-force-requires c κs = search needs
+shared-slice-read-roll : tie.Need-shared-slice-read-roll Inv-rolls μ-rolls Inv-cells μ-cells
+shared-slice-read-roll c = search needs
 
 violated-requires : tie.Need-violated-requires Inv-rolls μ-rolls Inv-cells μ-cells
 violated-requires c κs = search needs
@@ -116,9 +111,9 @@ cells-less c = search needs
 
 cells-again : tie.Need-cells-again Inv-rolls μ-rolls Inv-cells μ-cells
 cells-again c =
-    let at = c .before .before .before .before .before .rolls in
-    let out = c .before .before .before .before .before .before .before .before .before .cells in
-    let h = c .before .before .before .before .rolls-test .taken in
+    let at = c .before .before .before .before .rolls in
+    let out = c .before .before .before .before .before .before .before .before .cells in
+    let h = c .before .before .before .rolls-test .taken in
     let e = at-sample (c .before) ∙ not-true _ (c .if1 .taken) in
     rw (at .inv .0) (omega arith, refl, upto-clear _ _ (at .s) _ (out .inv .2) h (at .inv .4) e (omega arith))
 
@@ -130,7 +125,7 @@ rolls-less c = search needs
 
 rolls-again : tie.Need-rolls-again Inv-rolls μ-rolls Inv-cells μ-cells
 rolls-again c =
-    let at = c .before .before .before .before .before .rolls in
+    let at = c .before .before .before .before .rolls in
     let e = at-sample (c .before) ∙ not-false _ (c .if1 .left) in
     (at .inv .0, omega arith, refl, omega arith, all-next _ _ (at .inv .4) e)
 
@@ -175,9 +170,8 @@ sweep-row-spec =
     free-or-at-requires
     rolls-holds
     add-probes
-    mul-sample
-    shared-slice-read-sample
-    in-force-requires
+    mul-roll
+    shared-slice-read-roll
     violated-requires
     add-k
     cells-less

@@ -1,33 +1,28 @@
--- `sweep_samples`: with a configured roll one sample decides for all. Assumes nothing.
+-- `sweep_samples`: a configured roll, tried once, decides for every sample. Assumes nothing.
 use Prim.Native.Nat.{ℕ, _+_, _/_, _%_}
-use mathlib.Core.Path.{_≡_, sym, ap, _∙_}
+use mathlib.Core.Path.{_≡_, sym, _∙_}
 use mathlib.Core.Bool.{Bool}
-use mathlib.Core.List.{List, []}
-use native.Mathlib.Omega.{arith}
+use mathlib.Core.List.{List, [], _∷_}
 use borrow.Author.Needs.{needs}
-use lib.ListN.{length, getD, take}
-use lib.Ieee.{Float}
-use lib.Seq.{length-take-le}
-use Rattle.roll_sweep.specs.Chunk.{violatedIn, sweptBy}
-use Rattle.roll_sweep.proofs.Swept.{swept-same, one-each}
-use Rattle.roll_sweep.proofs.Cells.{configured-same}
+use lib.ListN.{length, getD}
+use lib.Ieee.{Float, nan}
+use Rattle.roll_sweep.specs.Chunk.{violatedAtRoll, violatedIn}
+use Rattle.roll_sweep.proofs.Swept.{swept-ext, swept-same, one-each}
+use Rattle.roll_sweep.proofs.Cells.{configured-same, unconfigured}
 use Rattle.roll_sweep.proofs.chunk.sweep_samples.Statement.{statement}
 use Rattle.roll_sweep.proofs.chunk.sweep_samples.Tie as tie
 
--- sample s of a list violates the k-th cell
-abbrev nth-violated : tie.Start → List Float → ℕ → ℕ → Bool
-nth-violated x rolls k =
+-- sample s violates the k-th cell
+abbrev nth-violated : tie.Start → ℕ → ℕ → Bool
+nth-violated x k =
     let a = x .args in
-    violatedIn (a .targets .now) (a .config) rolls ((a .first + k) / a .times) (getD (a .units .now) ((a .first + k) % length (a .units .now)) [])
+    violatedIn (a .targets .now) (a .config) (a .rolls .now) ((a .first + k) / a .times) (getD (a .units .now) ((a .first + k) % length (a .units .now)) [])
 
--- the part of one roll
-one-roll : (x : tie.Start) → length (take 1 (x .args .rolls .now)) ≡ 1
-one-roll x = length-take-le 1 (x .args .rolls .now) (x .pre .6)
-
-one-swept : (c : tie.After-sweep-cells2) → c .sweep-cells2 .result ≡ sweptBy (c .before .before .before .before .before .before .args .cells) 1 (nth-violated (c .before .before .before .before .before .before) (take 1 (c .before .before .before .before .before .before .args .rolls .now)))
-one-swept c =
-    let x = c .before .before .before .before .before .before in
-    c .sweep-cells2 .ensures ∙ ap (λ (n : ℕ). sweptBy (x .args .cells) n (nth-violated x (take 1 (x .args .rolls .now)))) (one-roll x)
+-- it is violated at roll s of a list
+abbrev at-roll : tie.Start → List Float → ℕ → ℕ → Bool
+at-roll x rolls k s =
+    let a = x .args in
+    violatedAtRoll (a .targets .now) (a .config) ((a .first + k) / a .times) (getD (a .units .now) ((a .first + k) % length (a .units .now)) []) (getD rolls s nan)
 
 enum-told : tie.Need-enum-told
 enum-told c = search needs
@@ -35,33 +30,34 @@ enum-told c = search needs
 sweep-cells-requires : tie.Need-sweep-cells-requires
 sweep-cells-requires c κs = search needs
 
-enum-told-2 : tie.Need-enum-told-2
-enum-told-2 c = search needs
+enum-known-configured : tie.Need-enum-known-configured
+enum-known-configured c = search needs
 
 slice-aggregate-sweep-cells : tie.Need-slice-aggregate-sweep-cells
-slice-aggregate-sweep-cells c = sym (one-roll (c .before .before .before .before .before))
+slice-aggregate-sweep-cells c = search needs
 
 sweep-cells-requires-2 : tie.Need-sweep-cells-requires-2
-sweep-cells-requires-2 c κs =
-    let p = c .before .before .before .before .before .pre in
-    (p .0, omega (arith, one-roll (c .before .before .before .before .before)), p .2, p .3, p .4, p .5)
+sweep-cells-requires-2 c κs = search needs
 
 repeated-requires : tie.Need-repeated-requires
 repeated-requires c κs =
-    let x = c .before .before .before .before .before .before in
-    (x .pre .6, x .pre .1, one-each (x .args .cells) _ (c .sweep-cells2 .result) (x .pre .0) (one-swept c))
+    let x = c .before .before .before .before .before .before .before in
+    (x .pre .6, x .pre .1, one-each (x .args .cells) _ (c .sweep-cells2 .result) (x .pre .0) (c .sweep-cells2 .ensures))
 
 returns : tie.Need-returns
-returns c = search needs
+returns c =
+    let x = c .before .before .before .before .before in
+    c .sweep-cells .ensures
+    ∙ swept-ext (x .args .cells) (length (x .args .rolls .now)) (at-roll x (x .args .rolls .now)) (nth-violated x)
+    (λ k s h g. sym (unconfigured (x .args .targets .now) (x .args .config) (x .args .rolls .now) _ _ s (c .before .enum-told .given .1)))
 
 returns-2 : tie.Need-returns-2
 returns-2 c =
-    let x = c .before .before .before .before .before .before .before in
-    let a = x .args in
-    let r : List Float = a .rolls .now in
-    swept-same (a .cells) (length r) (nth-violated x r) (nth-violated x (take 1 r)) (c .before .sweep-cells2 .result) (c .repeated .result) (x .pre .6)
-    (λ k s. configured-same (a .targets .now) (a .config) _ r (take 1 r) ((a .first + k) / a .times) _ s 0 (c .before .before .before .enum-told2 .given .1))
-    (one-swept (c .before)) (c .repeated .ensures .0) (c .repeated .ensures .1)
+    let x = c .before .before .before .before .before .before .before .before in
+    let roll = c .before .before .before .before .configured .given .0 .0 in
+    swept-same (x .args .cells) (length (x .args .rolls .now)) (nth-violated x) (at-roll x (roll ∷ [])) (c .before .sweep-cells2 .result) (c .repeated .result) (x .pre .6)
+    (λ k s. configured-same (x .args .targets .now) (x .args .config) roll (x .args .rolls .now) _ _ s (c .before .before .before .before .configured .given .1))
+    (c .before .sweep-cells2 .ensures) (c .repeated .ensures .0) (c .repeated .ensures .1)
 
 pub sweep-samples-spec : {M : Type 1} → statement M
 sweep-samples-spec =
@@ -69,7 +65,7 @@ sweep-samples-spec =
     (tie.spec
     enum-told
     sweep-cells-requires
-    enum-told-2
+    enum-known-configured
     slice-aggregate-sweep-cells
     sweep-cells-requires-2
     repeated-requires
