@@ -103,7 +103,8 @@ fn append_swept(
     chunk
 }
 
-// Whether a table of the Sun's units of all times pays: it has room for them, and there are more cells than times to sweep.
+// Whether a table of the Sun's units of all times pays: it has room for them, and there are cells enough that use one again. 8 chunks pay for
+// blanking it.
 fn pays(times: usize, from: u64, to: u64) -> bool
     ensures { λ r. ⌜ (r ≡ true → times ≤ 8784) ⌝ }
 {
@@ -113,8 +114,8 @@ fn pays(times: usize, from: u64, to: u64) -> bool
     if to <= from {
         return false;
     }
-    let whole = (times / 64) as u64;
-    whole < to - from
+    let paid = times / 64 + 8;
+    (paid as u64) < to - from
 }
 
 // The same, by such a table: of the hours of a year at most, 206 KB.
