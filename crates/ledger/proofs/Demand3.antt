@@ -25,7 +25,7 @@ use Rattle.roll_sweep.proofs.Rows.{row-part}
 use Rattle.journal.specs.Plan.{sweepOf}
 use Rattle.journal.proofs.Planned.{samples-n}
 use Rattle.windows.specs.Windows.{Columns, violationWindows, visibilityWindows}
-use Rattle.windows.specs.Refusal.{noMark, noSeverity}
+use Rattle.windows.specs.Refusal.{badMark, badSeverity}
 use Rattle.windows.specs.Calls.{violationReply, visibilityReply}
 use Rattle.ledger.specs.Machine.{Entry, collect, gathered, answer}
 use Rattle.ledger.specs.Ledger.{Ledger, blank, ledgerJournal}
@@ -82,11 +82,11 @@ module _ (p : Plan) (n : ℕ) where
   length-row : (i : ℕ) → i < rowsOf p → length (rowPart (timesOf p) i (sweepMask (sweepOf p n))) ≡ timesOf p
   length-row i h = ap length (row-of i h) ∙ length-tab (timesOf p) (λ j. flag (marked (sweepOf p n) (i * timesOf p + j)))
 
-  row-marks : (i : ℕ) → i < rowsOf p → any noMark (rowPart (timesOf p) i (sweepMask (sweepOf p n))) ≡ false
-  unfolding noMark
+  row-marks : (i : ℕ) → i < rowsOf p → any badMark (rowPart (timesOf p) i (sweepMask (sweepOf p n))) ≡ false
+  unfolding badMark
   row-marks i h =
-      ap (any noMark) (row-of i h)
-      ∙ any-tab noMark (timesOf p) (λ j. flag (marked (sweepOf p n) (i * timesOf p + j))) (λ j l. le-ltb 1 (flag (marked (sweepOf p n) (i * timesOf p + j))) (flag-le (marked (sweepOf p n) (i * timesOf p + j))))
+      ap (any badMark) (row-of i h)
+      ∙ any-tab badMark (timesOf p) (λ j. flag (marked (sweepOf p n) (i * timesOf p + j))) (λ j l. le-ltb 1 (flag (marked (sweepOf p n) (i * timesOf p + j))) (flag-le (marked (sweepOf p n) (i * timesOf p + j))))
 
   -- what is to be shown of an accepted collect, for the sweep's mask and probes
   collected : (times : List ℤ) → Times (timesOf p) times → Collected p n times (sweepMask (sweepOf p n)) (sweepProbes (sweepOf p n))
@@ -139,8 +139,8 @@ module _ (p : Plan) (n : ℕ) (plan : planRefusal p (samplingOf n) false ≡ 0) 
     part-length : length (rowPart (timesOf p) i m) ≡ timesOf p
     part-length = ap (λ (k : List ℕ). length (rowPart (timesOf p) i k)) mask-is ∙ length-row p n i g
 
-    part-marks : any noMark (rowPart (timesOf p) i m) ≡ false
-    part-marks = ap (λ (k : List ℕ). any noMark (rowPart (timesOf p) i k)) mask-is ∙ row-marks p n i g
+    part-marks : any badMark (rowPart (timesOf p) i m) ≡ false
+    part-marks = ap (λ (k : List ℕ). any badMark (rowPart (timesOf p) i k)) mask-is ∙ row-marks p n i g
 
     few : length (rowPart (timesOf p) i m) ≤ 65536
     few = omega (arith, part-length, few-times p n plan)
@@ -148,7 +148,7 @@ module _ (p : Plan) (n : ℕ) (plan : planRefusal p (samplingOf n) false ≡ 0) 
     room-for : places room ((length (rowPart (timesOf p) i m) + 1) / 2)
     room-for = subst (λ (k : ℕ). places room ((k + 1) / 2)) (sym part-length) enough
 
-    pub row-violations : (severities : List Float) → length severities ≡ timesOf p → any noSeverity severities ≡ false
+    pub row-violations : (severities : List Float) → length severities ≡ timesOf p → any badSeverity severities ≡ false
         → violationReply (rowPart (timesOf p) i m) times severities room ≡ accepted (length (violationWindows (rowPart (timesOf p) i m) times severities))
     row-violations severities rated fine =
         violations-accepted (rowPart (timesOf p) i m) times (t .each ∙ sym part-length) few part-marks (t .in-range) room room-for severities (rated ∙ sym part-length) fine

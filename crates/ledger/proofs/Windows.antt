@@ -17,7 +17,7 @@ use Rattle.buffers.proofs.Refusal.{reply-none, reply-accepted, written-none}
 use Rattle.windows.specs.Runs.{Run, run, violationRuns, visibilityRuns}
 use Rattle.windows.specs.Maximal.{is, Maximal, Visible, Exactly}
 use Rattle.windows.specs.Windows.{largest, windowOf, violationWindows, visibilityWindows, Columns, columns, written}
-use Rattle.windows.specs.Refusal.{beyond, noMark, noSeverity, differ, lengths, noRoom, windowsRefusal, violationRefusal, visibilityRefusal}
+use Rattle.windows.specs.Refusal.{beyond, badMark, badSeverity, differ, lengths, noRoom, windowsRefusal, violationRefusal, visibilityRefusal}
 use Rattle.windows.specs.Expand.{Increasing, spans, expanded, expandRefusal}
 use Rattle.windows.specs.Calls.{violationReply, violationColumns, visibilityReply, visibilityColumns, expandReply, expandMask}
 use Rattle.windows.specs.declared.Window.{Window}
@@ -94,8 +94,8 @@ row-windows times up part = record {
 abbrev pub places : Columns → ℕ → Type 0
 places c n = (differ (lengths c) ≡ false) × (n ≤ length (c .first))
 
-module _ (part : List ℕ) (times : List ℤ) (each : length times ≡ length part) (few : length part ≤ 65536) (bytes : any noMark part ≡ false) (in-range : any beyond times ≡ false) (room : Columns) (enough : places room ((length part + 1) / 2)) where
-  pub violations-accepted : (severities : List Float) → length severities ≡ length part → any noSeverity severities ≡ false
+module _ (part : List ℕ) (times : List ℤ) (each : length times ≡ length part) (few : length part ≤ 65536) (bytes : any badMark part ≡ false) (in-range : any beyond times ≡ false) (room : Columns) (enough : places room ((length part + 1) / 2)) where
+  pub violations-accepted : (severities : List Float) → length severities ≡ length part → any badSeverity severities ≡ false
       → violationReply part times severities room ≡ accepted (length (violationWindows part times severities))
   unfolding violationRefusal windowsRefusal differ noRoom lengths reply
   violations-accepted severities rated fine =

@@ -14,7 +14,7 @@ use lib.Signed.{ltZ}
 use borrow.Author.Tests.{lt-ltb, le-ltb, ltb-true, ltb-false}
 use Rattle.buffers.specs.Ranges.{flag, any}
 use Rattle.windows.specs.Runs.{Run, Open, shut, since, runsFrom, run, are, violationRuns}
-use Rattle.windows.specs.Refusal.{noMark}
+use Rattle.windows.specs.Refusal.{badMark}
 use Rattle.windows.specs.Expand.{Span, span, spans, Increasing, inOrder, skip, inFirst, sweep, look, expanded}
 use Rattle.windows.proofs.MaximalRuns.{From, Past, later, length-are}
 
@@ -152,12 +152,12 @@ ordered (t ∷ u ∷ ts) h =
     ap (λ (x : Bool). not x && inOrder (u ∷ ts)) (h 0 (omega arith))
     ∙ ordered (u ∷ ts) (λ k q. let e : suc (k + 1) ≡ suc k + 1 = omega arith in ap (λ (j : ℕ). ltZ (getD (t ∷ u ∷ ts) j (pos 0)) (getD (u ∷ ts) k (pos 0))) e ∙ h (suc k) (omega arith))
 
-marks-back : (m : List ℕ) → any noMark m ≡ false → map flag (are 1 m) ≡ m
-unfolding any noMark are
+marks-back : (m : List ℕ) → any badMark m ≡ false → map flag (are 1 m) ≡ m
+unfolding any badMark are
 marks-back [] e = refl
 marks-back (b ∷ m) e = go b (ltb 1 b) refl (marks-back m) e
   where
-    go : (b : ℕ) (x : Bool) → ltb 1 b ≡ x → (any noMark m ≡ false → map flag (are 1 m) ≡ m) → (x || any noMark m) ≡ false → flag (eqb b 1) ∷ map flag (are 1 m) ≡ b ∷ m
+    go : (b : ℕ) (x : Bool) → ltb 1 b ≡ x → (any badMark m ≡ false → map flag (are 1 m) ≡ m) → (x || any badMark m) ≡ false → flag (eqb b 1) ∷ map flag (are 1 m) ≡ b ∷ m
     go zero false p f e = ap (λ l. 0 ∷ l) (f e)
     go zero true p f e = absurd (true≢false e)
     go (suc zero) false p f e = ap (λ l. 1 ∷ l) (f e)
@@ -165,7 +165,7 @@ marks-back (b ∷ m) e = go b (ltb 1 b) refl (marks-back m) e
     go (suc (suc b)) true p f e = absurd (true≢false e)
     go (suc (suc b)) false p f e = let z : ⊥ = omega (arith, ltb-false 1 (suc (suc b)) p) in absurd z
 
-pub mask-back : (m : List ℕ) (times : List ℤ) → length times ≡ length m → any noMark m ≡ false → Increasing times
+pub mask-back : (m : List ℕ) (times : List ℤ) → length times ≡ length m → any badMark m ≡ false → Increasing times
     → expanded times (spans (map (λ (r : Run). getD times (r .first) (pos 0)) (violationRuns m)) (map (λ (r : Run). getD times (r .last) (pos 0)) (violationRuns m))) ≡ m
 unfolding expanded violationRuns
 mask-back m times l e up =

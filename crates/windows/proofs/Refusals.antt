@@ -15,7 +15,7 @@ use Rattle.buffers.specs.Refusal.{Conditions, first, Reply, refused, accepted, 
 use Rattle.buffers.proofs.Tests.{or-left, or-right}
 use Rattle.buffers.proofs.Ranges.{any-getD}
 use Rattle.buffers.proofs.Refusal.{first-clears}
-use Rattle.windows.specs.Refusal.{beyond, noMark, noSeverity, differ, noRoom, windowsConditions, windowsRefusal}
+use Rattle.windows.specs.Refusal.{beyond, badMark, badSeverity, differ, noRoom, windowsConditions, windowsRefusal}
 use Rattle.windows.specs.Expand.{expandConditions, expandRefusal}
 use Rattle.windows.specs.Seconds.{durationConditions, durationRefusal}
 use Rattle.windows.specs.Steps.{countOf}
@@ -32,8 +32,8 @@ pub record Accepted (uneven : Bool) (mask : List ℕ) (times : List ℤ) (severi
   pub even : uneven ≡ false
   pub few : length mask ≤ 65_536
   pub timely : any beyond times ≡ false
-  pub marks : any noMark mask ≡ false
-  pub rated : any noSeverity severities ≡ false
+  pub marks : any badMark mask ≡ false
+  pub rated : any badSeverity severities ≡ false
   pub room : short ≡ false
 
 pub windows-accepted : (uneven : Bool) (mask : List ℕ) (times : List ℤ) (severities : List Float) (short : Bool)
@@ -45,8 +45,8 @@ windows-accepted uneven mask times severities short e =
       even = c .0;
       few = ltb-false 65_536 (length mask) (c .1 .0);
       timely = c .1 .1 .0;
-      marks = or-left (any noMark mask) (any noSeverity severities) (c .1 .1 .1 .0);
-      rated = or-right (any noMark mask) (any noSeverity severities) (c .1 .1 .1 .0);
+      marks = or-left (any badMark mask) (any badSeverity severities) (c .1 .1 .1 .0);
+      rated = or-right (any badMark mask) (any badSeverity severities) (c .1 .1 .1 .0);
       room = c .1 .1 .1 .1 .0;
     }
 
@@ -103,15 +103,15 @@ module _ (uneven : Bool) (mask : List ℕ) (times : List ℤ) (severities : List
     unfolding windowsRefusal first
     refuses-8 t = rw (e, le-ltb 65_536 (length mask) h, t)
 
-    pub refuses-14 : any beyond times ≡ false → (any noMark mask || any noSeverity severities) ≡ true → why ≡ 14
+    pub refuses-14 : any beyond times ≡ false → (any badMark mask || any badSeverity severities) ≡ true → why ≡ 14
     unfolding windowsRefusal first
     refuses-14 t m = rw (e, le-ltb 65_536 (length mask) h, t, m)
 
-    pub refuses-7 : any beyond times ≡ false → (any noMark mask || any noSeverity severities) ≡ false → short ≡ true → why ≡ 7
+    pub refuses-7 : any beyond times ≡ false → (any badMark mask || any badSeverity severities) ≡ false → short ≡ true → why ≡ 7
     unfolding windowsRefusal first
     refuses-7 t m s = rw (e, le-ltb 65_536 (length mask) h, t, m, s)
 
-    pub accepts : any beyond times ≡ false → (any noMark mask || any noSeverity severities) ≡ false → short ≡ false → why ≡ 0
+    pub accepts : any beyond times ≡ false → (any badMark mask || any badSeverity severities) ≡ false → short ≡ false → why ≡ 0
     unfolding windowsRefusal first
     accepts t m s = rw (e, le-ltb 65_536 (length mask) h, t, m, s)
 

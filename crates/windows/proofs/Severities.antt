@@ -20,38 +20,38 @@ use borrow.Author.Tests.{le-leb, lt-leb, eq-eqb, ne-eqb, ltb-true, ltb-false, le
 use Rattle.float.specs.Arithmetic.{signBitOf, finite}
 use Rattle.windows.specs.Runs.{Run}
 use Rattle.windows.specs.Windows.{larger, largestFrom, largest}
-use Rattle.windows.specs.Refusal.{noSeverity}
+use Rattle.windows.specs.Refusal.{badSeverity}
 
 -- ---- by its bits: below those of infinity, a float is finite and its sign bit is clear
 
-pub of-nan : noSeverity nan ≡ true
-unfolding noSeverity finite
+pub of-nan : badSeverity nan ≡ true
+unfolding badSeverity finite
 of-nan = refl
 
-of-inf : (s : Bool) → noSeverity (inf s) ≡ true
-unfolding noSeverity finite
+of-inf : (s : Bool) → badSeverity (inf s) ≡ true
+unfolding badSeverity finite
 of-inf s = refl
 
-of-fin : (s : Bool) (m : ℕ) (e : _) → noSeverity (fin s m e) ≡ s
-unfolding noSeverity finite signBitOf
+of-fin : (s : Bool) (m : ℕ) (e : _) → badSeverity (fin s m e) ≡ s
+unfolding badSeverity finite signBitOf
 of-fin s m e = refl
 
-odd-sign : (d : ℕ) (s : Bool) (q k l : ℕ) → noSeverity (odd d s q k l) ≡ s
+odd-sign : (d : ℕ) (s : Bool) (q k l : ℕ) → badSeverity (odd d s q k l) ≡ s
 unfolding odd
 odd-sign d s zero k l = of-fin s _ _
 odd-sign d s (suc q) k l = of-fin s _ _
 
-either : (s : Bool) (b c : Bool) (x : Float) → noSeverity x ≡ s → noSeverity (cond b (cond c (inf s) nan) x) ≡ (s || b)
+either : (s : Bool) (b c : Bool) (x : Float) → badSeverity x ≡ s → badSeverity (cond b (cond c (inf s) nan) x) ≡ (s || b)
 either s true true x h = of-inf s ∙ sym (or-true s)
 either s true false x h = of-nan ∙ sym (or-true s)
 either s false c x h = h ∙ sym (or-false s)
 
-of-fields : (s : Bool) (x t : ℕ) → noSeverity (ofFields binary64 s x t) ≡ (s || eqb x 2047)
+of-fields : (s : Bool) (x t : ℕ) → badSeverity (ofFields binary64 s x t) ≡ (s || eqb x 2047)
 unfolding ofFields
 of-fields s zero t = odd-sign 53 s t 0 (low binary64) ∙ sym (or-false s)
 of-fields s (suc x) t = either s (eqb (suc x) 2047) (eqb t 0) (odd 53 s (hid binary64 + t) x (low binary64)) (odd-sign 53 s (hid binary64 + t) x (low binary64))
 
-of-bits : (n : ℕ) → noSeverity (ofBits binary64 n) ≡ (leb 0x8000_0000_0000_0000 n || eqb (n % 0x8000_0000_0000_0000 / 0x10_0000_0000_0000) 2047)
+of-bits : (n : ℕ) → badSeverity (ofBits binary64 n) ≡ (leb 0x8000_0000_0000_0000 n || eqb (n % 0x8000_0000_0000_0000 / 0x10_0000_0000_0000) 2047)
 unfolding ofBits
 of-bits n = of-fields (leb 0x8000_0000_0000_0000 n) (n % 0x8000_0000_0000_0000 / 0x10_0000_0000_0000) (n % 0x10_0000_0000_0000)
 
@@ -64,8 +64,8 @@ by-bits n = elim (decLe 0x8000_0000_0000_0000 n) [
   ]
 ]
 
-pub severity-bits : (x : Float) → T (fits binary64 x) → leb 0x7ff0_0000_0000_0000 (toBits binary64 x) ≡ noSeverity x
-severity-bits x f = by-bits (toBits binary64 x) ∙ sym (of-bits (toBits binary64 x)) ∙ ap noSeverity (ofBits-toBits binary64 x f)
+pub severity-bits : (x : Float) → T (fits binary64 x) → leb 0x7ff0_0000_0000_0000 (toBits binary64 x) ≡ badSeverity x
+severity-bits x f = by-bits (toBits binary64 x) ∙ sym (of-bits (toBits binary64 x)) ∙ ap badSeverity (ofBits-toBits binary64 x f)
 
 -- ---- a loop that looks for the largest: one sample more
 
@@ -86,10 +86,10 @@ largest-no xs s n i m e t h =
 -- ---- the largest: one of them, with none above it
 
 -- a severity is a finite float with a clear sign
-none : {X : Type 0} (x : Float) → noSeverity x ≡ true → noSeverity x ≡ false → X
+none : {X : Type 0} (x : Float) → badSeverity x ≡ true → badSeverity x ≡ false → X
 none x e g = absurd (true≢false (sym e ∙ g))
 
-not-above-itself : (x : Float) → noSeverity x ≡ false → Ieee.lt x x ≡ false
+not-above-itself : (x : Float) → badSeverity x ≡ false → Ieee.lt x x ≡ false
 unfolding Ieee.lt
 not-above-itself nan g = none nan of-nan g
 not-above-itself (inf s) g = none (inf s) (of-inf s) g
@@ -97,7 +97,7 @@ not-above-itself (fin true m e) g = none (fin true m e) (of-fin true m e) g
 not-above-itself (fin false m e) g = le-ltb (m * up e * down e) (m * up e * down e) (omega arith)
 
 -- what is not above p is not above what is above p
-still-not-above : (p x s : Float) → noSeverity p ≡ false → noSeverity x ≡ false → noSeverity s ≡ false → Ieee.lt p s ≡ false → Ieee.lt p x ≡ true → Ieee.lt x s ≡ false
+still-not-above : (p x s : Float) → badSeverity p ≡ false → badSeverity x ≡ false → badSeverity s ≡ false → Ieee.lt p s ≡ false → Ieee.lt p x ≡ true → Ieee.lt x s ≡ false
 unfolding Ieee.lt
 still-not-above nan x s g h k a b = none nan of-nan g
 still-not-above (inf u) x s g h k a b = none (inf u) (of-inf u) g
@@ -124,7 +124,7 @@ pub record Largest (xs : List Float) (s t : ℕ) (x : Float) : Type 0 where
 
 -- the samples s to t are severities
 abbrev pub Rated : List Float → ℕ → ℕ → Type 0
-Rated xs s t = (k : ℕ) → s ≤ k → k ≤ t → noSeverity (getD xs k nan) ≡ false
+Rated xs s t = (k : ℕ) → s ≤ k → k ≤ t → badSeverity (getD xs k nan) ≡ false
 
 from-first : (xs : List Float) (s n : ℕ) → Rated xs s (s + n) → Largest xs s (s + n) (largestFrom xs s n)
 unfolding largestFrom larger
@@ -146,7 +146,7 @@ from-first xs s (suc n) g = go (Ieee.lt (largestFrom xs s n) (getD xs (s + suc n
       most = λ k a b. ⊎-elim
           (λ p. ap (λ (j : ℕ). Ieee.lt (getD xs (s + suc n) nan) (getD xs j nan)) p ∙ not-above-itself (getD xs (s + suc n) nan) (g (s + suc n) (omega arith) (omega arith)))
           (λ q. still-not-above (largestFrom xs s n) (getD xs (s + suc n) nan) (getD xs k nan)
-          (ap noSeverity (r .is) ∙ g (r .at) (r .low) (omega (arith, r .high))) (g (s + suc n) (omega arith) (omega arith)) (g k a b) (r .most k a (omega arith)) e)
+          (ap badSeverity (r .is) ∙ g (r .at) (r .low) (omega (arith, r .high))) (g (s + suc n) (omega arith) (omega arith)) (g k a b) (r .most k a (omega arith)) e)
           (eq-or-lt-of-le b);
     }
     go false e r = record {

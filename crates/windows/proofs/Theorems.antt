@@ -21,7 +21,7 @@ use Rattle.float.specs.Arithmetic.{zero·0}
 use Rattle.windows.specs.Runs.{Run, run, are, violationRuns, visibilityRuns, starts}
 use Rattle.windows.specs.Maximal.{Maximal, Visible, Exactly, is}
 use Rattle.windows.specs.Windows.{largest, windowOf, violationWindows, visibilityWindows, Columns, written}
-use Rattle.windows.specs.Refusal.{beyond, noMark, noSeverity, differ, lengths, noRoom, windowsRefusal, violationRefusal, visibilityRefusal}
+use Rattle.windows.specs.Refusal.{beyond, badMark, badSeverity, differ, lengths, noRoom, windowsRefusal, violationRefusal, visibilityRefusal}
 use Rattle.windows.specs.Expand.{Span, spans, Increasing, expanded, constraintResultVisibility, expandRefusal}
 use Rattle.windows.specs.Seconds.{totalSeconds, floatSeconds, durationRefusal}
 use Rattle.windows.specs.declared.Window.{Window}
@@ -40,7 +40,7 @@ pub record ViolationWindows (mask : List ℕ) (times : List ℤ) (severities : L
   pub runs : Exactly (Maximal (is 1 mask)) (violationRuns mask)
   pub count : length (violationWindows mask times severities) ≡ starts false (are 1 mask)
   pub bound : length (violationWindows mask times severities) ≤ (length mask + 1) / 2
-  pub severity : length severities ≡ length mask → any noSeverity severities ≡ false → (r : Run) → List·Memᴰ r (violationRuns mask) → Largest severities (r .first) (r .last) (largest severities r)
+  pub severity : length severities ≡ length mask → any badSeverity severities ≡ false → (r : Run) → List·Memᴰ r (violationRuns mask) → Largest severities (r .first) (r .last) (largest severities r)
 
 pub violation-windows : (mask : List ℕ) (times : List ℤ) (severities : List Float) → ViolationWindows mask times severities
 unfolding violationWindows are
@@ -51,7 +51,7 @@ violation-windows mask times severities = record {
   bound = omega (arith, length-map (violationRuns mask) (windowOf times (largest severities)), violation-bound mask);
   severity = λ e g r h.
       let m = violation-runs mask .only r h in
-      severity-is-largest severities r (m .ordered) (λ k a b. any-getD noSeverity severities nan k g (omega (arith, within (are 1 mask) r m, length-are 1 mask)));
+      severity-is-largest severities r (m .ordered) (λ k a b. any-getD badSeverity severities nan k g (omega (arith, within (are 1 mask) r m, length-are 1 mask)));
 }
 
 -- ---- visibility windows
@@ -89,12 +89,12 @@ module _ (mask : List ℕ) (times : List ℤ) (severities : List Float) where
   last-times = map-map (λ (w : Window). w .«last_time») (windowOf times (largest severities)) (violationRuns mask)
 
   -- with strictly increasing times, expanding the violation windows of a mask gives the mask back
-  pub expand-gives-mask : length times ≡ length mask → any noMark mask ≡ false → Increasing times
+  pub expand-gives-mask : length times ≡ length mask → any badMark mask ≡ false → Increasing times
       → expanded times (spans (firstTimes (violationWindows mask times severities)) (lastTimes (violationWindows mask times severities))) ≡ mask
   expand-gives-mask l e up = rw (first-times, last-times) (mask-back mask times l e up)
 
   -- so `ConstraintResult`'s visibility windows, which are those of the expanded mask, are then those of the mask
-  pub constraint-result : length times ≡ length mask → any noMark mask ≡ false → Increasing times
+  pub constraint-result : length times ≡ length mask → any badMark mask ≡ false → Increasing times
       → constraintResultVisibility times (spans (firstTimes (violationWindows mask times severities)) (lastTimes (violationWindows mask times severities))) ≡ visibilityRuns mask
   unfolding constraintResultVisibility
   constraint-result l e up = ap visibilityRuns (expand-gives-mask l e up)

@@ -20,7 +20,7 @@ use mir.ValLaws.{toZ-ofZ}
 use borrow.Author.Tests.{le-leb, lt-leb, lt-ltb, le-ltb}
 use Rattle.buffers.specs.Ranges.{any}
 use Rattle.buffers.proofs.Ranges.{gather-hit, gather-miss}
-use Rattle.windows.specs.Refusal.{beyond, noSeverity}
+use Rattle.windows.specs.Refusal.{beyond, badSeverity}
 use Rattle.windows.specs.Steps.{topBit}
 use Rattle.windows.proofs.Severities.{of-nan, severity-bits}
 
@@ -49,8 +49,8 @@ join-next p l d i found n h e w = ap (λ (t : Bool). t || any p (drop (i + 1) l)
 
 -- ---- severities
 
-pub nan-top : (x : Float) → ne x x ≡ true → true ≡ noSeverity x
-nan-top x h = sym (ap noSeverity (differs-from-itself x (subst T (sym h) tt)) ∙ of-nan)
+pub nan-top : (x : Float) → ne x x ≡ true → true ≡ badSeverity x
+nan-top x h = sym (ap badSeverity (differs-from-itself x (subst T (sym h) tt)) ∙ of-nan)
 
 reached : (b : ℕ) → b < 0x1_0000_0000_0000_0000 → (topBit b || topBit ((b + 0x10_0000_0000_0000) % 0x1_0000_0000_0000_0000)) ≡ leb 0x7ff0_0000_0000_0000 b
 reached b h = elim (decLe 0x8000_0000_0000_0000 b) [
@@ -61,7 +61,7 @@ reached b h = elim (decLe 0x8000_0000_0000_0000 b) [
   ]
 ]
 
-pub severity-top : (x : Float) (n : ℕ) → T (fits binary64 x) → n ≡ (toBits binary64 x + 0x10_0000_0000_0000) % 2 ^ 64 → topBit (bitOr (toBits binary64 x) n) ≡ noSeverity x
+pub severity-top : (x : Float) (n : ℕ) → T (fits binary64 x) → n ≡ (toBits binary64 x + 0x10_0000_0000_0000) % 2 ^ 64 → topBit (bitOr (toBits binary64 x) n) ≡ badSeverity x
 severity-top x n f e =
     top-or (toBits binary64 x) n
     ∙ ap (λ (k : ℕ). topBit (toBits binary64 x) || topBit k) e

@@ -18,12 +18,12 @@ unfoldable pub beyond : ℤ → Bool
 beyond t = ltZ t (negsuc 3_999_999_999_999_999_999) || ltZ (pos 4_000_000_000_000_000_000) t
 
 -- a mask byte that is neither 0 nor 1
-unfoldable pub noMark : ℕ → Bool
-noMark b = ltb 1 b
+unfoldable pub badMark : ℕ → Bool
+badMark b = ltb 1 b
 
 -- a severity that is NaN, infinite, or has its sign bit set
-unfoldable pub noSeverity : Float → Bool
-noSeverity x = not (finite x) || signBitOf x
+unfoldable pub badSeverity : Float → Bool
+badSeverity x = not (finite x) || signBitOf x
 
 -- lengths that differ: one of them is not the first of them
 unfoldable pub differ : List ℕ → Bool
@@ -46,7 +46,7 @@ windowsConditions uneven mask times severities short =
     (uneven, 1)
     ∷ (ltb 65_536 (length mask), 2)
     ∷ (any beyond times, 8)
-    ∷ (any noMark mask || any noSeverity severities, 14)
+    ∷ (any badMark mask || any badSeverity severities, 14)
     ∷ (short, 7)
     ∷ []
 

@@ -14,9 +14,9 @@ ghost use Rattle.windows.specs.Calls.{violationReply, violationColumns, 
 ghost use Rattle.windows.specs.Steps.{severityOf, runsLeft, windowsLeft, Row, Room, stored, countOf};
 use crate::Listing;
 use crate::Window;
+use crate::refusal::any_bad_mark;
+use crate::refusal::any_bad_severity;
 use crate::refusal::any_beyond;
-use crate::refusal::any_no_mark;
-use crate::refusal::any_no_severity;
 use crate::refusal::differ_six;
 use crate::refusal::differ_three;
 use crate::refusal::differ_two;
@@ -217,10 +217,10 @@ fn answer_of(
     if any_beyond(times) {
         return Answer::Refused(8);
     }
-    if any_no_mark(mask) {
+    if any_bad_mark(mask) {
         return Answer::Refused(14);
     }
-    if any_no_severity(severities) {
+    if any_bad_severity(severities) {
         return Answer::Refused(14);
     }
     let count = count_runs(listing, mask);

@@ -5,7 +5,7 @@ ghost use mathlib.Core.Path.{_≡_};
 ghost use mathlib.Core.List.{[], _∷_};
 ghost use lib.Signed.{ltZ};
 ghost use Rattle.buffers.specs.Ranges.{any};
-ghost use Rattle.windows.specs.Refusal.{beyond, noMark, noSeverity, differ};
+ghost use Rattle.windows.specs.Refusal.{beyond, badMark, badSeverity, differ};
 ghost use Rattle.windows.specs.Steps.{topBit};
 use std::num::wrapping_add_u64;
 
@@ -28,8 +28,8 @@ fn beyond_bit(t: i64) -> u64
 
 // A number whose top bit is set if x is a NaN, infinite, or has its sign bit set. The bits of any other x are below those of
 // infinity, which are 2^63 - 2^52.
-fn no_severity_bit(x: f64) -> u64
-    ensures { λ r. ⌜ topBit r ≡ noSeverity x ⌝ }
+fn bad_severity_bit(x: f64) -> u64
+    ensures { λ r. ⌜ topBit r ≡ badSeverity x ⌝ }
 {
     if x != x {
         return 0xffff_ffff_ffff_ffff;
@@ -51,8 +51,8 @@ pub(crate) fn any_beyond(times: &[i64]) -> bool
     0x8000_0000_0000_0000 <= found
 }
 
-pub(crate) fn any_no_mark(mask: &[u8]) -> bool
-    ensures { λ r. ⌜ r ≡ any noMark (now (mask .entry)) ⌝ }
+pub(crate) fn any_bad_mark(mask: &[u8]) -> bool
+    ensures { λ r. ⌜ r ≡ any badMark (now (mask .entry)) ⌝ }
 {
     let mut found = false;
     let mut i = 0usize;
@@ -66,13 +66,13 @@ pub(crate) fn any_no_mark(mask: &[u8]) -> bool
     found
 }
 
-pub(crate) fn any_no_severity(severities: &[f64]) -> bool
-    ensures { λ r. ⌜ r ≡ any noSeverity (now (severities .entry)) ⌝ }
+pub(crate) fn any_bad_severity(severities: &[f64]) -> bool
+    ensures { λ r. ⌜ r ≡ any badSeverity (now (severities .entry)) ⌝ }
 {
     let mut found = 0u64;
     let mut i = 0usize;
     while i < severities.len() {
-        let bit = no_severity_bit(severities[i]);
+        let bit = bad_severity_bit(severities[i]);
         i += 1;
         found |= bit;
     }

@@ -51,21 +51,21 @@ returns-4 c =
     let s = c .before .before .before .before .before .before .before in
     refused-with 8 (why s) (runs s) (refuses-8 (uneven s) (s .args .mask .now) (s .args .times .now) (s .args .severities .now) (short s) (or-none _ _ (c .before .before .before .before .if1 .left) (c .before .before .before .if2 .left)) (c .before .before .if3 .left) (sym (c .before .any-beyond .ensures) ∙ c .if4 .taken)) (omega arith)
 
-any-no-mark-requires : tie.Need-any-no-mark-requires
-any-no-mark-requires c κs = tt
+any-bad-mark-requires : tie.Need-any-bad-mark-requires
+any-bad-mark-requires c κs = tt
 
 returns-5 : tie.Need-returns-5
 returns-5 c =
     let s = c .before .before .before .before .before .before .before .before .before in
-    refused-with 14 (why s) (runs s) (refuses-14 (uneven s) (s .args .mask .now) (s .args .times .now) (s .args .severities .now) (short s) (or-none _ _ (c .before .before .before .before .before .before .if1 .left) (c .before .before .before .before .before .if2 .left)) (c .before .before .before .before .if3 .left) (sym (c .before .before .before .any-beyond .ensures) ∙ c .before .before .if4 .left) (or-here _ _ (sym (c .before .any-no-mark .ensures) ∙ c .if5 .taken))) (omega arith)
+    refused-with 14 (why s) (runs s) (refuses-14 (uneven s) (s .args .mask .now) (s .args .times .now) (s .args .severities .now) (short s) (or-none _ _ (c .before .before .before .before .before .before .if1 .left) (c .before .before .before .before .before .if2 .left)) (c .before .before .before .before .if3 .left) (sym (c .before .before .before .any-beyond .ensures) ∙ c .before .before .if4 .left) (or-here _ _ (sym (c .before .any-bad-mark .ensures) ∙ c .if5 .taken))) (omega arith)
 
-any-no-severity-requires : tie.Need-any-no-severity-requires
-any-no-severity-requires c κs = tt
+any-bad-severity-requires : tie.Need-any-bad-severity-requires
+any-bad-severity-requires c κs = tt
 
 returns-6 : tie.Need-returns-6
 returns-6 c =
     let s = c .before .before .before .before .before .before .before .before .before .before .before in
-    refused-with 14 (why s) (runs s) (refuses-14 (uneven s) (s .args .mask .now) (s .args .times .now) (s .args .severities .now) (short s) (or-none _ _ (c .before .before .before .before .before .before .before .before .if1 .left) (c .before .before .before .before .before .before .before .if2 .left)) (c .before .before .before .before .before .before .if3 .left) (sym (c .before .before .before .before .before .any-beyond .ensures) ∙ c .before .before .before .before .if4 .left) (or-skip _ _ (sym (c .before .before .before .any-no-mark .ensures) ∙ c .before .before .if5 .left) ∙ sym (c .before .any-no-severity .ensures) ∙ c .if6 .taken)) (omega arith)
+    refused-with 14 (why s) (runs s) (refuses-14 (uneven s) (s .args .mask .now) (s .args .times .now) (s .args .severities .now) (short s) (or-none _ _ (c .before .before .before .before .before .before .before .before .if1 .left) (c .before .before .before .before .before .before .before .if2 .left)) (c .before .before .before .before .before .before .if3 .left) (sym (c .before .before .before .before .before .any-beyond .ensures) ∙ c .before .before .before .before .if4 .left) (or-skip _ _ (sym (c .before .before .before .any-bad-mark .ensures) ∙ c .before .before .if5 .left) ∙ sym (c .before .any-bad-severity .ensures) ∙ c .if6 .taken)) (omega arith)
 
 count-runs-requires : tie.Need-count-runs-requires
 count-runs-requires c κs = tt
@@ -73,12 +73,12 @@ count-runs-requires c κs = tt
 returns-7 : tie.Need-returns-7
 returns-7 c =
     let s = c .before .before .before .before .before .before .before .before .before .before .before .before .before in
-    refused-with 7 (why s) (runs s) (refuses-7 (uneven s) (s .args .mask .now) (s .args .times .now) (s .args .severities .now) (short s) (or-none _ _ (c .before .before .before .before .before .before .before .before .before .before .if1 .left) (c .before .before .before .before .before .before .before .before .before .if2 .left)) (c .before .before .before .before .before .before .before .before .if3 .left) (sym (c .before .before .before .before .before .before .before .any-beyond .ensures) ∙ c .before .before .before .before .before .before .if4 .left) (or-none _ _ (sym (c .before .before .before .before .before .any-no-mark .ensures) ∙ c .before .before .before .before .if5 .left) (sym (c .before .before .before .any-no-severity .ensures) ∙ c .before .before .if6 .left)) (lt-ltb _ _ (subst (λ (n : ℕ). s .args .places < n) (c .before .count-runs .ensures .0) (c .if7 .taken)))) (omega arith)
+    refused-with 7 (why s) (runs s) (refuses-7 (uneven s) (s .args .mask .now) (s .args .times .now) (s .args .severities .now) (short s) (or-none _ _ (c .before .before .before .before .before .before .before .before .before .before .if1 .left) (c .before .before .before .before .before .before .before .before .before .if2 .left)) (c .before .before .before .before .before .before .before .before .if3 .left) (sym (c .before .before .before .before .before .before .before .any-beyond .ensures) ∙ c .before .before .before .before .before .before .if4 .left) (or-none _ _ (sym (c .before .before .before .before .before .any-bad-mark .ensures) ∙ c .before .before .before .before .if5 .left) (sym (c .before .before .before .any-bad-severity .ensures) ∙ c .before .before .if6 .left)) (lt-ltb _ _ (subst (λ (n : ℕ). s .args .places < n) (c .before .count-runs .ensures .0) (c .if7 .taken)))) (omega arith)
 
 returns-8 : tie.Need-returns-8
 returns-8 c =
     let s = c .before .before .before .before .before .before .before .before .before .before .before .before .before in
-    accepted-with _ (why s) (runs s) (accepts (uneven s) (s .args .mask .now) (s .args .times .now) (s .args .severities .now) (short s) (or-none _ _ (c .before .before .before .before .before .before .before .before .before .before .if1 .left) (c .before .before .before .before .before .before .before .before .before .if2 .left)) (c .before .before .before .before .before .before .before .before .if3 .left) (sym (c .before .before .before .before .before .before .before .any-beyond .ensures) ∙ c .before .before .before .before .before .before .if4 .left) (or-none _ _ (sym (c .before .before .before .before .before .any-no-mark .ensures) ∙ c .before .before .before .before .if5 .left) (sym (c .before .before .before .any-no-severity .ensures) ∙ c .before .before .if6 .left)) (le-ltb _ _ (subst (λ (n : ℕ). n ≤ s .args .places) (c .before .count-runs .ensures .0) (c .if7 .left)))) (c .before .count-runs .ensures .0)
+    accepted-with _ (why s) (runs s) (accepts (uneven s) (s .args .mask .now) (s .args .times .now) (s .args .severities .now) (short s) (or-none _ _ (c .before .before .before .before .before .before .before .before .before .before .if1 .left) (c .before .before .before .before .before .before .before .before .before .if2 .left)) (c .before .before .before .before .before .before .before .before .if3 .left) (sym (c .before .before .before .before .before .before .before .any-beyond .ensures) ∙ c .before .before .before .before .before .before .if4 .left) (or-none _ _ (sym (c .before .before .before .before .before .any-bad-mark .ensures) ∙ c .before .before .before .before .if5 .left) (sym (c .before .before .before .any-bad-severity .ensures) ∙ c .before .before .if6 .left)) (le-ltb _ _ (subst (λ (n : ℕ). n ≤ s .args .places) (c .before .count-runs .ensures .0) (c .if7 .left)))) (c .before .count-runs .ensures .0)
 
 pub answer-of-spec : {M : Type 1} → statement M
 answer-of-spec =
@@ -89,9 +89,9 @@ answer-of-spec =
     returns-3
     any-beyond-requires
     returns-4
-    any-no-mark-requires
+    any-bad-mark-requires
     returns-5
-    any-no-severity-requires
+    any-bad-severity-requires
     returns-6
     count-runs-requires
     returns-7
