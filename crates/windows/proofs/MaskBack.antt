@@ -1,5 +1,5 @@
 -- With strictly increasing times, expanding the violation windows of a mask gives the mask back. In order: the order of times; where the runs lie; the
--- sweep over a row of samples; the row. Assumes nothing.
+-- expansion, time by time; the row. Assumes nothing.
 use Prim.Native.Nat.{ℕ, zero, suc, _+_, _-_, _≤_, _<_}
 use native.Mathlib.Nat.{eq-or-lt-of-le, add-zero}
 use native.Mathlib.Omega.{arith}
@@ -15,7 +15,7 @@ use borrow.Author.Tests.{lt-ltb, le-ltb, ltb-true, ltb-false}
 use Rattle.buffers.specs.Ranges.{flag, any}
 use Rattle.windows.specs.Runs.{Run, Open, shut, since, runsFrom, run, are, violationRuns}
 use Rattle.windows.specs.Refusal.{badMark}
-use Rattle.windows.specs.Expand.{Span, span, spans, Increasing, inOrder, skip, inFirst, sweep, look, expanded}
+use Rattle.windows.specs.Expand.{Span, span, spans, Increasing, inOrder, skip, inFirst, expandedInOrder, expandedReordered, expanded}
 use Rattle.windows.proofs.MaximalRuns.{From, Past, later, length-are}
 
 -- ---- the order of times
@@ -101,42 +101,42 @@ module _ (T : ℕ → ℤ) where
         (loud i (run s (b .end)) (b .others) h (omega (arith, b .low)) (omega (arith, b .high)))
 
     -- one sample
-    one : (t : ℤ) (ts : List ℤ) (ws vs : List Span) (b : Bool) (rest : List ℕ) → skip t ws ≡ vs → inFirst t vs ≡ b → sweep ts vs ≡ rest → sweep (t ∷ ts) ws ≡ flag b ∷ rest
-    unfolding sweep
+    one : (t : ℤ) (ts : List ℤ) (ws vs : List Span) (b : Bool) (rest : List ℕ) → skip t ws ≡ vs → inFirst t vs ≡ b → expandedInOrder ts vs ≡ rest → expandedInOrder (t ∷ ts) ws ≡ flag b ∷ rest
+    unfolding expandedInOrder
     one t ts ws vs b rest e f g =
-        ap (λ (x : List Span). flag (inFirst t x) ∷ sweep ts x) e ∙ ap (λ (x : Bool). flag x ∷ sweep ts vs) f ∙ ap (λ (x : List ℕ). flag b ∷ x) g
+        ap (λ (x : List Span). flag (inFirst t x) ∷ expandedInOrder ts x) e ∙ ap (λ (x : Bool). flag x ∷ expandedInOrder ts vs) f ∙ ap (λ (x : List ℕ). flag b ∷ x) g
 
-    step : (i : ℕ) (t : ℤ) (ts : List ℤ) (ws vs : List Span) (b : Bool) (rest : List ℕ) → t ≡ T (i + 0) → skip (T i) ws ≡ vs → inFirst (T i) vs ≡ b → sweep ts vs ≡ rest → sweep (t ∷ ts) ws ≡ flag b ∷ rest
-    step i t ts ws vs b rest e f g w = ap (λ (x : ℤ). sweep (x ∷ ts) ws) (e ∙ ap T (add-zero i)) ∙ one (T i) ts ws vs b rest f g w
+    step : (i : ℕ) (t : ℤ) (ts : List ℤ) (ws vs : List Span) (b : Bool) (rest : List ℕ) → t ≡ T (i + 0) → skip (T i) ws ≡ vs → inFirst (T i) vs ≡ b → expandedInOrder ts vs ≡ rest → expandedInOrder (t ∷ ts) ws ≡ flag b ∷ rest
+    step i t ts ws vs b rest e f g w = ap (λ (x : ℤ). expandedInOrder (x ∷ ts) ws) (e ∙ ap T (add-zero i)) ∙ one (T i) ts ws vs b rest f g w
 
     shift : (i : ℕ) (t : ℤ) (ts : List ℤ) (m : ℕ) → ((k : ℕ) → k < suc m → getD (t ∷ ts) k (pos 0) ≡ T (i + k)) → (k : ℕ) → k < m → getD ts k (pos 0) ≡ T (suc i + k)
     shift i t ts m g k h = let e : i + suc k ≡ suc i + k = omega arith in g (suc k) (omega arith) ∙ ap T e
 
     -- `ts` are the times from sample i on
-    swept : (i : ℕ) (o : Open) (m : List Bool) (ts : List ℤ) → Past i o → i + length m ≤ n → length ts ≡ length m → ((k : ℕ) → k < length m → getD ts k (pos 0) ≡ T (i + k))
-        → sweep ts (windows (runsFrom i o m)) ≡ map flag m
-    unfolding runsFrom sweep skip
-    swept i o [] [] p h l g = refl
-    swept i o [] (t ∷ ts) p h l g = let z : ⊥ = omega arith in absurd z
-    swept i o (b ∷ m) [] p h l g = let z : ⊥ = omega arith in absurd z
-    swept i shut (false ∷ m) (t ∷ ts) p h l g =
+    runs-back : (i : ℕ) (o : Open) (m : List Bool) (ts : List ℤ) → Past i o → i + length m ≤ n → length ts ≡ length m → ((k : ℕ) → k < length m → getD ts k (pos 0) ≡ T (i + k))
+        → expandedInOrder ts (windows (runsFrom i o m)) ≡ map flag m
+    unfolding runsFrom expandedInOrder skip
+    runs-back i o [] [] p h l g = refl
+    runs-back i o [] (t ∷ ts) p h l g = let z : ⊥ = omega arith in absurd z
+    runs-back i o (b ∷ m) [] p h l g = let z : ⊥ = omega arith in absurd z
+    runs-back i shut (false ∷ m) (t ∷ ts) p h l g =
         let q = quiet i (runsFrom (suc i) shut m) (after i m (omega arith)) in
         step i t ts (windows (runsFrom (suc i) shut m)) (windows (runsFrom (suc i) shut m)) false (map flag m) (g zero (omega arith)) (q .0) (q .1)
-        (swept (suc i) shut m ts tt (omega arith) (omega arith) (shift i t ts (length m) g))
-    swept i shut (true ∷ m) (t ∷ ts) p h l g =
+        (runs-back (suc i) shut m ts tt (omega arith) (omega arith) (shift i t ts (length m) g))
+    runs-back i shut (true ∷ m) (t ∷ ts) p h l g =
         let q = open-loud i i m (omega arith) (omega arith) in
         step i t ts (windows (runsFrom (suc i) (since i) m)) (windows (runsFrom (suc i) (since i) m)) true (map flag m) (g zero (omega arith)) (q .0) (q .1)
-        (swept (suc i) (since i) m ts (omega arith) (omega arith) (omega arith) (shift i t ts (length m) g))
-    swept i (since s) (true ∷ m) (t ∷ ts) p h l g =
+        (runs-back (suc i) (since i) m ts (omega arith) (omega arith) (omega arith) (shift i t ts (length m) g))
+    runs-back i (since s) (true ∷ m) (t ∷ ts) p h l g =
         let q = open-loud i s m (omega arith) (omega arith) in
         step i t ts (windows (runsFrom (suc i) (since s) m)) (windows (runsFrom (suc i) (since s) m)) true (map flag m) (g zero (omega arith)) (q .0) (q .1)
-        (swept (suc i) (since s) m ts (omega arith) (omega arith) (omega arith) (shift i t ts (length m) g))
-    swept i (since s) (false ∷ m) (t ∷ ts) p h l g =
+        (runs-back (suc i) (since s) m ts (omega arith) (omega arith) (omega arith) (shift i t ts (length m) g))
+    runs-back i (since s) (false ∷ m) (t ∷ ts) p h l g =
         let q = quiet i (runsFrom (suc i) shut m) (after i m (omega arith)) in
         let e : ltZ (T (i - 1)) (T i) ≡ true = up (i - 1) i (omega arith) (omega arith) in
         step i t ts (windows (run s (i - 1) ∷ runsFrom (suc i) shut m)) (windows (runsFrom (suc i) shut m)) false (map flag m) (g zero (omega arith))
         (ap (λ (x : Bool). cond x (skip (T i) (windows (runsFrom (suc i) shut m))) (windows (run s (i - 1) ∷ runsFrom (suc i) shut m))) e ∙ q .0) (q .1)
-        (swept (suc i) shut m ts tt (omega arith) (omega arith) (shift i t ts (length m) g))
+        (runs-back (suc i) shut m ts tt (omega arith) (omega arith) (shift i t ts (length m) g))
 
 -- ---- a row of samples
 spans-map : (f g : Run → ℤ) (rs : List Run) → spans (map f rs) (map g rs) ≡ map (λ (r : Run). span (f r) (g r)) rs
@@ -172,7 +172,7 @@ mask-back m times l e up =
     let T : ℕ → ℤ = λ k. getD times k (pos 0) in
     let ws = spans (map (λ (r : Run). T (r .first)) (violationRuns m)) (map (λ (r : Run). T (r .last)) (violationRuns m)) in
     let lm : length (are 1 m) ≡ length m = length-are 1 m in
-    ap (λ (x : Bool). cond x (sweep times ws) (look times ws)) (ordered times (λ k h. asym (T k) (T (k + 1)) (up k (k + 1) (omega arith) h)))
-    ∙ ap (sweep times) (spans-map (λ (r : Run). T (r .first)) (λ (r : Run). T (r .last)) (violationRuns m))
-    ∙ swept T (length times) up 0 shut (are 1 m) times tt (omega arith) (omega arith) (λ k h. ap T (let z : k ≡ 0 + k = omega arith in z))
+    ap (λ (x : Bool). cond x (expandedInOrder times ws) (expandedReordered times ws)) (ordered times (λ k h. asym (T k) (T (k + 1)) (up k (k + 1) (omega arith) h)))
+    ∙ ap (expandedInOrder times) (spans-map (λ (r : Run). T (r .first)) (λ (r : Run). T (r .last)) (violationRuns m))
+    ∙ runs-back T (length times) up 0 shut (are 1 m) times tt (omega arith) (omega arith) (λ k h. ap T (let z : k ≡ 0 + k = omega arith in z))
     ∙ marks-back m e

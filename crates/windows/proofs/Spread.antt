@@ -13,7 +13,7 @@ use lib.Dec.{ltb, eqb}
 use lib.IntN.{ℤ, pos}
 use lib.Signed.{ltZ}
 use Rattle.buffers.specs.Ranges.{flag}
-use Rattle.windows.specs.Expand.{Span, span, spans, inOrder, skip, inFirst, sweep, inSome, look}
+use Rattle.windows.specs.Expand.{Span, span, spans, inOrder, skip, inFirst, expandedInOrder, inSome, expandedReordered}
 
 length-spans : (F L : List ℤ) → length L ≡ length F → length (spans F L) ≡ length L
 unfolding spans
@@ -106,28 +106,28 @@ module _ (ts : List ℤ) (ws : List Span) (i : ℕ) (done total : List ℕ) wher
   next-time : i < length ts → drop i ts ≡ getD ts i (pos 0) ∷ drop (i + 1) ts
   next-time h = drop-cons ts i (pos 0) h ∙ ap (λ (k : ℕ). getD ts i (pos 0) ∷ drop k ts) (sym (add-one i))
 
-  pub sweep-on : (j j' r : ℕ) → i < length ts → drop j' ws ≡ skip (getD ts i (pos 0)) (drop j ws) → r ≡ flag (inFirst (getD ts i (pos 0)) (drop j' ws))
-      → done ++ sweep (drop i ts) (drop j ws) ≡ total → (done ++ r ∷ []) ++ sweep (drop (i + 1) ts) (drop j' ws) ≡ total
-  unfolding sweep
-  sweep-on j j' r h e p w =
-      append-assoc done (r ∷ []) (sweep (drop (i + 1) ts) (drop j' ws))
-      ∙ ap (λ (b : ℕ). done ++ b ∷ sweep (drop (i + 1) ts) (drop j' ws)) p
-      ∙ ap (λ (v : List Span). done ++ flag (inFirst (getD ts i (pos 0)) v) ∷ sweep (drop (i + 1) ts) v) e
-      ∙ ap (λ (l : List ℤ). done ++ sweep l (drop j ws)) (sym (next-time h))
+  pub in-order-on : (j j' r : ℕ) → i < length ts → drop j' ws ≡ skip (getD ts i (pos 0)) (drop j ws) → r ≡ flag (inFirst (getD ts i (pos 0)) (drop j' ws))
+      → done ++ expandedInOrder (drop i ts) (drop j ws) ≡ total → (done ++ r ∷ []) ++ expandedInOrder (drop (i + 1) ts) (drop j' ws) ≡ total
+  unfolding expandedInOrder
+  in-order-on j j' r h e p w =
+      append-assoc done (r ∷ []) (expandedInOrder (drop (i + 1) ts) (drop j' ws))
+      ∙ ap (λ (b : ℕ). done ++ b ∷ expandedInOrder (drop (i + 1) ts) (drop j' ws)) p
+      ∙ ap (λ (v : List Span). done ++ flag (inFirst (getD ts i (pos 0)) v) ∷ expandedInOrder (drop (i + 1) ts) v) e
+      ∙ ap (λ (l : List ℤ). done ++ expandedInOrder l (drop j ws)) (sym (next-time h))
       ∙ w
 
-  pub sweep-end : (j : ℕ) → length ts ≤ i → done ++ sweep (drop i ts) (drop j ws) ≡ total → done ≡ total
-  unfolding sweep
-  sweep-end j h w = sym (append-nil done) ∙ ap (λ (l : List ℤ). done ++ sweep l (drop j ws)) (sym (drop-of-length-le ts h)) ∙ w
+  pub in-order-end : (j : ℕ) → length ts ≤ i → done ++ expandedInOrder (drop i ts) (drop j ws) ≡ total → done ≡ total
+  unfolding expandedInOrder
+  in-order-end j h w = sym (append-nil done) ∙ ap (λ (l : List ℤ). done ++ expandedInOrder l (drop j ws)) (sym (drop-of-length-le ts h)) ∙ w
 
-  pub look-on : (r : ℕ) → i < length ts → r ≡ flag (inSome (getD ts i (pos 0)) ws) → done ++ look (drop i ts) ws ≡ total → (done ++ r ∷ []) ++ look (drop (i + 1) ts) ws ≡ total
-  unfolding look
-  look-on r h p w =
-      append-assoc done (r ∷ []) (look (drop (i + 1) ts) ws)
-      ∙ ap (λ (b : ℕ). done ++ b ∷ look (drop (i + 1) ts) ws) p
-      ∙ ap (λ (l : List ℤ). done ++ look l ws) (sym (next-time h))
+  pub reordered-on : (r : ℕ) → i < length ts → r ≡ flag (inSome (getD ts i (pos 0)) ws) → done ++ expandedReordered (drop i ts) ws ≡ total → (done ++ r ∷ []) ++ expandedReordered (drop (i + 1) ts) ws ≡ total
+  unfolding expandedReordered
+  reordered-on r h p w =
+      append-assoc done (r ∷ []) (expandedReordered (drop (i + 1) ts) ws)
+      ∙ ap (λ (b : ℕ). done ++ b ∷ expandedReordered (drop (i + 1) ts) ws) p
+      ∙ ap (λ (l : List ℤ). done ++ expandedReordered l ws) (sym (next-time h))
       ∙ w
 
-  pub look-end : length ts ≤ i → done ++ look (drop i ts) ws ≡ total → done ≡ total
-  unfolding look
-  look-end h w = sym (append-nil done) ∙ ap (λ (l : List ℤ). done ++ look l ws) (sym (drop-of-length-le ts h)) ∙ w
+  pub reordered-end : length ts ≤ i → done ++ expandedReordered (drop i ts) ws ≡ total → done ≡ total
+  unfolding expandedReordered
+  reordered-end h w = sym (append-nil done) ∙ ap (λ (l : List ℤ). done ++ expandedReordered l ws) (sym (drop-of-length-le ts h)) ∙ w

@@ -39,6 +39,7 @@ inOrder (t ∷ u ∷ ts) = not (ltZ u t) && inOrder (u ∷ ts)
 
 -- ---- times in order: windows that ended before a time are passed once, for it and for all later times
 
+-- the windows from the first on that did not end before t
 unfoldable pub skip : ℤ → List Span → List Span
 skip t [] = []
 skip t (w ∷ ws) = cond (ltZ (w .last) t) (skip t ws) (w ∷ ws)
@@ -48,26 +49,29 @@ unfoldable pub inFirst : ℤ → List Span → Bool
 inFirst t [] = false
 inFirst t (w ∷ ws) = not (ltZ t (w .first)) && not (ltZ (w .last) t)
 
-unfoldable pub sweep : List ℤ → List Span → List ℕ
+-- the marks of the times, each by the first window that did not end before it
+unfoldable pub expandedInOrder : List ℤ → List Span → List ℕ
 unfolding skip inFirst
-sweep [] ws = []
-sweep (t ∷ ts) ws = flag (inFirst t (skip t ws)) ∷ sweep ts (skip t ws)
+expandedInOrder [] ws = []
+expandedInOrder (t ∷ ts) ws = flag (inFirst t (skip t ws)) ∷ expandedInOrder ts (skip t ws)
 
 -- ---- times in any order: for each the windows are looked through, up to the first that starts after it
 
+-- t lies in one of the windows that stand before the first that starts after it
 unfoldable pub inSome : ℤ → List Span → Bool
 inSome t [] = false
 inSome t (w ∷ ws) = cond (ltZ t (w .first)) false (cond (ltZ (w .last) t) (inSome t ws) true)
 
-unfoldable pub look : List ℤ → List Span → List ℕ
+-- the marks of the times, each by all the windows
+unfoldable pub expandedReordered : List ℤ → List Span → List ℕ
 unfolding inSome
-look ts ws = map (λ (t : ℤ). flag (inSome t ws)) ts
+expandedReordered ts ws = map (λ (t : ℤ). flag (inSome t ws)) ts
 
 -- ---- the mask of the times, a byte a time
 
 unfoldable pub expanded : List ℤ → List Span → List ℕ
-unfolding inOrder sweep look
-expanded ts ws = cond (inOrder ts) (sweep ts ws) (look ts ws)
+unfolding inOrder expandedInOrder expandedReordered
+expanded ts ws = cond (inOrder ts) (expandedInOrder ts ws) (expandedReordered ts ws)
 
 -- `ConstraintResult`'s visibility windows: those of the expanded mask
 unfoldable pub constraintResultVisibility : List ℤ → List Span → List Run

@@ -7,7 +7,7 @@ ghost use lib.Signed.{ltZ};
 ghost use Rattle.buffers.specs.Ranges.{flag};
 ghost use Rattle.buffers.specs.Lent.{over};
 ghost use Rattle.buffers.specs.Refusal.{replyOf};
-ghost use Rattle.windows.specs.Expand.{spans, inOrder, skip, inFirst, sweep, inSome, look, expandRefusal};
+ghost use Rattle.windows.specs.Expand.{spans, inOrder, skip, inFirst, expandedInOrder, inSome, expandedReordered, expandRefusal};
 ghost use Rattle.windows.specs.Calls.{expandReply, expandMask};
 use crate::refusal::any_beyond;
 use buffers::Answer;
@@ -77,7 +77,7 @@ fn mark_in(first: &[i64], last: &[i64], j: usize, times: &[i64], i: usize) -> u8
 // Times in order: windows that have ended are passed once, and not looked at again for later times.
 fn expand_in_order(first: &[i64], last: &[i64], times: &[i64], mask: &mut [u8])
     requires { ⌜ (length (now times) ≤ length (now mask)) × (length (now last) ≡ length (now first)) ⌝ }
-    ensures { λ _. ⌜ now (mask .exit) ≡ over (sweep (now (times .entry)) (spans (now (first .entry)) (now (last .entry)))) (now (mask .entry)) ⌝ }
+    ensures { λ _. ⌜ now (mask .exit) ≡ over (expandedInOrder (now (times .entry)) (spans (now (first .entry)) (now (last .entry)))) (now (mask .entry)) ⌝ }
 {
     let mut j = 0usize;
     let mut i = 0usize;
@@ -110,7 +110,7 @@ fn mark_among(first: &[i64], last: &[i64], times: &[i64], i: usize) -> u8
 // Times in any order: the windows are looked through for each.
 fn expand_reordered(first: &[i64], last: &[i64], times: &[i64], mask: &mut [u8])
     requires { ⌜ (length (now times) ≤ length (now mask)) × (length (now last) ≡ length (now first)) ⌝ }
-    ensures { λ _. ⌜ now (mask .exit) ≡ over (look (now (times .entry)) (spans (now (first .entry)) (now (last .entry)))) (now (mask .entry)) ⌝ }
+    ensures { λ _. ⌜ now (mask .exit) ≡ over (expandedReordered (now (times .entry)) (spans (now (first .entry)) (now (last .entry)))) (now (mask .entry)) ⌝ }
 {
     let mut i = 0usize;
     while i < times.len() {

@@ -1,10 +1,10 @@
 -- `windows::expansion::expand` meets its contract. Assumes nothing.
-use mathlib.Core.Path.{_≡_, sym, _∙_, ap}
+use mathlib.Core.Path.{sym, _∙_, ap}
 use mathlib.Core.Bool.{Bool, cond}
 use mathlib.Core.List.{List}
 use Rattle.buffers.specs.Lent.{over}
 use Rattle.buffers.proofs.Refusal.{refused-leaves, accepted-leaves}
-use Rattle.windows.specs.Expand.{Span, spans, sweep, look, expanded}
+use Rattle.windows.specs.Expand.{Span, spans, expandedInOrder, expandedReordered, expanded}
 use Rattle.windows.proofs.Refusals.{expand-accepted}
 use borrow.Author.Needs.{needs}
 use Rattle.windows.proofs.expansion.expand.Statement.{statement}
@@ -42,7 +42,7 @@ unfolding expanded
 returns-2 c =
     let e = c .before .before .before .before .before .before in
     let s = e .before .before .before in
-    accepted-leaves _ _ 0 _ _ _ (e .before .expand-refusal .ensures) (e .if1 .left) (c .before .before .expand-in-order .ensures ∙ ap (λ (b : Bool). over (cond b (sweep (s .args .times .now) (ws s)) (look (s .args .times .now) (ws s))) (s .args .mask .now)) (sym (sym (c .before .before .before .before .before .in-order .ensures) ∙ c .before .before .before .before .if2 .taken)))
+    accepted-leaves _ _ 0 _ _ _ (e .before .expand-refusal .ensures) (e .if1 .left) (c .before .before .expand-in-order .ensures ∙ ap (λ (b : Bool). over (cond b (expandedInOrder (s .args .times .now) (ws s)) (expandedReordered (s .args .times .now) (ws s))) (s .args .mask .now)) (sym (sym (c .before .before .before .before .before .in-order .ensures) ∙ c .before .before .before .before .if2 .taken)))
 
 same-length-2 : tie.Need-same-length-2
 same-length-2 c = search needs
@@ -52,7 +52,7 @@ unfolding expanded
 returns-3 c =
     let e = c .before .before .before .before .before .before in
     let s = e .before .before .before in
-    accepted-leaves _ _ 0 _ _ _ (e .before .expand-refusal .ensures) (e .if1 .left) (c .before .before .expand-reordered .ensures ∙ ap (λ (b : Bool). over (cond b (sweep (s .args .times .now) (ws s)) (look (s .args .times .now) (ws s))) (s .args .mask .now)) (sym (sym (c .before .before .before .before .before .in-order .ensures) ∙ c .before .before .before .before .if2 .left)))
+    accepted-leaves _ _ 0 _ _ _ (e .before .expand-refusal .ensures) (e .if1 .left) (c .before .before .expand-reordered .ensures ∙ ap (λ (b : Bool). over (cond b (expandedInOrder (s .args .times .now) (ws s)) (expandedReordered (s .args .times .now) (ws s))) (s .args .mask .now)) (sym (sym (c .before .before .before .before .before .in-order .ensures) ∙ c .before .before .before .before .if2 .left)))
 
 pub expand-spec : {M : Type 1} → statement M
 expand-spec =

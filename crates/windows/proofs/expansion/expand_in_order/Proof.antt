@@ -1,23 +1,20 @@
 -- `windows::expansion::expand_in_order` meets its contract. The invariant: i marks are written, and the rest comes from the windows from number j on. Assumes
 -- nothing.
-use Prim.Native.Nat.{ℕ, _+_, _-_, _≤_, _<_}
-use mathlib.Core.Path.{_≡_, refl, sym, _∙_, ap}
-use mathlib.Core.Bool.{Bool, true, false}
+use Prim.Native.Nat.{ℕ, _+_, _-_, _≤_}
+use mathlib.Core.Path.{_≡_, refl, _∙_, ap}
 use mathlib.Core.List.{List, [], _∷_, _++_}
 use native.Mathlib.Omega.{arith}
-use lib.ListN.{length, drop, getD, length-append}
-use lib.IntN.{ℤ, pos}
-use Rattle.buffers.specs.Ranges.{flag}
+use lib.ListN.{length, drop, length-append}
 use Rattle.buffers.specs.Lent.{over}
-use Rattle.buffers.proofs.Lent.{length-kept, over-more, over-nil}
-use Rattle.windows.specs.Expand.{Span, spans, inOrder, skip, inFirst, sweep, inSome, look}
-use Rattle.windows.proofs.Spread.{skip-on, skip-stop, skip-end, first-none, first-at, some-none, some-at, some-before, order-bad, order-good, order-end, sweep-on, sweep-end, look-on, look-end}
+use Rattle.buffers.proofs.Lent.{length-kept, over-more}
+use Rattle.windows.specs.Expand.{spans, expandedInOrder}
+use Rattle.windows.proofs.Spread.{in-order-on, in-order-end}
 use Rattle.windows.proofs.expansion.expand_in_order.Statement.{statement}
 use Rattle.windows.proofs.expansion.expand_in_order.Tie as tie
 
 abbrev Inv-loop : tie.InvT-loop
 Inv-loop first last times mask₀ j₀ i₀ mask j i =
-    (i ≤ length times) × (j ≤ length last) × (done : List ℕ) × (length done ≡ i) × (mask ≡ over done mask₀) × (done ++ sweep (drop i times) (drop j (spans first last)) ≡ sweep times (spans first last))
+    (i ≤ length times) × (j ≤ length last) × (done : List ℕ) × (length done ≡ i) × (mask ≡ over done mask₀) × (done ++ expandedInOrder (drop i times) (drop j (spans first last)) ≡ expandedInOrder times (spans first last))
 
 abbrev μ-loop : tie.MeasureT-loop
 μ-loop first last times mask₀ j₀ i₀ mask j i =
@@ -56,7 +53,7 @@ loop-again c =
       l .loop .inv .2 ++ c .mark-in .result ∷ [],
       simp length-append (omega (arith, l .loop .inv .3)),
       over-more (l .loop .mask) (l .loop .inv .2) (s .args .mask .now) (l .loop .i) (c .mark-in .result) (l .loop .inv .4) (l .loop .inv .3) (omega (arith, h, s .pre .0)),
-      sweep-on (s .args .times .now) (spans (s .args .first .now) (s .args .last .now)) (l .loop .i) (l .loop .inv .2) _ (l .loop .j) (c .before .skip-ended .result) (c .mark-in .result) h (c .before .skip-ended .ensures .1) (c .mark-in .ensures) (l .loop .inv .5),
+      in-order-on (s .args .times .now) (spans (s .args .first .now) (s .args .last .now)) (l .loop .i) (l .loop .inv .2) _ (l .loop .j) (c .before .skip-ended .result) (c .mark-in .result) h (c .before .skip-ended .ensures .1) (c .mark-in .ensures) (l .loop .inv .5),
     )
 
 same-length : tie.Need-same-length Inv-loop μ-loop
@@ -66,7 +63,7 @@ returns : tie.Need-returns Inv-loop μ-loop
 returns c =
     let l = c .before in
     let s = l .before .before in
-    l .loop .inv .4 ∙ ap (λ (v : List ℕ). over v (s .args .mask .now)) (sweep-end (s .args .times .now) (spans (s .args .first .now) (s .args .last .now)) (l .loop .i) (l .loop .inv .2) _ (l .loop .j) (c .loop-test .left) (l .loop .inv .5))
+    l .loop .inv .4 ∙ ap (λ (v : List ℕ). over v (s .args .mask .now)) (in-order-end (s .args .times .now) (spans (s .args .first .now) (s .args .last .now)) (l .loop .i) (l .loop .inv .2) _ (l .loop .j) (c .loop-test .left) (l .loop .inv .5))
 
 pub expand-in-order-spec : {M : Type 1} → statement M
 expand-in-order-spec =

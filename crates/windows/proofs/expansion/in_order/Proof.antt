@@ -1,16 +1,12 @@
 -- `windows::expansion::in_order` meets its contract. The invariant: the times from i on decide. Assumes nothing.
-use Prim.Native.Nat.{ℕ, _+_, _-_, _≤_, _<_}
+use Prim.Native.Nat.{_-_, _<_}
 use mathlib.Core.Path.{_≡_, refl, sym, _∙_, ap}
-use mathlib.Core.Bool.{Bool, true, false}
-use mathlib.Core.List.{List, [], _∷_, _++_}
+use mathlib.Core.List.{List, [], _∷_}
 use native.Mathlib.Omega.{arith}
-use lib.ListN.{length, drop, getD, length-append}
-use lib.IntN.{ℤ, pos}
-use Rattle.buffers.specs.Ranges.{flag}
-use Rattle.buffers.specs.Lent.{over}
-use Rattle.buffers.proofs.Lent.{over-nil, over-next, length-over}
-use Rattle.windows.specs.Expand.{Span, spans, inOrder, skip, inFirst, sweep, inSome, look}
-use Rattle.windows.proofs.Spread.{skip-on, skip-stop, skip-end, first-none, first-at, some-none, some-at, some-before, order-bad, order-good, order-end, sweep-on, sweep-end, look-on, look-end}
+use lib.ListN.{length, drop}
+use lib.IntN.{ℤ}
+use Rattle.windows.specs.Expand.{inOrder}
+use Rattle.windows.proofs.Spread.{order-bad, order-good, order-end}
 use Rattle.windows.proofs.expansion.in_order.Statement.{statement}
 use Rattle.windows.proofs.expansion.in_order.Tie as tie
 

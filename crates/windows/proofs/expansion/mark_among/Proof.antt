@@ -1,16 +1,13 @@
 -- `windows::expansion::mark_among` meets its contract. The invariant: the windows from number j on decide. Assumes nothing.
-use Prim.Native.Nat.{ℕ, _+_, _-_, _≤_, _<_}
+use Prim.Native.Nat.{_-_, _≤_}
 use mathlib.Core.Path.{_≡_, refl, sym, _∙_, ap}
-use mathlib.Core.Bool.{Bool, true, false}
-use mathlib.Core.List.{List, [], _∷_, _++_}
+use mathlib.Core.Bool.{true, false}
 use native.Mathlib.Omega.{arith}
-use lib.ListN.{length, drop, getD, length-append}
-use lib.IntN.{ℤ, pos}
+use lib.ListN.{length, drop, getD}
+use lib.IntN.{pos}
 use Rattle.buffers.specs.Ranges.{flag}
-use Rattle.buffers.specs.Lent.{over}
-use Rattle.buffers.proofs.Lent.{over-nil, over-next, length-over}
-use Rattle.windows.specs.Expand.{Span, spans, inOrder, skip, inFirst, sweep, inSome, look}
-use Rattle.windows.proofs.Spread.{skip-on, skip-stop, skip-end, first-none, first-at, some-none, some-at, some-before, order-bad, order-good, order-end, sweep-on, sweep-end, look-on, look-end}
+use Rattle.windows.specs.Expand.{spans, inSome}
+use Rattle.windows.proofs.Spread.{some-none, some-at, some-before}
 use Rattle.windows.proofs.expansion.mark_among.Statement.{statement}
 use Rattle.windows.proofs.expansion.mark_among.Tie as tie
 
