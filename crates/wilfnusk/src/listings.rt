@@ -4,10 +4,7 @@ use crate::answers::minus;
 use windows::Duration;
 use windows::total_violation_duration;
 ghost use mathlib.Core.Path.{_≡_};
-ghost use lib.Ieee.{binary64, ofInt};
-ghost use Rattle.buffers.specs.Refusal.{reply};
-ghost use Rattle.windows.specs.Calls.{violationReply, violationColumns, visibilityReply, visibilityColumns, expandReply, expandMask};
-ghost use Rattle.windows.specs.Seconds.{totalSeconds, durationRefusal};
+ghost use Rattle.windows.specs.Calls.{violationReply, violationColumns, visibilityReply, visibilityColumns, expandReply, expandMask, durationReply};
 ghost use Rattle.windows.specs.Windows.{columns};
 ghost use Rattle.wilfnusk.specs.Answers.{int64, numberAnswer, numberWritten};
 
@@ -90,8 +87,8 @@ pub extern "C" fn wilfnusk_total_violation_duration(
     last_time: &[i64],
     seconds: &mut f64,
 ) -> u64
-    ensures { λ r. ⌜ (r ≡ int64 (numberAnswer (reply (durationRefusal (now («first_time» .entry)) (now («last_time» .entry))) (ofInt binary64 (totalSeconds (now («first_time» .entry)) (now («last_time» .entry)))))))
-        × (now (seconds .exit) ≡ numberWritten (reply (durationRefusal (now («first_time» .entry)) (now («last_time» .entry))) (ofInt binary64 (totalSeconds (now («first_time» .entry)) (now («last_time» .entry))))) (now (seconds .entry))) ⌝ }
+    ensures { λ r. ⌜ r ≡ int64 (numberAnswer (durationReply (now («first_time» .entry)) (now («last_time» .entry)))) ⌝ }
+    ensures { λ _. ⌜ now (seconds .exit) ≡ numberWritten (durationReply (now («first_time» .entry)) (now («last_time» .entry))) (now (seconds .entry)) ⌝ }
 {
     match total_violation_duration(first_time, last_time) {
         Duration::Seconds(total) => {

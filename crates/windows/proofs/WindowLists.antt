@@ -1,19 +1,19 @@
 -- The windows of a listing, one after the other, and as they are written: what the loops that store windows ask. Assumes nothing.
 use mathlib.Core.Path.{_≡_, refl, sym, _∙_, ap, subst}
 use mathlib.Core.Logic.{_⊎_, ⊎-elim}
-use mathlib.Core.Bool.{Bool, true, false, _||_}
+use mathlib.Core.Bool.{Bool, false, _||_}
 use mathlib.Core.List.{List, [], _∷_, _++_, map, map-append}
 use Prim.Native.Nat.{ℕ, zero, suc, _+_, _-_, _≤_, _<_}
 use native.Mathlib.Numerals.{add-one}
 use native.Mathlib.Omega.{arith}
 use native.Mathlib.Decide.{decLe}
-use lib.ListN.{length, getD, take, drop, set, length-map, length-drop, length-append}
-use lib.Seq.{length-take-le, take-length, take-nil}
+use lib.ListN.{length, take, drop, set, length-map, length-drop}
+use lib.Seq.{length-take-le, take-length}
 use lib.Dec.{eqb, ltb}
 use lib.IntN.{ℤ}
 use lib.Ieee.{Float}
 use borrow.Author.Tests.{ltb-false}
-use Rattle.buffers.specs.Ranges.{flag, any}
+use Rattle.buffers.specs.Ranges.{any}
 use Rattle.buffers.specs.Lent.{over}
 use Rattle.buffers.specs.Refusal.{Reply, reply, unlessRefused}
 use Rattle.buffers.proofs.Tests.{flag-le, or-left, or-right}
@@ -22,6 +22,7 @@ use Rattle.buffers.proofs.Refusal.{written-none, written-some}
 use Rattle.windows.specs.Runs.{Run, run, violationRuns, visibilityRuns}
 use Rattle.windows.specs.Windows.{windowOf, violationWindows, visibilityWindows, Columns, written}
 use Rattle.windows.specs.Refusal.{differ, lengths, noRoom, windowsRefusal, violationRefusal, visibilityRefusal}
+use Rattle.windows.specs.Calls.{violationReply, violationColumns, visibilityReply, visibilityColumns, violationRecordsReply, violationRecords, visibilityRecordsReply, visibilityRecords}
 use Rattle.windows.specs.Steps.{severityOf, runsLeft, windowsLeft, Next, Row, Room, stored, countOf}
 use Rattle.windows.specs.declared.Window.{Window}
 use Rattle.windows.specs.declared.Listing.{Listing}
@@ -272,8 +273,7 @@ module _ (mask : List ℕ) (times : List ℤ) (severities : List Float) (d : Col
         )
 
     pub violation-listed : (c : Columns) → c ≡ written (take count (windowsLeft Violations mask times severities 0)) d
-        → (r ≡ reply (violationRefusal mask times severities (lengths d)) (length (violationWindows mask times severities)))
-        × (c ≡ unlessRefused (violationRefusal mask times severities (lengths d)) (written (violationWindows mask times severities) d) d)
+        → (r ≡ violationReply mask times severities d) × (c ≡ violationColumns mask times severities d)
     unfolding violationRefusal lengths noRoom written over
     violation-listed c w =
         let why : Bool → ℕ = λ x. windowsRefusal (differ (length mask ∷ length times ∷ length severities ∷ []) || x) mask times severities (ltb (length (d .first)) (length (violationRuns mask))) in
@@ -295,8 +295,7 @@ module _ (mask : List ℕ) (times : List ℤ) (severities : List Float) (d : Col
         )
 
     pub visibility-listed : (c : Columns) → c ≡ written (take count (windowsLeft Visibility mask times severities 0)) d
-        → (r ≡ reply (visibilityRefusal mask times (lengths d)) (length (visibilityWindows mask times)))
-        × (c ≡ unlessRefused (visibilityRefusal mask times (lengths d)) (written (visibilityWindows mask times) d) d)
+        → (r ≡ visibilityReply mask times d) × (c ≡ visibilityColumns mask times d)
     unfolding visibilityRefusal lengths noRoom written over
     visibility-listed c w =
         let why : Bool → ℕ = λ x. windowsRefusal (differ (length mask ∷ length times ∷ []) || x) mask times [] (ltb (length (d .first)) (length (visibilityRuns mask))) in
@@ -353,8 +352,7 @@ module _ (mask : List ℕ) (times : List ℤ) (ys : List Window) (count : ℕ) (
         }
 
     pub violation-recorded : (zs : List Window) → zs ≡ over (take count (windowsLeft Violations mask times severities 0)) ys
-        → (r ≡ reply (violationRefusal mask times severities (length ys ∷ [])) (length (violationWindows mask times severities)))
-        × (zs ≡ unlessRefused (violationRefusal mask times severities (length ys ∷ [])) (over (violationWindows mask times severities) ys) ys)
+        → (r ≡ violationRecordsReply mask times severities ys) × (zs ≡ violationRecords mask times severities ys)
     unfolding violationRefusal differ any noRoom over
     violation-recorded zs w = (
       q ∙ ap (reply (ask severities (differ (length mask ∷ length times ∷ length severities ∷ [])) (violationRuns mask))) (length-violations mask times severities),
@@ -373,8 +371,7 @@ module _ (mask : List ℕ) (times : List ℤ) (ys : List Window) (count : ℕ) (
         }
 
     pub visibility-recorded : (zs : List Window) → zs ≡ over (take count (windowsLeft Visibility mask times [] 0)) ys
-        → (r ≡ reply (visibilityRefusal mask times (length ys ∷ [])) (length (visibilityWindows mask times)))
-        × (zs ≡ unlessRefused (visibilityRefusal mask times (length ys ∷ [])) (over (visibilityWindows mask times) ys) ys)
+        → (r ≡ visibilityRecordsReply mask times ys) × (zs ≡ visibilityRecords mask times ys)
     unfolding visibilityRefusal differ any noRoom over
     visibility-recorded zs w = (
       q ∙ ap (reply (ask [] (differ (length mask ∷ length times ∷ [])) (visibilityRuns mask))) (length-visibility mask times),

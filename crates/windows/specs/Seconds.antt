@@ -44,6 +44,6 @@ unfolding first
 durationRefusal firsts lasts = first (durationConditions firsts lasts)
 
 -- the number and the value of each case of the answer
-unfoldable pub durationReply : Duration → Reply Float
-durationReply (Seconds x) = accepted x
-durationReply (Refused k) = refused k
+unfoldable pub replyOfDuration : Duration → Reply Float
+replyOfDuration (Seconds x) = accepted x
+replyOfDuration (Refused k) = refused k

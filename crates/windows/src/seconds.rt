@@ -5,9 +5,9 @@ ghost use Prim.Native.Nat.{_<_};
 ghost use lib.ListN.{length, getD};
 ghost use lib.IntN.{pos};
 ghost use lib.Ieee.{binary64, ofInt};
-ghost use Rattle.buffers.specs.Refusal.{reply};
 ghost use Rattle.windows.specs.Refusal.{beyond};
-ghost use Rattle.windows.specs.Seconds.{seconds, totalSeconds, durationRefusal, durationReply};
+ghost use Rattle.windows.specs.Seconds.{seconds, totalSeconds, durationRefusal, replyOfDuration};
+ghost use Rattle.windows.specs.Calls.{durationReply};
 use crate::Duration;
 use crate::refusal::any_beyond;
 
@@ -58,7 +58,7 @@ fn duration_refusal(first: &[i64], last: &[i64]) -> u64
 
 // The total duration of the windows in seconds: the whole-number sum, as an f64.
 pub fn total_violation_duration(first_time: &[i64], last_time: &[i64]) -> Duration
-    ensures { λ r. ⌜ durationReply r ≡ reply (durationRefusal (now («first_time» .entry)) (now («last_time» .entry))) (ofInt binary64 (totalSeconds (now («first_time» .entry)) (now («last_time» .entry)))) ⌝ }
+    ensures { λ r. ⌜ replyOfDuration r ≡ durationReply (now («first_time» .entry)) (now («last_time» .entry)) ⌝ }
 {
     let refused = duration_refusal(first_time, last_time);
     if refused != 0 {

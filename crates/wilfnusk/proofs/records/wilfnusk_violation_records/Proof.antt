@@ -40,13 +40,11 @@ use denote.Triple.Clauses.{ensured, lasts}
 use denote.Triple.Table.{entered, cited}
 use denote.Triple.Walked.{says, Stays, stay-dropped, gave-slice, walkOf, goes-dropped, goes-gave-slice, Walks, ends-at, walked, walk-meets}
 use denote.Exit.{yes as kept}
-use Rattle.buffers.specs.Lent.{over}
-use Rattle.buffers.specs.Refusal.{reply, replyOf, unlessRefused}
+use Rattle.buffers.specs.Refusal.{replyOf}
 use Rattle.buffers.specs.declared.Answer.{Answer}
 use Rattle.buffers.proofs.Answer as S
 use Rattle.buffers.proofs.Answer.Laws as S′
-use Rattle.windows.specs.Windows.{violationWindows}
-use Rattle.windows.specs.Refusal.{violationRefusal}
+use Rattle.windows.specs.Calls.{violationRecordsReply, violationRecords}
 use Rattle.windows.specs.declared.Window.{Window}
 use Rattle.windows.proofs.Window as T
 use Rattle.windows.proofs.violation_records as rec
@@ -118,8 +116,7 @@ module _ {M : Type 1} (𝓤 : URA M) (H : Heap 𝓤) (A : Atoms 𝓤) (W : Given
   goes-rec = qed W (raw Entry ∷ []) ∵ frame ! $ done !
 
   abbrev Told : Answer → List Window → Type 0
-  Told r zs = (replyOf r ≡ reply (violationRefusal (now m) (now t) (now σ) (length ys ∷ [])) (length (violationWindows (now m) (now t) (now σ))))
-      × (zs ≡ unlessRefused (violationRefusal (now m) (now t) (now σ) (length ys ∷ [])) (over (violationWindows (now m) (now t) (now σ)) ys) ys)
+  Told r zs = (replyOf r ≡ violationRecordsReply (now m) (now t) (now σ) ys) × (zs ≡ violationRecords (now m) (now t) (now σ) ys)
 
   exits : (r : Answer) (zs : List Window) → Told r zs → length zs ≡ length ys → (n : ℕ) (v : Val) → n ≡ int64 (replyOf r)
       → ent 𝓤 (⋆ 𝓤 H A (Toks ∷ ‵ (finally R γ zs) ∷ ‵ (u64 .own n (v ∷ [])) ∷ [])) (Post v)

@@ -39,13 +39,11 @@ use denote.Triple.Clauses.{ensured, lasts}
 use denote.Triple.Table.{entered, cited}
 use denote.Triple.Walked.{says, Stays, stay-dropped, gave-slice, walkOf, goes-dropped, goes-gave-slice, Walks, ends-at, walked, walk-meets}
 use denote.Exit.{yes as kept}
-use Rattle.buffers.specs.Lent.{over}
-use Rattle.buffers.specs.Refusal.{reply, replyOf, unlessRefused}
+use Rattle.buffers.specs.Refusal.{replyOf}
 use Rattle.buffers.specs.declared.Answer.{Answer}
 use Rattle.buffers.proofs.Answer as S
 use Rattle.buffers.proofs.Answer.Laws as S′
-use Rattle.windows.specs.Windows.{visibilityWindows}
-use Rattle.windows.specs.Refusal.{visibilityRefusal}
+use Rattle.windows.specs.Calls.{visibilityRecordsReply, visibilityRecords}
 use Rattle.windows.specs.declared.Window.{Window}
 use Rattle.windows.proofs.Window as T
 use Rattle.windows.proofs.visibility_records as rec
@@ -117,8 +115,7 @@ module _ {M : Type 1} (𝓤 : URA M) (H : Heap 𝓤) (A : Atoms 𝓤) (W : Given
   goes-rec = qed W (raw Entry ∷ []) ∵ frame ! $ done !
 
   abbrev Told : Answer → List Window → Type 0
-  Told r zs = (replyOf r ≡ reply (visibilityRefusal (now m) (now t) (length ys ∷ [])) (length (visibilityWindows (now m) (now t))))
-      × (zs ≡ unlessRefused (visibilityRefusal (now m) (now t) (length ys ∷ [])) (over (visibilityWindows (now m) (now t)) ys) ys)
+  Told r zs = (replyOf r ≡ visibilityRecordsReply (now m) (now t) ys) × (zs ≡ visibilityRecords (now m) (now t) ys)
 
   exits : (r : Answer) (zs : List Window) → Told r zs → length zs ≡ length ys → (n : ℕ) (v : Val) → n ≡ int64 (replyOf r)
       → ent 𝓤 (⋆ 𝓤 H A (Toks ∷ ‵ (finally R γ zs) ∷ ‵ (u64 .own n (v ∷ [])) ∷ [])) (Post v)

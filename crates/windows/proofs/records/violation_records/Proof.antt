@@ -57,13 +57,13 @@ use denote.Exit.{yes as kept}
 use borrow.Author.Needs.{scaled-fits}
 use borrow.Author.Tests.{lt-ltb, le-ltb}
 use Rattle.buffers.specs.Lent.{over}
-use Rattle.buffers.specs.Refusal.{reply, replyOf, unlessRefused}
+use Rattle.buffers.specs.Refusal.{reply, replyOf}
 use Rattle.buffers.specs.declared.Answer.{Answer}
 use Rattle.buffers.proofs.Answer as S
 use Rattle.buffers.proofs.Answer.Laws as S′
 use Rattle.windows.specs.Runs.{violationRuns}
-use Rattle.windows.specs.Windows.{violationWindows}
-use Rattle.windows.specs.Refusal.{differ, windowsRefusal, violationRefusal}
+use Rattle.windows.specs.Refusal.{differ, windowsRefusal}
+use Rattle.windows.specs.Calls.{violationRecordsReply, violationRecords}
 use Rattle.windows.specs.Steps.{Row, windowsLeft, countOf}
 use Rattle.windows.specs.declared.Window.{Window}
 use Rattle.windows.specs.declared.Listing.the-variants.{Violations}
@@ -181,8 +181,7 @@ module _ {M : Type 1} (𝓤 : URA M) (H : Heap 𝓤) (A : Atoms 𝓤) (W : Given
 
   module _ (r : Answer) (u : Val) (is : Is S.the-row r (u ∷ [])) where
     exits : (zs : List Window) → length zs ≡ length ys
-        → (replyOf r ≡ reply (violationRefusal (now m) (now t) (now σ) (length ys ∷ [])) (length (violationWindows (now m) (now t) (now σ))))
-        × (zs ≡ unlessRefused (violationRefusal (now m) (now t) (now σ) (length ys ∷ [])) (over (violationWindows (now m) (now t) (now σ)) ys) ys)
+        → (replyOf r ≡ violationRecordsReply (now m) (now t) (now σ) ys) × (zs ≡ violationRecords (now m) (now t) (now σ) ys)
         → ent 𝓤 (⋆ 𝓤 H A (‵ (obs zs) ∷ ‵ (bor zs) ∷ ‵ (flft κ₃ q₃) ∷ ‵ Owns ∷ Toks ∷ [])) (Post u)
     exits zs len e =
         qed W (‵ (obs zs) ∷ ‵ (bor zs) ∷ ‵ (flft κ₃ q₃) ∷ ‵ Owns ∷ Toks ∷ []) ∵

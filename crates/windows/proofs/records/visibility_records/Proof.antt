@@ -56,13 +56,13 @@ use denote.Exit.{yes as kept}
 use borrow.Author.Needs.{scaled-fits}
 use borrow.Author.Tests.{lt-ltb, le-ltb}
 use Rattle.buffers.specs.Lent.{over}
-use Rattle.buffers.specs.Refusal.{reply, replyOf, unlessRefused}
+use Rattle.buffers.specs.Refusal.{reply, replyOf}
 use Rattle.buffers.specs.declared.Answer.{Answer}
 use Rattle.buffers.proofs.Answer as S
 use Rattle.buffers.proofs.Answer.Laws as S′
 use Rattle.windows.specs.Runs.{visibilityRuns}
-use Rattle.windows.specs.Windows.{visibilityWindows}
-use Rattle.windows.specs.Refusal.{differ, windowsRefusal, visibilityRefusal}
+use Rattle.windows.specs.Refusal.{differ, windowsRefusal}
+use Rattle.windows.specs.Calls.{visibilityRecordsReply, visibilityRecords}
 use Rattle.windows.specs.Steps.{Row, windowsLeft, countOf}
 use Rattle.windows.specs.declared.Window.{Window}
 use Rattle.windows.specs.declared.Listing.the-variants.{Visibility}
@@ -174,8 +174,7 @@ module _ {M : Type 1} (𝓤 : URA M) (H : Heap 𝓤) (A : Atoms 𝓤) (W : Given
 
   module _ (r : Answer) (u : Val) (is : Is S.the-row r (u ∷ [])) where
     exits : (zs : List Window) → length zs ≡ length ys
-        → (replyOf r ≡ reply (visibilityRefusal (now m) (now t) (length ys ∷ [])) (length (visibilityWindows (now m) (now t))))
-        × (zs ≡ unlessRefused (visibilityRefusal (now m) (now t) (length ys ∷ [])) (over (visibilityWindows (now m) (now t)) ys) ys)
+        → (replyOf r ≡ visibilityRecordsReply (now m) (now t) ys) × (zs ≡ visibilityRecords (now m) (now t) ys)
         → ent 𝓤 (⋆ 𝓤 H A (‵ (obs zs) ∷ ‵ (bor zs) ∷ ‵ (flft κ₂ q₂) ∷ ‵ Owns ∷ Toks ∷ [])) (Post u)
     exits zs len e =
         qed W (‵ (obs zs) ∷ ‵ (bor zs) ∷ ‵ (flft κ₂ q₂) ∷ ‵ Owns ∷ Toks ∷ []) ∵

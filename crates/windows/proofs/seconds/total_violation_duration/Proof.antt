@@ -5,19 +5,19 @@ use native.Mathlib.Omega.{arith}
 use lib.Ieee.{Float}
 use Rattle.buffers.specs.Refusal.{Reply, refused, accepted, reply}
 use Rattle.buffers.proofs.Refusal.{reply-none, reply-some}
-use Rattle.windows.specs.Seconds.{durationReply}
+use Rattle.windows.specs.Seconds.{replyOfDuration}
 use Rattle.windows.specs.declared.Duration.the-variants.{Seconds, Refused}
 use borrow.Author.Needs.{needs}
 use Rattle.windows.proofs.seconds.total_violation_duration.Statement.{statement}
 use Rattle.windows.proofs.seconds.total_violation_duration.Tie as tie
 
-says-no : (k why : ℕ) (x : Float) → k ≡ why → (k ≡ 0 → ⊥) → durationReply (Refused k) ≡ reply why x
-unfolding durationReply
+says-no : (k why : ℕ) (x : Float) → k ≡ why → (k ≡ 0 → ⊥) → replyOfDuration (Refused k) ≡ reply why x
+unfolding replyOfDuration
 says-no zero why x e h = absurd (h refl)
 says-no (suc k) why x e h = ap refused e ∙ sym (reply-some why x (omega arith))
 
-says : (why : ℕ) (x y : Float) → why ≡ 0 → y ≡ x → durationReply (Seconds y) ≡ reply why x
-unfolding durationReply
+says : (why : ℕ) (x y : Float) → why ≡ 0 → y ≡ x → replyOfDuration (Seconds y) ≡ reply why x
+unfolding replyOfDuration
 says why x y e h = ap accepted h ∙ sym (reply-none why x e)
 
 duration-refusal-requires : tie.Need-duration-refusal-requires
