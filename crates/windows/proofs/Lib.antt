@@ -9,4 +9,3 @@ pub mod Spread
 pub mod Durations
 pub mod MaskBack
 pub mod Theorems
-pub mod Examples
