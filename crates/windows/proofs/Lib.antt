@@ -5,6 +5,7 @@ pub mod Severities
 pub mod TopBits
 pub mod Refusals
 pub mod WindowLists
+pub mod StoredCount
 pub mod Spread
 pub mod Durations
 pub mod MaskBack

@@ -1,4 +1,5 @@
--- The windows of a listing, one after the other, and as they are written: what the loops that store windows ask. Assumes nothing.
+-- The windows of a listing, one after the other, and as they are written: what the loops that store windows ask. In order: the next window; what is
+-- left when k are written; columns; both listings, and what their calls answer and leave, into columns and into records. Assumes nothing.
 use mathlib.Core.Path.{_≡_, refl, sym, _∙_, ap, subst}
 use mathlib.Core.Logic.{_⊎_, ⊎-elim}
 use mathlib.Core.Bool.{Bool, false, _||_}
@@ -11,18 +12,19 @@ use lib.ListN.{length, take, drop, set, length-map, length-drop}
 use lib.Seq.{length-take-le, take-length}
 use lib.Dec.{eqb, ltb}
 use lib.IntN.{ℤ}
+use lib.WfN.{Nat·lt-wfRel}
+use mathlib.Core.WellFounded.{WellFounded, InvImage·wf}
 use lib.Ieee.{Float}
 use borrow.Author.Tests.{ltb-false}
 use Rattle.buffers.specs.Ranges.{any}
 use Rattle.buffers.specs.Lent.{over}
 use Rattle.buffers.specs.Refusal.{Reply, reply, unlessRefused}
 use Rattle.buffers.proofs.Tests.{flag-le, or-left, or-right}
-use Rattle.buffers.proofs.Lent.{over-next, length-over, length-kept, over-more}
+use Rattle.buffers.proofs.Lent.{over-nil, over-next, length-over, length-kept, over-more}
 use Rattle.buffers.proofs.Refusal.{written-none, written-some}
 use Rattle.windows.specs.Runs.{Run, run, violationRuns, visibilityRuns}
 use Rattle.windows.specs.Windows.{windowOf, violationWindows, visibilityWindows, Columns, written}
 use Rattle.windows.specs.Refusal.{differ, lengths, noRoom, windowsRefusal, violationRefusal, visibilityRefusal}
-use Rattle.windows.specs.Calls.{violationReply, violationColumns, visibilityReply, visibilityColumns, violationRecordsReply, violationRecords, visibilityRecordsReply, visibilityRecords}
 use Rattle.windows.specs.Steps.{severityOf, runsLeft, windowsLeft, Next, Row, Room, stored, countOf}
 use Rattle.windows.specs.declared.Window.{Window}
 use Rattle.windows.specs.declared.Listing.{Listing}
@@ -178,64 +180,85 @@ module _ (l : Listing) (mask : List ℕ) (times : List ℤ) (severities : List F
           ∙ ap (λ (t : List Window). written t d) (sym (taken-next l mask times severities k from w (s .reached) (x .left)));
     }
 
--- ---- after an answer: what may be stored, and what is then written
-
--- of n windows, count may be stored into that many places
-pub record Ready (uneven : Bool) (n count places : ℕ) : Type 0 where
-  pub few : count ≤ n
-  pub even : 0 < count → uneven ≡ false
-  pub room : count ≤ places
-
-pub ready : (mask : List ℕ) (times : List ℤ) (severities : List Float) (uneven : Bool) (n count places : ℕ) (r : Reply ℕ)
-    → r ≡ reply (windowsRefusal uneven mask times severities (ltb places n)) n → count ≡ countOf r → Ready uneven n count places
-ready mask times severities uneven n count places r e h =
-    ⊎-elim
-    (λ (a : (windowsRefusal uneven mask times severities (ltb places n) ≡ 0) × (count ≡ n)).
-    let f = windows-accepted uneven mask times severities (ltb places n) (a .0) in
-    record { few = omega arith; even = λ z. f .even; room = omega (arith, ltb-false places n (f .room)) })
-    (λ (a : (0 < windowsRefusal uneven mask times severities (ltb places n)) × (count ≡ 0)).
-    record { few = omega arith; even = λ z. let w : ⊥ = omega arith in absurd w; room = omega arith })
-    (counted (windowsRefusal uneven mask times severities (ltb places n)) n count r e h)
+-- ---- the two listings. What the calls answer and leave is shown of both at once, from what is said of each here
 
 -- W says what is left by writing a list of windows: all of it where the call is accepted, nothing where it is refused
-pub wrote : {A : Type 0} (W : List Window → A) (old : A) (ws : List Window) (why n count : ℕ) (r : Reply ℕ) → W [] ≡ old → r ≡ reply why n → count ≡ countOf r → n ≡ length ws → W (take count ws) ≡ unlessRefused why (W ws) old
+wrote : {A : Type 0} (W : List Window → A) (old : A) (ws : List Window) (why n count : ℕ) (r : Reply ℕ) → W [] ≡ old → r ≡ reply why n → count ≡ countOf r → n ≡ length ws → W (take count ws) ≡ unlessRefused why (W ws) old
 wrote W old ws why n count r z e h q =
     ⊎-elim
     (λ (a : (why ≡ 0) × (count ≡ n)). ap (λ (k : ℕ). W (take k ws)) (a .1 ∙ q) ∙ ap W (take-length ws) ∙ sym (written-none why (W ws) old (a .0)))
     (λ (a : (0 < why) × (count ≡ 0)). ap (λ (k : ℕ). W (take k ws)) (a .1) ∙ z ∙ sym (written-some why (W ws) old (a .0)))
     (counted why n count r e h)
 
--- ---- the two listings
+-- of the samples of a row, whose lengths may be uneven, a listing gives the n windows ws; it looks at the severities `rated` and, lent places, refuses by `why`
+pub record Listed (l : Listing) (mask : List ℕ) (times : List ℤ) (severities rated : List Float) (uneven : Bool) (n : ℕ) (ws : List Window) (why : List ℕ → ℕ) : Type 0 where
+  pub are : windowsLeft l mask times severities 0 ≡ ws
+  pub many : n ≡ length ws
+  pub row : uneven ≡ false → Row l mask times severities
+  pub refuses : (places : List ℕ) → why places ≡ windowsRefusal (uneven || differ places) mask times rated (noRoom places n)
 
-module _ (mask : List ℕ) (times : List ℤ) where
-  pub violations-are : (severities : List Float) → windowsLeft Violations mask times severities 0 ≡ violationWindows mask times severities
-  unfolding windowsLeft violationWindows severityOf
-  violations-are severities = ap (map (windowOf times (severityOf Violations severities))) (violations-left mask)
+module _ (mask : List ℕ) (times : List ℤ) (severities : List Float) where
+  pub violations : Listed Violations mask times severities severities (differ (length mask ∷ length times ∷ length severities ∷ [])) (length (violationRuns mask)) (violationWindows mask times severities) (violationRefusal mask times severities)
+  unfolding windowsLeft violationWindows severityOf violationRefusal
+  violations = record {
+    are = ap (map (windowOf times (severityOf Violations severities))) (violations-left mask);
+    many = sym (length-map (violationRuns mask) _);
+    row = λ e. record { timed = same-at (length mask) (length times ∷ length severities ∷ []) 0 e (omega arith); rated = λ q. same-at (length mask) (length times ∷ length severities ∷ []) 1 e (omega arith) };
+    refuses = λ places. refl;
+  }
 
-  pub visibility-are : (severities : List Float) → windowsLeft Visibility mask times severities 0 ≡ visibilityWindows mask times
-  unfolding windowsLeft visibilityWindows severityOf
-  visibility-are severities = ap (map (windowOf times (severityOf Visibility severities))) (visibility-left mask)
+  pub visibility : Listed Visibility mask times severities [] (differ (length mask ∷ length times ∷ [])) (length (visibilityRuns mask)) (visibilityWindows mask times) (visibilityRefusal mask times)
+  unfolding windowsLeft visibilityWindows severityOf visibilityRefusal
+  visibility = record {
+    are = ap (map (windowOf times (severityOf Visibility severities))) (visibility-left mask);
+    many = sym (length-map (visibilityRuns mask) _);
+    row = λ e. record { timed = same-at (length mask) (length times ∷ []) 0 e (omega arith); rated = λ q. let z : _≡_ {A = ℕ} 0 1 = cc in let w : ⊥ = omega arith in absurd w };
+    refuses = λ places. refl;
+  }
 
-  pub length-violations : (severities : List Float) → length (violationRuns mask) ≡ length (violationWindows mask times severities)
-  unfolding violationWindows
-  length-violations severities = sym (length-map (violationRuns mask) _)
+-- count windows of a listing may be stored; `uneven` says whether the places are
+pub record Storable (l : Listing) (mask : List ℕ) (times : List ℤ) (severities : List Float) (uneven : Bool) (count places : ℕ) : Type 0 where
+  pub few : count ≤ length (windowsLeft l mask times severities 0)
+  pub row : 0 < count → Row l mask times severities
+  pub even : 0 < count → uneven ≡ false
+  pub room : count ≤ places
 
-  pub length-visibility : length (visibilityRuns mask) ≡ length (visibilityWindows mask times)
-  unfolding visibilityWindows
-  length-visibility = sym (length-map (visibilityRuns mask) _)
+-- r is the answer, u says whether the lent places are uneven, the first of them being `room`, and count windows are stored
+module _ {l : Listing} {mask : List ℕ} {times : List ℤ} {severities rated : List Float} {uneven : Bool} {n : ℕ} {ws : List Window} {why : List ℕ → ℕ} (k : Listed l mask times severities rated uneven n ws why)
+    (u : Bool) (room count : ℕ) (r : Reply ℕ) (h : count ≡ countOf r) (q : r ≡ reply (windowsRefusal (uneven || u) mask times rated (ltb room n)) n) where
+  storable : Storable l mask times severities u count room
+  storable =
+      ⊎-elim
+      (λ (a : (windowsRefusal (uneven || u) mask times rated (ltb room n) ≡ 0) × (count ≡ n)).
+      let f = windows-accepted (uneven || u) mask times rated (ltb room n) (a .0) in
+      record {
+        few = omega (arith, k .many, ap length (k .are));
+        row = λ z. k .row (or-left uneven u (f .even));
+        even = λ z. or-right uneven u (f .even);
+        room = omega (arith, ltb-false room n (f .room));
+      })
+      (λ (a : (0 < windowsRefusal (uneven || u) mask times rated (ltb room n)) × (count ≡ 0)).
+      record { few = omega arith; row = λ z. let w : ⊥ = omega arith in absurd w; even = λ z. let w : ⊥ = omega arith in absurd w; room = omega arith })
+      (counted (windowsRefusal (uneven || u) mask times rated (ltb room n)) n count r q h)
 
-  pub violations-row : (severities : List Float) (places : Bool) → (differ (length mask ∷ length times ∷ length severities ∷ []) || places) ≡ false → Row Violations mask times severities
-  violations-row severities places e =
-      let d = or-left (differ (length mask ∷ length times ∷ length severities ∷ [])) places e in
-      record { timed = same-at (length mask) (length times ∷ length severities ∷ []) 0 d (omega arith); rated = λ q. same-at (length mask) (length times ∷ length severities ∷ []) 1 d (omega arith) }
+  answered : (places : List ℕ) → u ≡ differ places → ltb room n ≡ noRoom places n → r ≡ reply (why places) n
+  answered places e f =
+      q ∙ ap (λ (x : Bool). reply (windowsRefusal (uneven || x) mask times rated (ltb room n)) n) e
+      ∙ ap (λ (x : Bool). reply (windowsRefusal (uneven || differ places) mask times rated x) n) f
+      ∙ ap (λ (x : ℕ). reply x n) (sym (k .refuses places))
 
-  pub visibility-row : (severities : List Float) (places : Bool) → (differ (length mask ∷ length times ∷ []) || places) ≡ false → Row Visibility mask times severities
-  visibility-row severities places e =
-      let d = or-left (differ (length mask ∷ length times ∷ [])) places e in
-      record { timed = same-at (length mask) (length times ∷ []) 0 d (omega arith); rated = λ q. let z : _≡_ {A = ℕ} 0 1 = cc in let w : ⊥ = omega arith in absurd w }
+  leaves : {A : Type 0} (W : List Window → A) (old c : A) (places : List ℕ) → u ≡ differ places → ltb room n ≡ noRoom places n → W [] ≡ old → c ≡ W (take count (windowsLeft l mask times severities 0))
+      → (r ≡ reply (why places) (length ws)) × (c ≡ unlessRefused (why places) (W ws) old)
+  leaves W old c places e f z w =
+      let a = answered places e f in (
+        a ∙ ap (reply (why places)) (k .many),
+        w ∙ ap (λ (t : List Window). W (take count t)) (k .are) ∙ wrote W old ws (why places) n count r z a h (k .many),
+      )
+
+-- ---- the listings into columns
 
 -- columns that are equally long have room for as many windows as the first
-pub even-room : (count : ℕ) (d : Columns) (u : Bool) → u ≡ differ (lengths d) → (0 < count → u ≡ false) → count ≤ length (d .first) → Room count d
+even-room : (count : ℕ) (d : Columns) (u : Bool) → u ≡ differ (lengths d) → (0 < count → u ≡ false) → count ≤ length (d .first) → Room count d
 unfolding lengths
 even-room count d u e f h =
     elim (decLe 1 count) [
@@ -253,128 +276,76 @@ even-room count d u e f h =
       | no k ↦ record { first = omega arith; last = omega arith; firstTime = omega arith; lastTime = omega arith; severity = omega arith; isLast = omega arith }
     ]
 
--- ---- the listings into columns: d are the columns that are lent, u says whether they are uneven, r is the answer and count what is stored
+-- d are the columns that are lent
+module _ {l : Listing} {mask : List ℕ} {times : List ℤ} {severities rated : List Float} {uneven : Bool} {n : ℕ} {ws : List Window} {why : List ℕ → ℕ} (k : Listed l mask times severities rated uneven n ws why)
+    (d : Columns) (u : Bool) (count : ℕ) (r : Reply ℕ) (e : u ≡ differ (lengths d)) (h : count ≡ countOf r) (q : r ≡ reply (windowsRefusal (uneven || u) mask times rated (ltb (length (d .first)) n)) n) where
+  pub columns-ready : (count ≤ length (windowsLeft l mask times severities 0)) × (0 < count → Row l mask times severities) × Room count d
+  columns-ready = let s = storable k u (length (d .first)) count r h q in (s .few, s .row, even-room count d u e (s .even) (s .room))
 
-module _ (mask : List ℕ) (times : List ℤ) (severities : List Float) (d : Columns) (u : Bool) (count : ℕ) (r : Reply ℕ) (e : u ≡ differ (lengths d)) (h : count ≡ countOf r) where
-  abbrev uneven : Bool
-  uneven = differ (length mask ∷ length times ∷ length severities ∷ []) || u
+  pub columns-left : (c : Columns) → c ≡ written (take count (windowsLeft l mask times severities 0)) d → (r ≡ reply (why (lengths d)) (length ws)) × (c ≡ unlessRefused (why (lengths d)) (written ws d) d)
+  unfolding lengths noRoom written over
+  columns-left c w = leaves k u (length (d .first)) count r h q (λ (t : List Window). written t d) d c (lengths d) e refl refl w
 
-  abbrev uneven' : Bool
-  uneven' = differ (length mask ∷ length times ∷ []) || u
+-- ---- the listings into records
 
-  module _ (q : r ≡ reply (windowsRefusal uneven mask times severities (ltb (length (d .first)) (length (violationRuns mask)))) (length (violationRuns mask))) where
-    pub violation-store : (count ≤ length (windowsLeft Violations mask times severities 0)) × (0 < count → Row Violations mask times severities) × Room count d
-    violation-store =
-        let p = ready mask times severities uneven (length (violationRuns mask)) count (length (d .first)) r q h in
-        let n : length (violationRuns mask) ≡ length (windowsLeft Violations mask times severities 0) = length-violations mask times severities ∙ sym (ap length (violations-are mask times severities)) in (
-          omega (arith, p .few),
-          (λ z. violations-row mask times severities u (p .even z)),
-          even-room count d u e (λ z. or-right (differ (length mask ∷ length times ∷ length severities ∷ [])) u (p .even z)) (p .room),
-        )
+-- ys is the lent list of them
+module _ {l : Listing} {mask : List ℕ} {times : List ℤ} {severities rated : List Float} {uneven : Bool} {n : ℕ} {ws : List Window} {why : List ℕ → ℕ} (k : Listed l mask times severities rated uneven n ws why)
+    (ys : List Window) (count : ℕ) (r : Reply ℕ) (h : count ≡ countOf r) (q : r ≡ reply (windowsRefusal (uneven || false) mask times rated (ltb (length ys) n)) n) where
+  pub records-ready : Storable l mask times severities false count (length ys)
+  records-ready = storable k false (length ys) count r h q
 
-    pub violation-listed : (c : Columns) → c ≡ written (take count (windowsLeft Violations mask times severities 0)) d
-        → (r ≡ violationReply mask times severities d) × (c ≡ violationColumns mask times severities d)
-    unfolding violationRefusal lengths noRoom written over
-    violation-listed c w =
-        let why : Bool → ℕ = λ x. windowsRefusal (differ (length mask ∷ length times ∷ length severities ∷ []) || x) mask times severities (ltb (length (d .first)) (length (violationRuns mask))) in
-        let ws : List Window = violationWindows mask times severities in
-        let a : r ≡ reply (why (differ (lengths d))) (length (violationRuns mask)) = q ∙ ap (λ (x : Bool). reply (why x) (length (violationRuns mask))) e in (
-          a ∙ ap (reply (why (differ (lengths d)))) (length-violations mask times severities),
-          w ∙ ap (λ (t : List Window). written (take count t) d) (violations-are mask times severities)
-              ∙ wrote (λ (t : List Window). written t d) d ws (why (differ (lengths d))) (length (violationRuns mask)) count r refl a h (length-violations mask times severities),
-        )
+  pub records-left : (zs : List Window) → zs ≡ over (take count (windowsLeft l mask times severities 0)) ys → (r ≡ reply (why (length ys ∷ [])) (length ws)) × (zs ≡ unlessRefused (why (length ys ∷ [])) (over ws ys) ys)
+  unfolding differ any noRoom over
+  records-left zs w = leaves k false (length ys) count r h q (λ (t : List Window). over t ys) ys zs (length ys ∷ []) refl refl refl w
 
-  module _ (q : r ≡ reply (windowsRefusal uneven' mask times [] (ltb (length (d .first)) (length (visibilityRuns mask)))) (length (visibilityRuns mask))) where
-    pub visibility-store : (count ≤ length (windowsLeft Visibility mask times severities 0)) × (0 < count → Row Visibility mask times severities) × Room count d
-    visibility-store =
-        let p = ready mask times [] uneven' (length (visibilityRuns mask)) count (length (d .first)) r q h in
-        let n : length (visibilityRuns mask) ≡ length (windowsLeft Visibility mask times severities 0) = length-visibility mask times ∙ sym (ap length (visibility-are mask times severities)) in (
-          omega (arith, p .few),
-          (λ z. visibility-row mask times severities u (p .even z)),
-          even-room count d u e (λ z. or-right (differ (length mask ∷ length times ∷ [])) u (p .even z)) (p .room),
-        )
-
-    pub visibility-listed : (c : Columns) → c ≡ written (take count (windowsLeft Visibility mask times severities 0)) d
-        → (r ≡ visibilityReply mask times d) × (c ≡ visibilityColumns mask times d)
-    unfolding visibilityRefusal lengths noRoom written over
-    visibility-listed c w =
-        let why : Bool → ℕ = λ x. windowsRefusal (differ (length mask ∷ length times ∷ []) || x) mask times [] (ltb (length (d .first)) (length (visibilityRuns mask))) in
-        let ws : List Window = visibilityWindows mask times in
-        let a : r ≡ reply (why (differ (lengths d))) (length (visibilityRuns mask)) = q ∙ ap (λ (x : Bool). reply (why x) (length (visibilityRuns mask))) e in (
-          a ∙ ap (reply (why (differ (lengths d)))) (length-visibility mask times),
-          w ∙ ap (λ (t : List Window). written (take count t) d) (visibility-are mask times severities)
-              ∙ wrote (λ (t : List Window). written t d) d ws (why (differ (lengths d))) (length (visibilityRuns mask)) count r refl a h (length-visibility mask times),
-        )
-
--- ---- the listings into records: ys is the lent list of them, and zs what it is when k windows are stored
-
-pub record Recording (l : Listing) (mask : List ℕ) (times : List ℤ) (severities : List Float) (k from : ℕ) (ys zs : List Window) : Type 0 where
+-- the loop that stores count records: k are stored, and the rest is left from sample `from` on; ys is now zs
+pub record Pass (l : Listing) (mask : List ℕ) (times : List ℤ) (severities : List Float) (count : ℕ) (ys : List Window) : Type 0 where
+  pub k : ℕ
+  pub from : ℕ
+  pub zs : List Window
+  pub few : k ≤ count
   pub reached : Reached l mask times severities k from
   pub are : zs ≡ over (take k (windowsLeft l mask times severities 0)) ys
 
-module _ (l : Listing) (mask : List ℕ) (times : List ℤ) (severities : List Float) where
-  pub recording-none : (ys : List Window) → Recording l mask times severities 0 0 ys ys
-  unfolding over
-  recording-none ys = record { reached = reached-none l mask times severities; are = refl }
+module _ {l : Listing} {mask : List ℕ} {times : List ℤ} {severities : List Float} {count : ℕ} (ys : List Window) (ok : Storable l mask times severities false count (length ys)) where
+  abbrev Passes : Type 0
+  Passes = Pass l mask times severities count ys
 
-  -- n records are to be stored
-  module _ (n k from : ℕ) (ys zs : List Window) (h : n ≤ length (windowsLeft l mask times severities 0)) (room : n ≤ length ys) (s : Recording l mask times severities k from ys zs) where
-    pub recording-length : k ≤ n → length zs ≡ length ys
-    recording-length j =
-        length-kept zs (take k (left l mask times severities 0)) ys (s .are) (omega (arith, length-take-le k (left l mask times severities 0) (omega arith)))
+  abbrev pub pass-first : Passes
+  pass-first = record { k = 0; from = 0; zs = ys; few = omega arith; reached = reached-none l mask times severities; are = over-nil ys }
 
-    pub recording-next : k < n → (w : Window) → left l mask times severities from ≡ w ∷ left l mask times severities (w .last + 1) → w .last < length mask → Recording l mask times severities (k + 1) (w .last + 1) ys (set zs k w)
-    recording-next j w e b = record {
-      reached = reached-next l mask times severities k from w (s .reached) e b;
-      are =
-          over-more zs (take k (left l mask times severities 0)) ys k w (s .are) (length-take-le k (left l mask times severities 0) (omega arith)) (omega arith)
-          ∙ ap (λ (t : List Window). over t ys) (sym (taken-next l mask times severities k from w (s .reached) e));
+  -- a later pass has fewer windows to store
+  abbrev pub Nearer : Passes → Passes → Type 0
+  Nearer s′ s = count - s′ .k < count - s .k
+
+  pub nearer-ends : WellFounded Nearer
+  nearer-ends = InvImage·wf (λ (s : Passes). count - s .k) (Nat·lt-wfRel .wf)
+
+  module _ (s : Passes) where
+    taken : length (take (s .k) (left l mask times severities 0)) ≡ s .k
+    taken = length-take-le (s .k) (left l mask times severities 0) (omega (arith, s .few, ok .few))
+
+    pub pass-length : length (s .zs) ≡ length ys
+    pass-length = length-kept (s .zs) (take (s .k) (left l mask times severities 0)) ys (s .are) (omega (arith, taken, s .few, ok .room))
+
+    -- what the next window asks
+    pub pass-asks : s .k < count → (s .from ≤ length mask) × Row l mask times severities × (0 < length (windowsLeft l mask times severities (s .from)))
+    pass-asks j = (s .reached .in-row, ok .row (omega arith), some-left l mask times severities (s .k) (s .from) (s .reached) (omega (arith, ok .few)))
+
+    pub pass-more : s .k < count → (w : Window) → left l mask times severities (s .from) ≡ w ∷ left l mask times severities (w .last + 1) → set (s .zs) (s .k) w ≡ over (take (s .k + 1) (windowsLeft l mask times severities 0)) ys
+    pass-more j w e =
+        over-more (s .zs) (take (s .k) (left l mask times severities 0)) ys (s .k) w (s .are) taken (omega (arith, ok .room))
+        ∙ ap (λ (t : List Window). over t ys) (sym (taken-next l mask times severities (s .k) (s .from) w (s .reached) e))
+
+    abbrev pub pass-next : s .k < count → (w : Window) → (left l mask times severities (s .from) ≡ w ∷ left l mask times severities (w .last + 1)) × (w .last < length mask) → Passes
+    pass-next j w g = record {
+      k = s .k + 1;
+      from = w .last + 1;
+      zs = set (s .zs) (s .k) w;
+      few = omega arith;
+      reached = reached-next l mask times severities (s .k) (s .from) w (s .reached) (g .0) (g .1);
+      are = pass-more j w (g .0);
     }
 
--- what the answer r and the count allow, and what they make of a list zs at the end
-pub record Records (l : Listing) (mask : List ℕ) (times : List ℤ) (severities : List Float) (count places : ℕ) : Type 0 where
-  pub few : count ≤ length (windowsLeft l mask times severities 0)
-  pub row : 0 < count → Row l mask times severities
-  pub room : count ≤ places
-
-module _ (mask : List ℕ) (times : List ℤ) (ys : List Window) (count : ℕ) (r : Reply ℕ) (h : count ≡ countOf r) where
-  abbrev ask : List Float → Bool → List Run → ℕ
-  ask severities uneven runs = windowsRefusal (uneven || false) mask times severities (ltb (length ys) (length runs))
-
-  module _ (severities : List Float) (q : r ≡ reply (ask severities (differ (length mask ∷ length times ∷ length severities ∷ [])) (violationRuns mask)) (length (violationRuns mask))) where
-    pub violation-records-ready : Records Violations mask times severities count (length ys)
-    violation-records-ready =
-        let p = ready mask times severities (differ (length mask ∷ length times ∷ length severities ∷ []) || false) (length (violationRuns mask)) count (length ys) r q h in
-        record {
-          few = omega (arith, p .few, length-violations mask times severities, ap length (violations-are mask times severities));
-          row = λ z. violations-row mask times severities false (p .even z);
-          room = p .room;
-        }
-
-    pub violation-recorded : (zs : List Window) → zs ≡ over (take count (windowsLeft Violations mask times severities 0)) ys
-        → (r ≡ violationRecordsReply mask times severities ys) × (zs ≡ violationRecords mask times severities ys)
-    unfolding violationRefusal differ any noRoom over
-    violation-recorded zs w = (
-      q ∙ ap (reply (ask severities (differ (length mask ∷ length times ∷ length severities ∷ [])) (violationRuns mask))) (length-violations mask times severities),
-      w ∙ ap (λ (t : List Window). over (take count t) ys) (violations-are mask times severities)
-          ∙ wrote (λ (t : List Window). over t ys) ys (violationWindows mask times severities) (ask severities (differ (length mask ∷ length times ∷ length severities ∷ [])) (violationRuns mask)) (length (violationRuns mask)) count r refl q h (length-violations mask times severities),
-    )
-
-  module _ (q : r ≡ reply (ask [] (differ (length mask ∷ length times ∷ [])) (visibilityRuns mask)) (length (visibilityRuns mask))) where
-    pub visibility-records-ready : Records Visibility mask times [] count (length ys)
-    visibility-records-ready =
-        let p = ready mask times [] (differ (length mask ∷ length times ∷ []) || false) (length (visibilityRuns mask)) count (length ys) r q h in
-        record {
-          few = omega (arith, p .few, length-visibility mask times, ap length (visibility-are mask times []));
-          row = λ z. visibility-row mask times [] false (p .even z);
-          room = p .room;
-        }
-
-    pub visibility-recorded : (zs : List Window) → zs ≡ over (take count (windowsLeft Visibility mask times [] 0)) ys
-        → (r ≡ visibilityRecordsReply mask times ys) × (zs ≡ visibilityRecords mask times ys)
-    unfolding visibilityRefusal differ any noRoom over
-    visibility-recorded zs w = (
-      q ∙ ap (reply (ask [] (differ (length mask ∷ length times ∷ [])) (visibilityRuns mask))) (length-visibility mask times),
-      w ∙ ap (λ (t : List Window). over (take count t) ys) (visibility-are mask times [])
-          ∙ wrote (λ (t : List Window). over t ys) ys (visibilityWindows mask times) (ask [] (differ (length mask ∷ length times ∷ [])) (visibilityRuns mask)) (length (visibilityRuns mask)) count r refl q h (length-visibility mask times),
-    )
+    pub pass-last : count ≤ s .k → s .zs ≡ over (take count (windowsLeft l mask times severities 0)) ys
+    pass-last j = let same : s .k ≡ count = omega (arith, s .few) in s .are ∙ ap (λ (m : ℕ). over (take m (left l mask times severities 0)) ys) same

@@ -1,6 +1,6 @@
 -- `windows::listings::violation_windows` meets its contract. Assumes nothing.
 use Rattle.windows.specs.Refusal.{lengths}
-use Rattle.windows.proofs.WindowLists.{violation-store, violation-listed}
+use Rattle.windows.proofs.WindowLists.{violations, columns-ready, columns-left}
 use borrow.Author.Needs.{needs}
 use Rattle.windows.proofs.listings.violation_windows.Statement.{statement}
 use Rattle.windows.proofs.listings.violation_windows.Tie as tie
@@ -19,7 +19,7 @@ unfolding lengths
 store-windows-requires c κs =
     let a = c .before .before .before .before .before .before in
     let s = c .before .before .before .before .before .before .before .before .before .before .before .before .before .before .before in
-    violation-store (s .args .mask .now) (s .args .times .now) (s .args .severities .now) _ _ _ _ (a .before .before .differ-six .ensures) (a .accepted-count .ensures) (a .before .violation-answer .ensures)
+    columns-ready (violations (s .args .mask .now) (s .args .times .now) (s .args .severities .now)) _ _ _ _ (a .before .before .differ-six .ensures) (a .accepted-count .ensures) (a .before .violation-answer .ensures)
 
 same-length : tie.Need-same-length
 same-length c = search needs
@@ -45,7 +45,7 @@ returns c =
     let w = c .before .before .before .before .before .before .before .before .before .before in
     let a = w .before .before .before .before .before .before .before in
     let s = w .before .before .before .before .before .before .before .before .before .before .before .before .before .before .before .before in
-    violation-listed (s .args .mask .now) (s .args .times .now) (s .args .severities .now) _ _ _ _ (a .before .before .differ-six .ensures) (a .accepted-count .ensures) (a .before .violation-answer .ensures) _ (w .store-windows .ensures)
+    columns-left (violations (s .args .mask .now) (s .args .times .now) (s .args .severities .now)) _ _ _ _ (a .before .before .differ-six .ensures) (a .accepted-count .ensures) (a .before .violation-answer .ensures) _ (w .store-windows .ensures)
 
 pub violation-windows-spec : {M : Type 1} → statement M
 violation-windows-spec =

@@ -1,7 +1,7 @@
 -- `windows::listings::visibility_windows` meets its contract. Assumes nothing.
 use mathlib.Core.List.{[]}
 use Rattle.windows.specs.Refusal.{lengths}
-use Rattle.windows.proofs.WindowLists.{visibility-store, visibility-listed}
+use Rattle.windows.proofs.WindowLists.{visibility, columns-ready, columns-left}
 use borrow.Author.Needs.{needs}
 use Rattle.windows.proofs.listings.visibility_windows.Statement.{statement}
 use Rattle.windows.proofs.listings.visibility_windows.Tie as tie
@@ -23,7 +23,7 @@ unfolding lengths
 store-windows-requires c κs =
     let a = c .before .before .before .before .before .before .before in
     let s = c .before .before .before .before .before .before .before .before .before .before .before .before .before .before .before in
-    visibility-store (s .args .mask .now) (s .args .times .now) [] _ _ _ _ (a .before .before .differ-six .ensures) (a .accepted-count .ensures) (a .before .visibility-answer .ensures)
+    columns-ready (visibility (s .args .mask .now) (s .args .times .now) []) _ _ _ _ (a .before .before .differ-six .ensures) (a .accepted-count .ensures) (a .before .visibility-answer .ensures)
 
 same-length : tie.Need-same-length
 same-length c = search needs
@@ -49,7 +49,7 @@ returns c =
     let w = c .before .before .before .before .before .before .before .before .before .before in
     let a = w .before .before .before .before .before .before .before .before in
     let s = w .before .before .before .before .before .before .before .before .before .before .before .before .before .before .before .before in
-    visibility-listed (s .args .mask .now) (s .args .times .now) [] _ _ _ _ (a .before .before .differ-six .ensures) (a .accepted-count .ensures) (a .before .visibility-answer .ensures) _ (w .store-windows .ensures)
+    columns-left (visibility (s .args .mask .now) (s .args .times .now) []) _ _ _ _ (a .before .before .differ-six .ensures) (a .accepted-count .ensures) (a .before .visibility-answer .ensures) _ (w .store-windows .ensures)
 
 pub visibility-windows-spec : {M : Type 1} → statement M
 visibility-windows-spec =
