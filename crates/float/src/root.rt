@@ -135,27 +135,33 @@ fn sqrt_by_steps(x: f64) -> f64
     }
 }
 
-// About the root of f, from y, about 1 / root(f): the root to 26 digits, so that its square is exact; then what that leaves of f, divided by twice the
-// root. Nothing is promised of it.
-pub(crate) fn root_by_inverse(f: f64, y: f64) -> f64 {
-    let s = (f * y + 201326592.0) - 201326592.0;
+// About the root of f, from g, about the root, and y, about 1 / root(f): g to 26 digits, so that its square is exact; then what that leaves of f, divided by
+// twice the root. Nothing is promised of it.
+fn root_near(f: f64, g: f64, y: f64) -> f64 {
+    let s = (g + 201326592.0) - 201326592.0;
     let t = s * s;
     let h = 0.5 * y;
     s + (f - t) * h * (1.5 - (f + t) * (h * h))
 }
 
-// About the root of the normal pattern b's number times a power of four, from 1 to 2: its nearest f64 but for one operand in about 2,500.
-// Nothing is promised of it: `sqrt` checks it.
-fn guess(b: u64) -> f64
-    requires { ⌜ b < 2047 * 2 ^ 52 ⌝ }
-{
-    // The number times a power of four, from 1 to 4.
-    let n = (b + 0x10_0000_0000_0000) % 0x20_0000_0000_0000 + 0x3ff0_0000_0000_0000;
+// The same, from y alone.
+pub(crate) fn root_by_inverse(f: f64, y: f64) -> f64 {
+    root_near(f, f * y, y)
+}
+
+// About the root of the normal pattern b's number times a power of four, from 1/2 to 2: its nearest f64 but for few operands. Nothing is promised of it:
+// `sqrt` checks it.
+fn guess(b: u64) -> f64 {
+    // The number times a power of four, from 1/2 to 2.
+    let n = b % 0x20_0000_0000_0000 + 0x3fe0_0000_0000_0000;
     let f = f64::from_bits(n);
-    // 1 / root(f) to 4e-7: half the exponent, negated, and two steps of Newton's, with constants that spread the error to both sides.
-    let y0 = f64::from_bits(0x5fe5_8b37_0000_0000 - n / 2);
-    let y1 = y0 * (1.58114 - 0.584783 * f * y0 * y0);
-    root_by_inverse(f, y1 * (1.5000004 - 0.5 * f * y1 * y1))
+    // About 0.45 / root(f), to a sixteenth: half the exponent, negated.
+    let y = f64::from_bits(0x5fd3_fea0_0000_0000 - n / 2);
+    let z = f * y;
+    let r = z * y;
+    // About 1 / root(r): the cubic whose largest error is least where r lies. Two halves of it do not wait for each other.
+    let p = (4.906405164 - 24.672098479 * r) + r * r * (74.395979945 - 88.969694697 * r);
+    root_near(f, z * p, y * p)
 }
 
 // Whether q is what steps 2 and 3 make of m: m * 2^52 lies above the square of q - 1/2 and below that of q + 1/2.

@@ -1,4 +1,4 @@
--- The runs of a mask, one after the other: what the loops over a mask ask. In order: how many elements lead a list; clear samples are passed, and a
+-- The runs of a mask, one after the other: what the loops over a mask ask. In order: how many elements lead a list; a clear sample is passed, and a
 -- run ends; what is left of a listing's runs after each; how many runs start from a sample on. Assumes nothing.
 use Prim.Native.Nat.{ℕ, zero, suc, _+_, _-_, _≤_, _<_}
 use native.Mathlib.Nat.{add-zero, add-suc, suc-add}
@@ -29,16 +29,6 @@ module _ {A : Type 0} (p : A → Bool) where
       go true h = omega arith
       go false h = omega arith
 
-  -- the element after them does not have the property
-  pub leading-stop : (l : List A) (d : A) → leading p l < length l → p (getD l (leading p l) d) ≡ false
-  unfolding leading
-  leading-stop [] d h = let z : ⊥ = omega arith in absurd z
-  leading-stop (x ∷ l) d h = go (p x) refl (leading-stop l d) h
-    where
-      go : (b : Bool) → p x ≡ b → (leading p l < length l → p (getD l (leading p l) d) ≡ false) → cond b (suc (leading p l)) 0 < suc (length l) → p (getD (x ∷ l) (cond b (suc (leading p l)) 0) d) ≡ false
-      go true e f h = f (omega arith)
-      go false e f h = e
-
   module _ (l : List A) (d : A) (i : ℕ) where
     here : i < length l → leading p (drop i l) ≡ cond (p (getD l i d)) (suc (leading p (drop (i + 1) l))) 0
     unfolding leading
@@ -65,15 +55,7 @@ drop-map f zero l = refl
 drop-map f (suc k) [] = refl
 drop-map f (suc k) (x ∷ l) = drop-map f k l
 
--- ---- clear samples are passed, and an open run ends after its last sample
-
-skip-clear : (i : ℕ) (m : List Bool) → runsFrom i shut m ≡ runsFrom (i + leading not m) shut (drop (leading not m) m)
-unfolding runsFrom leading
-skip-clear i [] = ap (λ (j : ℕ). runsFrom j shut []) (sym (add-zero i))
-skip-clear i (true ∷ m) = ap (λ (j : ℕ). runsFrom j shut (true ∷ m)) (sym (add-zero i))
-skip-clear i (false ∷ m) =
-    let e : suc i + leading not m ≡ i + suc (leading not m) = omega arith in
-    skip-clear (suc i) m ∙ ap (λ (j : ℕ). runsFrom j shut (drop (leading not m) m)) e
+-- ---- an open run ends after its last sample
 
 abbrev itself : Bool → Bool
 itself b = b
@@ -113,34 +95,15 @@ module _ (v : ℕ) (mask : List ℕ) where
       ∙ drop-map marked (leading (λ b. p (eqb b v)) (drop i mask)) (drop i mask)
       ∙ ap (map marked) (drop-drop (leading (λ b. p (eqb b v)) (drop i mask)) i mask)
 
-  -- what the search for a run's start says
-  pub record Started (i j : ℕ) : Type 0 where
-    pub later : i ≤ j
-    pub in-row : j ≤ length mask
-    pub stands : j < length mask → getD mask j 0 ≡ v
-    pub left : rest i ≡ rest j
+  -- a clear sample is passed
+  pub passed : (i : ℕ) → i < length mask → eqb (getD mask i 0) v ≡ false → rest i ≡ rest (i + 1)
+  unfolding runsFrom are
+  passed i h e =
+      ap (λ (m : List ℕ). runsFrom i shut (are v m)) (drop-cons mask i 0 h)
+      ∙ ap (λ (b : Bool). runsFrom i shut (b ∷ are v (drop (suc i) mask))) e
+      ∙ ap rest (sym (add-one i))
 
-  pub started : (i j : ℕ) → i ≤ length mask → j ≡ i + leading clear (drop i mask) → Started i j
-  unfolding are
-  started i j h e =
-      let n = leading clear (drop i mask) in
-      let b : n ≤ length mask - i = subst (λ (k : ℕ). n ≤ k) (length-drop i mask) (leading-length clear (drop i mask)) in
-      record {
-        later = omega arith;
-        in-row = omega arith;
-        stands = λ k. eqb-true (getD mask j 0) v (not-clear (eqb (getD mask j 0) v) (ap (λ (m : ℕ). clear (getD mask m 0)) e ∙ sym (ap clear (getD-drop i mask n 0)) ∙ leading-stop clear (drop i mask) 0 (rw (length-drop i mask) (omega arith))));
-        left =
-            skip-clear i (are v (drop i mask))
-            ∙ ap (λ (k : ℕ). runsFrom (i + k) shut (drop (leading not (are v (drop i mask))) (are v (drop i mask)))) (leading-map marked not (drop i mask))
-            ∙ ap (runsFrom (i + n) shut) (beyond-leading not i)
-            ∙ ap rest (sym e);
-      }
-    where
-      not-clear : (b : Bool) → not b ≡ false → b ≡ true
-      not-clear true q = refl
-      not-clear false q = absurd (true≢false q)
-
-  -- what the search for its end says
+  -- what the search for a run's end says
   pub record Stopped (i j : ℕ) : Type 0 where
     pub later : i < j
     pub in-row : j ≤ length mask
@@ -172,9 +135,9 @@ module _ (l : Listing) (mask : List ℕ) where
   abbrev keep : List Run → List Run
   keep = filter (keeps l (length mask))
 
-  pub left-started : (i j : ℕ) → Started (byteOf l) mask i j → runsLeft l mask i ≡ runsLeft l mask j
+  pub left-clear : (i : ℕ) → i < length mask → eqb (getD mask i 0) (byteOf l) ≡ false → runsLeft l mask i ≡ runsLeft l mask (i + 1)
   unfolding runsLeft
-  left-started i j s = ap keep (s .left)
+  left-clear i h e = ap keep (passed (byteOf l) mask i h e)
 
   by-test : (i j : ℕ) (b : Bool) → Stopped (byteOf l) mask i j → keeps l (length mask) (run i (j - 1)) ≡ b → runsLeft l mask i ≡ cond b (run i (j - 1) ∷ runsLeft l mask j) (runsLeft l mask j)
   unfolding runsLeft filter

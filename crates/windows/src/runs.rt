@@ -41,21 +41,6 @@ fn is_listed(listing: Listing, first: usize, end: usize, samples: usize) -> bool
     }
 }
 
-// The first sample from `from` on that is the byte v, or the number of samples.
-fn start_of_run(mask: &[u8], v: u8, from: usize) -> usize
-    requires { ⌜ from ≤ length (now mask) ⌝ }
-    ensures { λ r. ⌜ r ≡ from + leading (λ (b : ℕ). not (eqb b v)) (drop from (now (mask .entry))) ⌝ }
-{
-    let mut i = from;
-    while i < mask.len() {
-        if mask[i] == v {
-            return i;
-        }
-        i += 1;
-    }
-    i
-}
-
 // The first sample from `from` on that is not the byte v, or the number of samples.
 fn end_of_run(mask: &[u8], v: u8, from: usize) -> usize
     requires { ⌜ from ≤ length (now mask) ⌝ }
@@ -80,15 +65,14 @@ pub(crate) fn next_run(listing: Listing, mask: &[u8], from: usize) -> Stretch
     let v = byte_of(listing);
     let mut at = from;
     while at < samples {
-        let first = start_of_run(mask, v, at);
-        if first == samples {
-            return Stretch { first, end: first };
+        let first = at;
+        at += 1;
+        if mask[first] == v {
+            at = end_of_run(mask, v, at);
+            if is_listed(listing, first, at, samples) {
+                return Stretch { first, end: at };
+            }
         }
-        let end = end_of_run(mask, v, first + 1);
-        if is_listed(listing, first, end, samples) {
-            return Stretch { first, end };
-        }
-        at = end;
     }
     Stretch {
         first: samples,

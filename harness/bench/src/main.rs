@@ -19,6 +19,9 @@ use std::hint::black_box;
 use std::process::exit;
 
 const TIMES: usize = 1000;
+const ROW: rows::Shape = (1000, TIMES);
+/// The longest row that is accepted.
+const LONG_ROW: rows::Shape = (1, 65_536);
 
 /// A case's name, and how it is made of the number of targets.
 type Entry = (&'static str, fn(&'static str, usize) -> Case);
@@ -45,12 +48,14 @@ const ENTRIES: &[Entry] = &[
     ("right-check-shuffled", |name, _| journals::right_check_case(name, false, Limit::Rate(1.0))),
     ("collect", |name, _| journals::collect_case(name, false, Limit::Ratio(3.0))),
     ("collect-vectors", |name, _| journals::collect_case(name, true, Limit::None)),
-    ("violation-clear", |name, _| rows::windows_case(name, Violation, "clear", &[0], Limit::Rate(1.0))),
-    ("violation-alternating", |name, _| rows::windows_case(name, Violation, "alternating", &[0, 1], Limit::Times(3.0, "violation-clear"))),
-    ("visibility-marked", |name, _| rows::windows_case(name, Visibility, "all marked", &[1], Limit::Rate(1.0))),
+    ("violation-clear", |name, _| rows::windows_case(name, ROW, Violation, "clear", &[0], Limit::Rate(1.0))),
+    ("violation-alternating", |name, _| rows::windows_case(name, ROW, Violation, "alternating", &[0, 1], Limit::Times(3.0, "violation-clear"))),
+    ("visibility-marked", |name, _| rows::windows_case(name, ROW, Visibility, "all marked", &[1], Limit::Rate(1.0))),
     ("visibility-alternating", |name, _| {
-        rows::windows_case(name, Visibility, "two and two", &[0, 0, 1, 1], Limit::Times(3.0, "visibility-marked"))
+        rows::windows_case(name, ROW, Visibility, "two and two", &[0, 0, 1, 1], Limit::Times(3.0, "visibility-marked"))
     }),
+    ("long-violation-clear", |name, _| rows::windows_case(name, LONG_ROW, Violation, "clear", &[0], Limit::Rate(1.0))),
+    ("long-violation-alternating", |name, _| rows::windows_case(name, LONG_ROW, Violation, "alternating", &[0, 1], Limit::None)),
     ("chunks-1024", |name, _| sweeps::chunks_case(name, 64, Limit::None)),
     ("chunks-4096", |name, _| sweeps::chunks_case(name, 256, Limit::Times(1.2, "chunks-1024"))),
     ("chunks-16384", |name, _| sweeps::chunks_case(name, 1024, Limit::Times(1.2, "chunks-1024"))),

@@ -1,9 +1,10 @@
-//! Windows of a row of 65,536 samples, lent as columns. A unit is a sample, which is a byte of the mask.
+//! Windows of a row, listed again and again into the same lent columns. A unit is a sample, which is a byte of the mask.
 use crate::case::{side, Case, Limit, Side};
 use crate::inputs;
 use wilfnusk::Columns;
 
-const SAMPLES: usize = 65_536;
+/// How many times a row is listed, and how many samples it has.
+pub type Shape = (usize, usize);
 
 /// Which listing.
 #[derive(Clone, Copy, PartialEq)]
@@ -51,42 +52,46 @@ fn ends(list: impl Iterator<Item = (i64, i64)>) -> Vec<u8> {
     list.flat_map(|(a, b)| [a, b]).flat_map(|t| t.to_le_bytes()).collect()
 }
 
-/// `pattern`: the mask's bytes, over and over.
-pub fn windows_case(name: &'static str, listing: Listing, what: &str, pattern: &[u8], limit: Limit) -> Case {
-    let mask: Vec<u8> = pattern.iter().copied().cycle().take(SAMPLES).collect();
-    let times = inputs::times(SAMPLES);
-    let severities: Vec<f64> = (0..SAMPLES).map(|k| (k % 97) as f64 / 8.0).collect();
+/// `pattern`: the row's bytes, over and over.
+pub fn windows_case(name: &'static str, (listings, samples): Shape, listing: Listing, what: &str, pattern: &[u8], limit: Limit) -> Case {
+    let mask: Vec<u8> = pattern.iter().copied().cycle().take(samples).collect();
+    let times = inputs::times(samples);
+    let severities: Vec<f64> = (0..samples).map(|k| (k % 97) as f64 / 8.0).collect();
     let original = oracle::Row::new(&mask, &severities, &times);
-    let row = move |lists: &mut Lists| {
-        let out = lists.columns();
-        let count = match listing {
-            Listing::Violation => wilfnusk::violation_windows(&mask, &times, &severities, out),
-            Listing::Visibility => wilfnusk::visibility_windows(&mask, &times, out),
-        };
-        lists.count = count.unwrap() as usize;
+    let list = move |lists: &mut Lists| {
+        for _ in 0..listings {
+            let out = lists.columns();
+            let count = match listing {
+                Listing::Violation => wilfnusk::violation_windows(&mask, &times, &severities, out),
+                Listing::Visibility => wilfnusk::visibility_windows(&mask, &times, out),
+            };
+            lists.count = count.unwrap() as usize;
+        }
     };
     let found = |lists: &Lists| ends(lists.first_time.iter().copied().zip(lists.last_time.iter().copied()).take(lists.count));
     // The original's visibility getter makes Python objects: no side here.
-    let other =
-        (listing == Listing::Violation).then(|| -> Box<dyn Side> {
-            side(
-                vec![],
-                move |list| *list = original.violations(),
-                |_| SAMPLES as u64,
-                |list| {
-                    ends(list.iter().map(|v| {
-                        (v.start_time_internal.timestamp_nanos_opt().unwrap(), v.end_time_internal.timestamp_nanos_opt().unwrap())
-                    }))
-                },
-            )
-        });
+    let other = (listing == Listing::Violation).then(|| -> Box<dyn Side> {
+        side(
+            vec![],
+            move |list| {
+                for _ in 0..listings {
+                    *list = original.violations();
+                }
+            },
+            move |_| (listings * samples) as u64,
+            |list| {
+                let times = list.iter().map(|v| (v.start_time_internal, v.end_time_internal));
+                ends(times.map(|(a, b)| (a.timestamp_nanos_opt().unwrap(), b.timestamp_nanos_opt().unwrap())))
+            },
+        )
+    });
     Case {
         name,
-        title: format!("{} windows, {what}", if listing == Listing::Violation { "violation" } else { "visibility" }),
+        title: format!("{} windows of {samples} samples, {what}", if listing == Listing::Violation { "violation" } else { "visibility" }),
         unit: "byte",
         limit,
         mask: false,
-        port: side(Lists::new(SAMPLES.div_ceil(2)), row, |_| SAMPLES as u64, found),
+        port: side(Lists::new(samples.div_ceil(2)), list, move |_| (listings * samples) as u64, found),
         other,
     }
 }
