@@ -4,6 +4,7 @@ use Prim.Native.Nat.{ℕ, zero, suc, _+_, _-_, _*_, _/_, _%_, _^_, compare, Orde
 use mathlib.Core.Bool.{Bool, true, false, cond}
 use lib.Dec.{leb, eqb}
 use lib.Ieee.{Float, nan, inf, fin, Format, binary64, prec, low, up, down, size, nearest, units}
+use lib.Ieee.Positive.{positive}
 use Rattle.float.specs.declared.root.Scaled.{Scaled}
 use Rattle.float.specs.declared.root.Operand.{Operand}
 use Rattle.float.specs.declared.root.Operand.the-variants.{Answer, Positive}
@@ -44,12 +45,7 @@ sqrtOf (fin false (suc m) e) = rootOf binary64 (suc m * up e) (down e)
 
 -- Step 1: the special operands with their answers; what is left is finite and above 0.
 unfoldable pub operandOf : Float → Operand
-operandOf nan = Answer nan
-operandOf (inf true) = Answer nan
-operandOf (inf false) = Answer (inf false)
-operandOf (fin s zero e) = Answer (fin s zero e)
-operandOf (fin true (suc m) e) = Answer nan
-operandOf (fin false (suc m) e) = Positive
+operandOf x = cond (positive x) Positive (Answer (sqrtOf x))
 
 -- The magnitude of the bit pattern b, which has the sign clear and is no infinity and no NaN, in units of the smallest value, 2 ^ -1074.
 abbrev pub magnitude : ℕ → ℕ

@@ -9,7 +9,7 @@ use lib.Ieee.{Float, nan, inf, fin, binary64, up, down, eq, lt, ne, div, ofBits,
 use lib.Ieee.Compare.{differs-from-itself}
 use lib.Ieee.Fits.{up-pos, and-l}
 use borrow.Author.Tests.{ltb-true, lt-ltb}
-use Rattle.float.specs.Root.{operandOf}
+use Rattle.float.specs.Root.{sqrtOf, operandOf}
 use Rattle.float.specs.declared.root.Operand.the-variants.{Answer, Positive}
 use Rattle.float.proofs.root.special.Statement.{statement}
 use Rattle.float.proofs.root.special.Tie as tie
@@ -22,7 +22,7 @@ never e = absurd (true≢false (sym e))
 
 -- a NaN
 nan-answer : (x : Float) → ne x x ≡ true → Answer x ≡ operandOf x
-unfolding operandOf
+unfolding operandOf sqrtOf
 nan-answer x e = subst (λ (y : Float). Answer y ≡ operandOf y) (sym (differs-from-itself x (holds e))) refl
 
 -- a zero's number is 0, and no other's is
@@ -30,17 +30,18 @@ no-zero : (m : ℕ) (u : ℕ) → 0 < u → 0 < suc m * u * 1
 no-zero m u h = let p : 0 < suc m * u = mul-pos (zero-lt-suc m) h in omega arith
 
 zero-answer : (x : Float) → eq x (ofBits binary64 0) ≡ true → Answer x ≡ operandOf x
-unfolding operandOf eq ofBits
+unfolding operandOf sqrtOf eq ofBits
 zero-answer nan e = never e
 zero-answer (inf s) e = never e
-zero-answer (fin s zero d) e = refl
+zero-answer (fin true zero d) e = refl
+zero-answer (fin false zero d) e = refl
 zero-answer (fin s (suc m) d) e =
     let p : suc m * up d * 1 ≡ 0 * 1 * down d = eqb→eq (suc m * up d * 1) (0 * 1 * down d) (and-l (eqb (suc m * up d * 1) (0 * 1 * down d)) (Bool·beq s false || eqb (suc m * up d * 1) 0) (holds e)) in
     let q : 0 < suc m * up d * 1 = no-zero m (up d) (up-pos d) in
     absurd (omega (arith, zero-mul (down d)))
 
 negative-answer : (x : Float) → lt x (ofBits binary64 0) ≡ true → Answer (div binary64 (ofBits binary64 0) (ofBits binary64 0)) ≡ operandOf x
-unfolding operandOf lt div ofBits
+unfolding operandOf sqrtOf lt div ofBits
 negative-answer nan e = never e
 negative-answer (inf true) e = refl
 negative-answer (inf false) e = never e
@@ -49,7 +50,7 @@ negative-answer (fin true zero d) e = absurd (omega (arith, ltb-true 0 (0 * up d
 negative-answer (fin true (suc m) d) e = refl
 
 infinity-answer : (x : Float) → eq x (ofBits binary64 0x7ff0_0000_0000_0000) ≡ true → Answer x ≡ operandOf x
-unfolding operandOf eq ofBits
+unfolding operandOf sqrtOf eq ofBits
 infinity-answer nan e = never e
 infinity-answer (inf true) e = never e
 infinity-answer (inf false) e = refl
@@ -71,7 +72,7 @@ positive-left (fin s zero d) p q r t = absurd (true≢false (sym (level-zero s (
 positive-left (fin true (suc m) d) p q r t =
     let h : 0 < suc m * up d * 1 = no-zero m (up d) (up-pos d) in
     absurd (true≢false (sym (lt-ltb 0 (suc m * up d * 1 + 0 * 1 * down d) (omega arith)) ∙ r))
-positive-left (fin false (suc m) d) p q r t = refl
+positive-left (fin false (suc m) d) p q r t = rw (lt-ltb 0 (suc m) (zero-lt-suc m))
 
 returns : tie.Need-returns
 returns c = nan-answer (c .before .args .x) (c .if1 .taken)
