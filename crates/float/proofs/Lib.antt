@@ -1,5 +1,5 @@
 -- Laws of section 1's arithmetic.
--- For callers: Nearest (what the root is), Bounds and Angle (sizes), Sign, Order (of any floats), Overflow (a subtraction that stays finite), Remainder (by 360), Held (values that a format holds), Exact (sums of whole numbers), Examples.
+-- For callers: Nearest (what the root is), Bounds and Angle (sizes), Sign, Order (of any floats), Overflow (when a subtraction is finite), Remainder (by 360), Held (values that a format holds), Exact (sums of whole numbers), Examples.
 -- For the root's own proofs: Grid, Guessed, Isqrt, Patterns, Rooted, Scaling, Steps.
 pub mod Angle
 pub mod Bounds

@@ -1,5 +1,7 @@
--- A subtraction that does not overflow: of a finite number and one of at most 2 ^ 969 in size. Assumes nothing.
+-- When a subtraction is finite: of a finite number and one of at most 2 ^ 969 in size it does not overflow (`finite-sub`), and of a number that is
+-- not finite it never is finite (`sub-not-finite`). Assumes nothing.
 use mathlib.Core.Path.{_≡_, refl, sym, ap, _∙_, subst}
+use mathlib.Core.Logic.{_⊎_, inl, inr}
 use mathlib.Core.Bool.{Bool, true, false, cond, not, _&&_, Bool·beq, true≢false}
 use Prim.Native.Nat.{ℕ, zero, suc, _+_, _-_, _*_, _%_, _^_, _<_, _≤_}
 use native.Mathlib.Nat.{le-trans, le-of-eq, mul-pos, mul-one, one-mul, mul-comm, mul-assoc, mul-le-mul, mul-le-mul-right, mul-le-mul-left, lt-of-mul-lt-mul-right, lt-of-lt-of-le, lt-of-le-of-lt, le-of-lt, le-of-suc-le-suc, zero-mul, zero-add, add-mul, add-le-add, le-add-left, le-add-right, sub-le}
@@ -103,3 +105,19 @@ finite-sub (fin s m e) b f h w =
     let B : w .m * up i * down e ≤ 2 ^ 969 * (down e * down i)
     = le-trans (mul-le-mul-right (down e) (w .size-le)) (le-of-eq (mul-assoc (2 ^ 969) (down i) (down e) ∙ ap (λ (n : ℕ). 2 ^ 969 * n) (mul-comm (down i) (down e)))) in
     rw (w .is) (finite-sum s (not (w .s)) (m * up e * down i) (w .m * up i * down e) (down e * down i) (mul-pos (down-pos e) (down-pos i)) A B)
+
+-- a subtraction with an infinity or a NaN on either side
+pub sub-not-finite : (a b : Float) → (finite a ≡ false) ⊎ (finite b ≡ false) → finite (sub binary64 a b) ≡ false
+unfolding finite sub neg add
+sub-not-finite nan b w = refl
+sub-not-finite (inf s) nan w = refl
+sub-not-finite (inf s) (inf t) w = infinities (Bool·beq s (not t)) s
+  where
+    infinities : (like s : Bool) → finite (cond like (inf s) nan) ≡ false
+    infinities true s = refl
+    infinities false s = refl
+sub-not-finite (inf s) (fin t n d) w = refl
+sub-not-finite (fin s m e) nan w = refl
+sub-not-finite (fin s m e) (inf t) w = refl
+sub-not-finite (fin s m e) (fin t n d) (inl h) = absurd (true≢false h)
+sub-not-finite (fin s m e) (fin t n d) (inr h) = absurd (true≢false h)
