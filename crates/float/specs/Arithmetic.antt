@@ -6,6 +6,7 @@ use lib.Ieee.{Float, nan, inf, fin, binary64, add, mul, div, rem, lt, ofBits}
 
 -- ---- constants, by their bit patterns
 
+-- +0, 1, 2 and 8
 abbrev pub zero·0 : Float
 zero·0 = ofBits binary64 0x0000_0000_0000_0000
 
