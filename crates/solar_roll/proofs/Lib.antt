@@ -1,8 +1,8 @@
--- Laws of specs/: what an accepted plan is (Accepted), a cell from its shared parts (Cells), and the theorems of section 2: Difference, Finite,
--- Violations, and the starred examples (Examples).
+-- Laws of specs/: what an accepted plan is (Accepted), a cell from its shared parts (Cells), the values of the constants (Constants), and the
+-- theorems of section 2: Difference, Finite, Violations.
 pub mod Accepted
 pub mod Cells
+pub mod Constants
 pub mod Difference
-pub mod Examples
 pub mod Finite
 pub mod Violations
