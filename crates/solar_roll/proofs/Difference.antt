@@ -1,6 +1,6 @@
 -- Section 2's `circular_diff_deg`: the difference of two rolls lies in 0 to 180 where their subtraction is finite (`difference-range`), and is a
--- NaN elsewhere (`difference-nan`). Rounding is monotone, and 0, 180 and 360 are values of the format. Public besides, for the remainder by 360
--- alone: `Turn`, `made-positive`, `remainder`. Assumes nothing.
+-- NaN elsewhere (`difference-nan`): so it is where a roll is not finite (`difference-not-finite`). Rounding is monotone, and 0, 180 and 360 are
+-- values of the format. Public besides, for the remainder by 360 alone: `Turn`, `made-positive`, `remainder`. Assumes nothing.
 use mathlib.Core.Path.{_≡_, refl, sym, ap, _∙_, subst}
 use mathlib.Core.Logic.{_⊎_, inl, inr}
 use mathlib.Core.Bool.{Bool, true, false, cond, _||_, _&&_, true≢false}
@@ -15,6 +15,7 @@ use lib.Ieee.Fits.{down-pos}
 use lib.Ieee.Order.{round-mono}
 use Rattle.float.specs.Arithmetic.{zero·0, halfTurn, fullTurn, absOf, remEuclid, finite}
 use Rattle.float.proofs.Bounds.{resign, round-resign, at-most}
+use Rattle.float.proofs.Overflow.{sub-not-finite}
 use Rattle.solar_roll.specs.Roll.{arc, circularDiffDeg}
 
 -- ---- the size of a rounded value
@@ -74,6 +75,7 @@ zero-value = refl
 
 -- ---- the remainder by 360, made positive
 
+-- at most 360 in size, and not below 0
 pub record Turn (x : Float) : Type 0 where
   pub s : Bool
   pub m : ℕ
@@ -151,6 +153,7 @@ less-half true m e h (inr z) = half-of true (m * up e * 1 + 180 * down e) (down 
 
 -- ---- 180 less that
 
+-- in 0 to 180
 pub record InHalfTurn (x : Float) : Type 0 where
   pub low : le zero·0 x ≡ true
   pub high : le x halfTurn ≡ true
@@ -208,10 +211,16 @@ arc-nan nan h = refl
 arc-nan (inf s) h = refl
 arc-nan (fin s m e) h = absurd (true≢false h)
 
+-- in 0 to 180, where the subtraction does not overflow
 pub difference-range : (a b : Float) → finite (sub binary64 a b) ≡ true → InHalfTurn (circularDiffDeg a b)
 unfolding circularDiffDeg
 difference-range a b h = arc-range (sub binary64 a b) h
 
+-- else NaN
 pub difference-nan : (a b : Float) → finite (sub binary64 a b) ≡ false → circularDiffDeg a b ≡ nan
 unfolding circularDiffDeg
 difference-nan a b h = arc-nan (sub binary64 a b) h
+
+-- "a difference of a non-finite number is NaN"
+pub difference-not-finite : (a b : Float) → (finite a ≡ false) ⊎ (finite b ≡ false) → circularDiffDeg a b ≡ nan
+difference-not-finite a b h = difference-nan a b (sub-not-finite a b h)

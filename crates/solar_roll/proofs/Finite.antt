@@ -237,5 +237,6 @@ module _ (p : Plan) (facts : PlanFacts p) (three : length (headPanel p) ≡ 3) (
       (position-within _ (any-getD (tooLarge LIMIT) n nan 1 (facts .panel-small) (omega (arith, three))))
       (position-within _ (any-getD (tooLarge LIMIT) n nan 2 (facts .panel-small) (omega (arith, three))))
 
+  -- so it is finite
   pub roll-finite : finite (solarOptimalRollDeg (directionOf p r) (sunAt p j) (configOf p r .«panel_normal»)) ≡ true
   roll-finite = within-finite 20 roll-within

@@ -2,11 +2,12 @@
 -- (`met-exactly`), and a tolerance below 0 violates every cell that is not Free, at a finite roll (`below-zero-violates`). Assumes nothing.
 use mathlib.Core.Path.{_≡_, refl, sym, ap, _∙_, subst}
 use mathlib.Core.Bool.{Bool, true, false, cond}
+use mathlib.Core.Logic.{inl}
 use Prim.Native.Nat.{ℕ, _<_}
 use lib.Dec.{T, lit≤}
 use lib.ListN.{length}
 use lib.IntN.{pos}
-use lib.Ieee.{Float, nan, inf, fin, binary64, sub, neg, add, lt, le, fits, ofBits}
+use lib.Ieee.{Float, nan, inf, fin, binary64, lt, fits, ofBits}
 use Rattle.float.specs.Arithmetic.{zero·0, finite}
 use Rattle.float.proofs.Bounds.{weaken}
 use Rattle.float.proofs.Order.{lt-self, below-zero}
@@ -16,9 +17,10 @@ use Rattle.solar_roll.specs.Cell.{optimalRoll, violates}
 use Rattle.solar_roll.specs.Plan.{Plan, rowsOf, timesOf, directionOf, configOf, sunAt, cellOf, headPanel, PlanFacts}
 use Rattle.solar_roll.specs.declared.cell.CellRoll.{CellRoll}
 use Rattle.solar_roll.specs.declared.cell.CellRoll.the-variants.{Free, At, Refused}
-use Rattle.solar_roll.proofs.Difference.{difference-range, difference-nan}
+use Rattle.solar_roll.proofs.Difference.{difference-range, difference-not-finite}
 use Rattle.solar_roll.proofs.Finite.{roll-within}
 
+-- a NaN tolerance
 pub nan-tolerance : (c : CellRoll) (roll : Float) → violates c roll nan ≡ false
 unfolding violates lt
 nan-tolerance Free roll = refl
@@ -31,18 +33,14 @@ lt-nan nan = refl
 lt-nan (inf s) = refl
 lt-nan (fin s m e) = refl
 
-nan-less : (x : Float) → finite (sub binary64 nan x) ≡ false
-unfolding finite sub neg add
-nan-less nan = refl
-nan-less (inf s) = refl
-nan-less (fin s m e) = refl
-
+-- a NaN roll
 pub nan-roll : (c : CellRoll) (tolerance : Float) → violates c nan tolerance ≡ false
-unfolding violates
+unfolding violates finite
 nan-roll Free tolerance = refl
-nan-roll (At optimal) tolerance = ap (lt tolerance) (difference-nan nan optimal (nan-less optimal)) ∙ lt-nan tolerance
+nan-roll (At optimal) tolerance = ap (lt tolerance) (difference-not-finite nan optimal (inl refl)) ∙ lt-nan tolerance
 nan-roll (Refused k) tolerance = refl
 
+-- a tolerance that is the difference itself
 pub met-exactly : (optimal roll : Float) → violates (At optimal) roll (circularDiffDeg roll optimal) ≡ false
 unfolding violates
 met-exactly optimal roll = lt-self (circularDiffDeg roll optimal)
@@ -52,6 +50,7 @@ module _ (p : Plan) (facts : PlanFacts p) (three : length (headPanel p) ≡ 3) (
   abbrev optimal : Float
   optimal = solarOptimalRollDeg (directionOf p r) (sunAt p j) (configOf p r .«panel_normal»)
 
+  -- a tolerance below 0, at a finite roll
   pub below-zero-violates : (cellOf p r j ≡ Free → ⊥) → (roll tolerance : Float) → T (fits binary64 roll) → finite roll ≡ true → lt tolerance zero·0 ≡ true →
       violates (cellOf p r j) roll tolerance ≡ true
   unfolding cellOf optimalRoll violates ofBits
