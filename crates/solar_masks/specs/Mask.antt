@@ -4,14 +4,13 @@ use mathlib.Core.Bool.{Bool, true, false, cond}
 use mathlib.Core.List.{List, [], _∷_}
 use Prim.Native.Nat.{ℕ, _/_, _%_}
 use lib.Dec.{eqb, ltb}
-use lib.IntN.{pos}
 use lib.ListN.{length}
-use lib.Ieee.{Float, binary64, sub, div, lt, ofInt}
+use lib.Ieee.{Float, binary64, sub, lt}
 use Rattle.buffers.specs.Ranges.{flag}
 use Rattle.buffers.specs.Lent.{filled}
 use Rattle.buffers.specs.Refusal.{first, carried, Reply, reply, unlessRefused}
-use Rattle.float.specs.Arithmetic.{fullTurn, remEuclid}
-use Rattle.solar_roll.specs.Roll.{solarOptimalRollDeg}
+use Rattle.float.specs.Arithmetic.{remEuclid}
+use Rattle.solar_roll.specs.Roll.{solarOptimalRollDeg, sampleStep}
 use Rattle.solar_roll.specs.Cell.{violates, inForce}
 use Rattle.solar_roll.specs.Plan.{Plan, rowsOf, timesOf, cells, directionOf, configOf, sunAt, cellOf, headConfigured, planRefusal}
 use Rattle.solar_roll.specs.declared.cell.CellRoll.{CellRoll}
@@ -23,10 +22,6 @@ use Rattle.solar_masks.specs.declared.mask.MarkRule.{MarkRule}
 use Rattle.solar_masks.specs.declared.mask.MarkRule.the-variants.{AtRoll, EveryStep, Nothing}
 
 -- ---- section 6: every multiple of a step violates
-
--- step = 360 / n
-unfoldable pub sampleStep : ℕ → Float
-sampleStep n = div binary64 fullTurn (ofInt binary64 (pos n))
 
 -- the smaller of phase and step - phase, where phase = roll rem step
 unfoldable pub stepDistance : Float → Float → Float
@@ -57,7 +52,7 @@ unfoldable pub atConfigured : ConfiguredRoll → MarkRule
 atConfigured None = Nothing
 atConfigured (Some roll) = AtRoll roll
 
--- at every roll: a configured roll is looked at before n, and n = 0 marks nothing
+-- at every roll, with step = 360 / n: a configured roll is looked at before n, and n = 0 marks nothing
 unfoldable pub atEveryRoll : ℕ → ConfiguredRoll → MarkRule
 atEveryRoll n None = cond (eqb n 0) Nothing (EveryStep (sampleStep n))
 atEveryRoll n (Some roll) = AtRoll roll

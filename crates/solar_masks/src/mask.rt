@@ -26,11 +26,11 @@ ghost use Rattle.buffers.specs.Ranges.{flag};
 ghost use Rattle.buffers.specs.Lent.{filled};
 ghost use Rattle.buffers.specs.Rows.{Columns};
 ghost use Rattle.buffers.specs.Refusal.{replyOf};
-ghost use Rattle.solar_roll.specs.Roll.{bodyAxes};
+ghost use Rattle.solar_roll.specs.Roll.{bodyAxes, sampleStep};
 ghost use Rattle.solar_roll.specs.Cell.{rollIn};
 ghost use Rattle.solar_roll.specs.Plan.{count as countOf};
 ghost use Rattle.solar_roll.specs.Plan.{planOf, rowDirection, rowConfig, cells, samplingOrNone};
-ghost use Rattle.solar_masks.specs.Mask.{sampleStep, stepDistance, missesSteps, marked, atRoll, atConfigured, atEveryRoll, cellMark, cellsRefusal, cellsReply, maskAfter};
+ghost use Rattle.solar_masks.specs.Mask.{stepDistance, missesSteps, marked, atRoll, atConfigured, atEveryRoll, cellMark, cellsRefusal, cellsReply, maskAfter};
 
 // What marks a cell: a roll too far from its optimal roll, every multiple of a step too far from it,
 // or nothing.

@@ -4,8 +4,9 @@
 use mathlib.Core.Bool.{Bool, true, false, cond, _||_}
 use mathlib.Core.List.{List, [], _∷_}
 use Prim.Native.Nat.{ℕ}
+use lib.IntN.{pos}
 use lib.ListN.{getD}
-use lib.Ieee.{Float, nan, binary64, add, sub, mul, lt, le, ofBits}
+use lib.Ieee.{Float, nan, binary64, add, sub, mul, div, lt, le, ofInt, ofBits}
 use Rattle.float.specs.Root.{sqrtOf}
 use Rattle.float.specs.Arithmetic.{zero·0, one, halfTurn, fullTurn, absOf, remEuclid, toDegrees}
 use Rattle.float.specs.Arctangent.{arctangent}
@@ -105,3 +106,9 @@ arc x = let d = remEuclid x fullTurn in sub binary64 halfTurn (absOf (sub binary
 unfoldable pub circularDiffDeg : Float → Float → Float
 unfolding arc
 circularDiffDeg a b = arc (sub binary64 a b)
+
+-- ---- the even samples of a turn
+
+-- sections 3's and 6's step of n samples: 360 / n
+unfoldable pub sampleStep : ℕ → Float
+sampleStep n = div binary64 fullTurn (ofInt binary64 (pos n))

@@ -1,4 +1,4 @@
-use Rattle.solar_masks.specs.Mask.{sampleStep}
+use Rattle.solar_roll.specs.Roll.{sampleStep}
 use borrow.Author.Needs.{needs}
 use mathlib.Core.Path.{refl}
 use Rattle.solar_masks.proofs.mask.sample_step.Statement.{statement}
