@@ -17,7 +17,7 @@ use Rattle.buffers.proofs.Lent.{put-first, over-all}
 use Rattle.buffers.proofs.Tests.{or-right}
 use Rattle.solar_roll.specs.Vectors.{Vector, x, y, z}
 use Rattle.solar_roll.specs.declared.cell.ConfiguredRoll.{ConfiguredRoll}
-use Rattle.solar_roll.specs.Plan.{Plan, rowsOf, timesOf, headTolerance, headConfigured, headPanel, unlikeLengths, samplingOf, planRefusal, sunAt, PlanFacts}
+use Rattle.solar_roll.specs.Plan.{Plan, rowsOf, timesOf, headTolerance, planConfigured, planPanel, unlikeLengths, samplingOf, planRefusal, sunAt, PlanFacts}
 use Rattle.solar_roll.proofs.Accepted.{plan-facts}
 use Rattle.roll_sweep.specs.Sweep.{chunks}
 use Rattle.roll_sweep.specs.Rolls.{evenRolls}
@@ -74,7 +74,7 @@ module _ (p : Plan) (n : ℕ) where
   -- the header has 107 bytes
   pub length-header-of : length (sweepOf p n .header) ≡ 107
   unfolding sweepOf headerOf
-  length-header-of = length-settings (rowsOf p) (timesOf p) n (headTolerance p) (headConfigured p) (headPanel p)
+  length-header-of = length-settings (rowsOf p) (timesOf p) n (headTolerance p) (planConfigured p) (planPanel p)
 
   -- so the plan's sweep is one of an accepted plan
   pub accepted-sweep : (room u : ℕ) → sweepOf p n .refusal (ltb room u) ≡ 0 → AcceptedSweep (sweepOf p n)
@@ -89,14 +89,14 @@ module _ (p : Plan) (n : ℕ) where
         header = length-header-of;
       }
 
-  pub header-put : (b out : List ℕ) → out ≡ over (settingsHeader (rowsOf p) (timesOf p) n (headTolerance p) (headConfigured p) (headPanel p)) b
+  pub header-put : (b out : List ℕ) → out ≡ over (settingsHeader (rowsOf p) (timesOf p) n (headTolerance p) (planConfigured p) (planPanel p)) b
       → out ≡ put 0 (sweepOf p n .header) b
   unfolding sweepOf headerOf
   header-put b out e = e ∙ sym (put-first (headerOf p n) b)
 
   -- the plan's sweep, by the header that was written: over a blank array of its length
   pub passed-with : (b h : List ℕ) (u : ℕ) → sweepOf p n .refusal (ltb (length b) u) ≡ 0
-      → h ≡ over (settingsHeader (rowsOf p) (timesOf p) n (headTolerance p) (headConfigured p) (headPanel p)) (replicate 107 0)
+      → h ≡ over (settingsHeader (rowsOf p) (timesOf p) n (headTolerance p) (planConfigured p) (planPanel p)) (replicate 107 0)
       → Passed (sweepOf p n) (rowsOf p * timesOf p) n h b u
   unfolding sweepOf headerOf
   passed-with b h u e w =

@@ -12,7 +12,7 @@ use Rattle.buffers.proofs.Ranges.{length-tab, getD-tab}
 use Rattle.buffers.proofs.Rows.{cell-row, cell-time}
 use Rattle.solar_roll.specs.Vectors.{Vector}
 use Rattle.solar_roll.specs.Cell.{inForce}
-use Rattle.solar_roll.specs.Plan.{Plan, timesOf, rowConfig, sunAt, cellOf, headConfigured, violatesAt}
+use Rattle.solar_roll.specs.Plan.{Plan, timesOf, rowConfig, sunAt, cellOf, planConfigured, violatesAt}
 use Rattle.solar_roll.specs.declared.plan.SolarRollConfig.{SolarRollConfig}
 use Rattle.solar_roll.specs.declared.cell.ConfiguredRoll.the-variants.{None, Some}
 use Rattle.solar_roll.proofs.Cells.{roll-shared}
@@ -25,7 +25,7 @@ entry w f l d k e h = sym (getD-take w l k d h) ∙ ap (λ (t : List _). getD t 
 
 -- a cell of a plan: its row at its time
 pub cell-violated : (p : Plan) (rolls : List Float) (i k : ℕ) → cellViolated p rolls i k ≡ violatedIn (p .targets) (p .config) rolls (i / timesOf p) (sunAt p (i % timesOf p)) k
-unfolding cellViolated violatesAt violatedIn violatedAtRoll cellOf rowConfig headConfigured
+unfolding cellViolated violatesAt violatedIn violatedAtRoll cellOf rowConfig planConfigured
 cell-violated p rolls i k = rw roll-shared
 
 -- by a table of the Sun's units of all times

@@ -6,7 +6,7 @@ use Rattle.buffers.specs.Ranges.{flag}
 use Rattle.solar_roll.specs.Vectors.{Vector}
 use Rattle.solar_roll.specs.Roll.{Axes, bodyAxes, rollDegIn, panelOf, solarOptimalRollDeg}
 use Rattle.solar_roll.specs.Cell.{rollIn}
-use Rattle.solar_roll.specs.Plan.{Plan, directionOf, configOf, rowConfig, sunAt, cellOf, headPanel, headConfigured}
+use Rattle.solar_roll.specs.Plan.{Plan, directionOf, configOf, rowConfig, sunAt, cellOf, planPanel, planConfigured}
 use Rattle.solar_roll.specs.declared.roll.Panel.{Panel}
 use Rattle.solar_roll.specs.declared.cell.CellRoll.{CellRoll}
 use Rattle.solar_roll.proofs.Cells.{cell-shared}
@@ -15,7 +15,7 @@ use Rattle.solar_masks.specs.Row.{severity, severityAt}
 use Rattle.solar_masks.specs.declared.mask.MarkRule.{MarkRule}
 
 module _ (p : Plan) (r j : ℕ) (axes : Axes) (unit : Vector) (panel : Panel)
-    (row : axes ≡ bodyAxes (directionOf p r)) (time : unit ≡ sunAt p j) (whole : panel ≡ panelOf (headPanel p)) where
+    (row : axes ≡ bodyAxes (directionOf p r)) (time : unit ≡ sunAt p j) (whole : panel ≡ panelOf (planPanel p)) where
   same : rollIn axes unit panel ≡ cellOf p r j
   same = cell-shared p r j axes unit panel row time whole
 
@@ -25,10 +25,10 @@ module _ (p : Plan) (r j : ℕ) (axes : Axes) (unit : Vector) (panel : Panel)
   mark-shared rule tolerance e = ap₂ (λ (c : CellRoll) (t : Float). flag (marked c rule t)) same e
 
   pub severity-shared : (tolerance : Float) → tolerance ≡ configOf p r .«tolerance_deg» →
-      severity (rollIn axes unit panel) (headConfigured p) tolerance ≡ severityAt p r j
+      severity (rollIn axes unit panel) (planConfigured p) tolerance ≡ severityAt p r j
   unfolding severityAt
-  severity-shared tolerance e = ap₂ (λ (c : CellRoll) (t : Float). severity c (headConfigured p) t) same e
+  severity-shared tolerance e = ap₂ (λ (c : CellRoll) (t : Float). severity c (planConfigured p) t) same e
 
   pub value-shared : rollDegIn axes unit (panel .angle) ≡ valueAt p r j
-  unfolding valueAt solarOptimalRollDeg panelOf rowConfig headPanel
+  unfolding valueAt solarOptimalRollDeg panelOf rowConfig planPanel
   value-shared = simp (row, time, whole)

@@ -21,7 +21,7 @@ ghost use Rattle.buffers.specs.Ranges.{flag};
 ghost use Rattle.buffers.specs.Lent.{filled};
 ghost use Rattle.buffers.specs.Refusal.{replyOf};
 ghost use Rattle.solar_roll.specs.Cell.{rollIn, violates};
-ghost use Rattle.solar_roll.specs.Plan.{planOf, timesOf, headConfigured};
+ghost use Rattle.solar_roll.specs.Plan.{planOf, timesOf, planConfigured};
 ghost use Rattle.solar_masks.specs.Mask.{marked, atConfigured, markAt};
 ghost use Rattle.solar_masks.specs.Row.{excess, severity, severityAt, rowRefusal, rowReply, rowMaskAfter, severitiesAfter};
 
@@ -93,7 +93,7 @@ fn fill_row(
     severities: &mut [f64],
 )
     requires { ⌜ (timesOf (planOf (now targets) (now suns) (now observers) config) ≤ length (now mask)) × (timesOf (planOf (now targets) (now suns) (now observers) config) ≤ length (now severities)) ⌝ }
-    ensures { λ _. ⌜ now (mask .exit) ≡ filled (timesOf (planOf (now (targets .entry)) (now (suns .entry)) (now (observers .entry)) config)) (markAt (planOf (now (targets .entry)) (now (suns .entry)) (now (observers .entry)) config) (atConfigured (headConfigured (planOf (now (targets .entry)) (now (suns .entry)) (now (observers .entry)) config))) row) (now (mask .entry)) ⌝ }
+    ensures { λ _. ⌜ now (mask .exit) ≡ filled (timesOf (planOf (now (targets .entry)) (now (suns .entry)) (now (observers .entry)) config)) (markAt (planOf (now (targets .entry)) (now (suns .entry)) (now (observers .entry)) config) (atConfigured (planConfigured (planOf (now (targets .entry)) (now (suns .entry)) (now (observers .entry)) config))) row) (now (mask .entry)) ⌝ }
     ensures { λ _. ⌜ now (severities .exit) ≡ filled (timesOf (planOf (now (targets .entry)) (now (suns .entry)) (now (observers .entry)) config)) (severityAt (planOf (now (targets .entry)) (now (suns .entry)) (now (observers .entry)) config) row) (now (severities .entry)) ⌝ }
 {
     let axes = body_axes(direction(targets, row));

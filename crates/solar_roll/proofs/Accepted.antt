@@ -10,7 +10,7 @@ use Rattle.buffers.specs.Refusal.{first, carried}
 use Rattle.buffers.proofs.Refusal.{first-clear, carried-clear}
 use Rattle.buffers.proofs.Tests.{or-left, or-right}
 use Rattle.solar_roll.specs.Cell.{badPosition, badDirection}
-use Rattle.solar_roll.specs.Plan.{Plan, rowsOf, timesOf, cells, headPanel, unlikeLengths, tooMany, planRefusal, PlanFacts}
+use Rattle.solar_roll.specs.Plan.{Plan, rowsOf, timesOf, cells, planPanel, unlikeLengths, tooMany, planRefusal, PlanFacts}
 
 record Lengths (targets suns observers : ℕ) : Type 0 where
   pub triples : targets % 3 ≡ 0

@@ -10,7 +10,7 @@ use Rattle.buffers.specs.Refusal.{accepted}
 use Rattle.solar_roll.specs.Vectors.{Vector, vector}
 use Rattle.solar_roll.specs.Roll.{Axes, bodyAxes, rollDegIn, panelOf, rollIsUnconstrained, solarOptimalRollDeg}
 use Rattle.solar_roll.specs.Cell.{optimalRoll, rollIn, cellReply}
-use Rattle.solar_roll.specs.Plan.{Plan, triple, directionOf, configOf, rowConfig, sunAt, cellOf, headPanel, headConfigured}
+use Rattle.solar_roll.specs.Plan.{Plan, triple, directionOf, configOf, rowConfig, sunAt, cellOf, planPanel, planConfigured}
 use Rattle.solar_roll.specs.declared.roll.Panel.{Panel}
 use Rattle.solar_roll.specs.declared.cell.CellRoll.the-variants.{Free, At}
 
@@ -40,7 +40,7 @@ triple-past xs i h =
 -- ---- what a row (its axes), a time (the Sun's unit) and the panel share makes the cells of a plan
 
 module _ (p : Plan) (r j : ℕ) (axes : Axes) (unit : Vector) (panel : Panel)
-    (row : axes ≡ bodyAxes (directionOf p r)) (time : unit ≡ sunAt p j) (whole : panel ≡ panelOf (headPanel p)) where
+    (row : axes ≡ bodyAxes (directionOf p r)) (time : unit ≡ sunAt p j) (whole : panel ≡ panelOf (planPanel p)) where
   pub cell-shared : rollIn axes unit panel ≡ cellOf p r j
-  unfolding cellOf rowConfig headPanel
+  unfolding cellOf rowConfig planPanel
   cell-shared = simp (row, time, whole, roll-shared)

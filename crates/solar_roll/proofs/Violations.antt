@@ -14,7 +14,7 @@ use Rattle.float.proofs.Order.{lt-self, below-zero}
 use Rattle.float.proofs.Overflow.{finite-sub}
 use Rattle.solar_roll.specs.Roll.{rollIsUnconstrained, solarOptimalRollDeg, circularDiffDeg}
 use Rattle.solar_roll.specs.Cell.{optimalRoll, violates}
-use Rattle.solar_roll.specs.Plan.{Plan, rowsOf, timesOf, directionOf, configOf, sunAt, cellOf, headPanel, PlanFacts}
+use Rattle.solar_roll.specs.Plan.{Plan, rowsOf, timesOf, directionOf, configOf, sunAt, cellOf, planPanel, PlanFacts}
 use Rattle.solar_roll.specs.declared.cell.CellRoll.{CellRoll}
 use Rattle.solar_roll.specs.declared.cell.CellRoll.the-variants.{Free, At, Refused}
 use Rattle.solar_roll.proofs.Difference.{difference-range, difference-not-finite}
@@ -46,7 +46,7 @@ unfolding violates
 met-exactly optimal roll = lt-self (circularDiffDeg roll optimal)
 
 -- a cell of an accepted plan; `three` is what the panel's type says, [f64; 3]
-module _ (p : Plan) (facts : PlanFacts p) (three : length (headPanel p) ≡ 3) (r j : ℕ) (in-rows : r < rowsOf p) (in-times : j < timesOf p) where
+module _ (p : Plan) (facts : PlanFacts p) (three : length (planPanel p) ≡ 3) (r j : ℕ) (in-rows : r < rowsOf p) (in-times : j < timesOf p) where
   abbrev optimal : Float
   optimal = solarOptimalRollDeg (directionOf p r) (sunAt p j) (configOf p r .«panel_normal»)
 

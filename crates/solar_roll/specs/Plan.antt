@@ -66,19 +66,20 @@ sunAt p j = sunUnit (triple (p .suns) j) (triple (p .observers) j)
 unfoldable pub cellOf : Plan → ℕ → ℕ → CellRoll
 cellOf p r j = optimalRoll (directionOf p r) (sunAt p j) (configOf p r .«panel_normal»)
 
--- what stands for the whole plan: the roll that is configured, and what the journal's header holds
+-- the roll that is configured, and the panel's normal, of the whole plan
+unfoldable pub planConfigured : Plan → ConfiguredRoll
+planConfigured p = p .config .«roll_deg»
+
+unfoldable pub planPanel : Plan → Vector
+planPanel p = p .config .«panel_normal»
+
+-- the tolerance that the journal's header holds
 unfoldable pub headTolerance : Plan → Float
 headTolerance p = p .config .«tolerance_deg»
 
-unfoldable pub headPanel : Plan → Vector
-headPanel p = p .config .«panel_normal»
-
-unfoldable pub headConfigured : Plan → ConfiguredRoll
-headConfigured p = p .config .«roll_deg»
-
 -- a sample violates the cell of row r at time j: it is taken as a Sweep roll
 unfoldable pub violatesAt : Plan → ℕ → ℕ → Float → Bool
-violatesAt p r j roll = violates (cellOf p r j) (inForce (Sweep roll) (headConfigured p)) (configOf p r .«tolerance_deg»)
+violatesAt p r j roll = violates (cellOf p r j) (inForce (Sweep roll) (planConfigured p)) (configOf p r .«tolerance_deg»)
 
 -- ---- the refusals
 
@@ -105,7 +106,7 @@ planRefusal p sampling beyond =
     ∷ carried sampling
     ∷ (badPosition (p .suns) || badPosition (p .observers), 4)
     ∷ (badDirection (p .targets), 5)
-    ∷ (badPosition (headPanel p), 6)
+    ∷ (badPosition (planPanel p), 6)
     ∷ [])
 
 -- what is known of a plan that is not refused
@@ -119,4 +120,4 @@ pub record PlanFacts (p : Plan) : Type 0 where
   pub suns-small : badPosition (p .suns) ≡ false
   pub observers-small : badPosition (p .observers) ≡ false
   pub targets-small : badDirection (p .targets) ≡ false
-  pub panel-small : badPosition (headPanel p) ≡ false
+  pub panel-small : badPosition (planPanel p) ≡ false

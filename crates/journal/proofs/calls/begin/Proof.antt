@@ -6,7 +6,7 @@ use lib.Dec.{ltb}
 use lib.ListN.{length}
 use borrow.Author.Needs.{needs}
 use Rattle.buffers.specs.Refusal.{replyOf}
-use Rattle.solar_roll.specs.Plan.{Plan, planOf, headTolerance, headConfigured, headPanel}
+use Rattle.solar_roll.specs.Plan.{Plan, planOf, headTolerance, planConfigured, planPanel}
 use Rattle.roll_sweep.specs.Sweep.{Sweep}
 use Rattle.journal.specs.Plan.{sweepOf}
 use Rattle.journal.proofs.Chains.{begin-plan, begin-13, begin-7, begin-0, begin-refused, begin-accepted}
@@ -64,7 +64,7 @@ same-length : tie.Need-same-length
 same-length c = search needs
 
 returns-4 : tie.Need-returns-4
-unfolding replyOf headTolerance headConfigured headPanel
+unfolding replyOf headTolerance planConfigured planPanel
 returns-4 c =
     let a = c .before .before .before .before .before .before .before .before .before .before .before .before .before .args in
     let p : Plan = planOf (a .targets .now) (a .suns .now) (a .observers .now) (a .config) in

@@ -6,7 +6,7 @@ use lib.Dec.{ltb}
 use lib.ListN.{length}
 use borrow.Author.Needs.{needs}
 use Rattle.buffers.specs.Refusal.{replyOf}
-use Rattle.solar_roll.specs.Plan.{Plan, planOf, headTolerance, headConfigured, headPanel}
+use Rattle.solar_roll.specs.Plan.{Plan, planOf, headTolerance, planConfigured, planPanel}
 use Rattle.roll_sweep.specs.Sweep.{Sweep}
 use Rattle.journal.specs.Plan.{sweepOf}
 use Rattle.journal.proofs.Chains.{collect-plan, collect-refused}
@@ -55,7 +55,7 @@ mul-collect-lines c =
     omega (arith, q .facts .few-cells)
 
 collect-lines-requires : tie.Need-collect-lines-requires
-unfolding headTolerance headConfigured headPanel sweepOf
+unfolding headTolerance planConfigured planPanel sweepOf
 collect-lines-requires c κs =
     let a = c .before .before .before .before .before .before .before .before .before .before .before .before .before .args in
     let p : Plan = planOf (a .targets .now) (a .suns .now) (a .observers .now) (a .config) in
@@ -74,7 +74,7 @@ same-length : tie.Need-same-length
 same-length c = search needs
 
 returns-2 : tie.Need-returns-2
-unfolding headTolerance headConfigured headPanel sweepOf
+unfolding headTolerance planConfigured planPanel sweepOf
 returns-2 c =
     let a = c .before .before .before .before .before .before .before .before .before .before .before .before .before .before .before .before .args in
     let p : Plan = planOf (a .targets .now) (a .suns .now) (a .observers .now) (a .config) in

@@ -6,7 +6,7 @@ use lib.Dec.{ltb}
 use lib.ListN.{length}
 use borrow.Author.Needs.{needs}
 use Rattle.buffers.specs.Refusal.{replyOf}
-use Rattle.solar_roll.specs.Plan.{planOf, count, headTolerance, headConfigured, headPanel}
+use Rattle.solar_roll.specs.Plan.{planOf, count, headTolerance, planConfigured, planPanel}
 use Rattle.roll_sweep.specs.Sweep.{Sweep}
 use Rattle.journal.specs.Pass.{Passed}
 use Rattle.journal.specs.Plan.{lentSweep}
@@ -44,7 +44,7 @@ plan c =
 -- with the header that was written
 with-header : (c : tie.After-write-header) → let x = c .before .before .before .before .before .before .before .before .before .before in
     Passed (sweep x) (count (x .args .targets .now) * count (x .args .suns .now)) (x .args .n) (c .write-header .last .0) (x .args .journal .now) (x .args .used)
-unfolding headTolerance headConfigured headPanel
+unfolding headTolerance planConfigured planPanel
 with-header c =
     let x = c .before .before .before .before .before .before .before .before .before .before in
     passed-with _ (x .args .n) (x .args .journal .now) _ (x .args .used) (passes (c .before .before .before)) (c .write-header .ensures)

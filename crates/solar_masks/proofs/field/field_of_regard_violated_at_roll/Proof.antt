@@ -3,7 +3,7 @@ use Rattle.buffers.specs.Lent.{filled}
 use Rattle.solar_masks.proofs.Calls.{field-room}
 use Rattle.solar_masks.specs.Field.{fieldRefusal, fieldReply, fieldAfter}
 use Rattle.solar_masks.specs.Mask.{markAt}
-use Rattle.solar_roll.specs.Plan.{Plan, planOf, rowsOf, headConfigured}
+use Rattle.solar_roll.specs.Plan.{Plan, planOf, rowsOf, planConfigured}
 use Rattle.solar_masks.specs.declared.mask.MarkRule.{MarkRule}
 use borrow.Author.Needs.{needs}
 use denote.Ref.{now}
@@ -41,7 +41,7 @@ same-length : tie.Need-same-length
 same-length c = search needs
 
 returns-2 : tie.Need-returns-2
-unfolding fieldReply fieldAfter headConfigured
+unfolding fieldReply fieldAfter planConfigured
 returns-2 c =
     let i = c .before .before .before .before .before in
     let k = i .before .field-refusal .result in

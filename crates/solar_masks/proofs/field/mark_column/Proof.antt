@@ -3,7 +3,7 @@ use Rattle.buffers.proofs.Lent.{filled-zero, length-filled, filled-next}
 use Rattle.buffers.specs.Lent.{filled}
 use Rattle.solar_masks.proofs.Shared.{mark-shared}
 use Rattle.solar_masks.specs.Mask.{marked, markAt}
-use Rattle.solar_roll.specs.Plan.{Plan, planOf, rowsOf, sunAt, headPanel}
+use Rattle.solar_roll.specs.Plan.{Plan, planOf, rowsOf, sunAt, planPanel}
 use Rattle.solar_roll.specs.Roll.{sunUnit, bodyAxes}
 use Rattle.buffers.specs.Ranges.{flag}
 use Rattle.solar_roll.specs.declared.cell.CellRoll.{CellRoll}
@@ -76,7 +76,7 @@ loop-less : tie.Need-loop-less Inv-loop μ-loop
 loop-less c = omega arith
 
 loop-again : tie.Need-loop-again Inv-loop μ-loop
-unfolding sunAt headPanel
+unfolding sunAt planPanel
 loop-again c =
     let o = c .before .before .before .before .before .before in
     let m = now (Start-of o .args .mask) in

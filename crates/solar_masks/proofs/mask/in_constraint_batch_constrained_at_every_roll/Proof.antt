@@ -3,7 +3,7 @@ use Rattle.buffers.proofs.Refusal.{refused-leaves, accepted-leaves}
 use Rattle.buffers.specs.Lent.{filled}
 use Rattle.solar_masks.proofs.Calls.{few-samples, cells-facts, cells-room, cells-sampling}
 use Rattle.solar_masks.specs.Mask.{cellMark, cellsRefusal, cellsReply, maskAfter}
-use Rattle.solar_roll.specs.Plan.{Plan, planOf, cells, headConfigured, samplingOrNone}
+use Rattle.solar_roll.specs.Plan.{Plan, planOf, cells, planConfigured, samplingOrNone}
 use Rattle.solar_masks.specs.declared.mask.MarkRule.{MarkRule}
 use borrow.Author.Needs.{needs}
 use denote.Ref.{now}
@@ -47,7 +47,7 @@ same-length : tie.Need-same-length
 same-length c = search needs
 
 returns-2 : tie.Need-returns-2
-unfolding cellsReply maskAfter headConfigured
+unfolding cellsReply maskAfter planConfigured
 returns-2 c =
     let i = c .before .before .before .before .before in
     let k = i .before .cells-refusal .result in

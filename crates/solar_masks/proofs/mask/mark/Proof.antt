@@ -6,7 +6,7 @@ use Rattle.buffers.specs.Rows.{Columns}
 use Rattle.solar_masks.proofs.Shared.{mark-shared}
 use Rattle.solar_roll.specs.Cell.{rollIn}
 use Rattle.solar_masks.specs.Mask.{marked, markAt, cellMark}
-use Rattle.solar_roll.specs.Plan.{Plan, planOf, count, rowsOf, timesOf, directionOf, configOf, sunAt, headPanel}
+use Rattle.solar_roll.specs.Plan.{Plan, planOf, count, rowsOf, timesOf, directionOf, configOf, sunAt, planPanel}
 use Rattle.solar_roll.specs.Roll.{bodyAxes}
 use borrow.Author.Needs.{needs}
 use denote.Ref.{now}
@@ -90,7 +90,7 @@ loop-less : tie.Need-loop-less Inv-loop μ-loop
 loop-less c = omega (arith, block (c .before .before .before .before .before .before .before .before) .more, block (c .before .before .before .before .before .before .before .before) .within)
 
 loop-again : tie.Need-loop-again Inv-loop μ-loop
-unfolding sunAt headPanel
+unfolding sunAt planPanel
 loop-again c =
     let o = c .before .before .before .before .before .before .before .before .before .before in
     let a = Start-of o .args in

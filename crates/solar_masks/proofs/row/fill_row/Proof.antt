@@ -5,7 +5,7 @@ use Rattle.buffers.specs.Ranges.{flag}
 use Rattle.solar_masks.proofs.Shared.{mark-shared, severity-shared}
 use Rattle.solar_roll.specs.Cell.{rollIn}
 use Rattle.solar_masks.specs.Mask.{marked, atConfigured, markAt}
-use Rattle.solar_roll.specs.Plan.{Plan, planOf, triple, timesOf, cells, sunAt, headPanel, headConfigured}
+use Rattle.solar_roll.specs.Plan.{Plan, planOf, triple, timesOf, cells, sunAt, planPanel, planConfigured}
 use Rattle.solar_roll.specs.Roll.{sunUnit, bodyAxes}
 use Rattle.solar_masks.specs.Row.{severity, severityAt}
 use Rattle.solar_roll.specs.Vectors.{Vector}
@@ -121,7 +121,7 @@ same-length-2 : tie.Need-same-length-2 Inv-loop μ-loop
 same-length-2 c = kept-2 (c .before)
 
 returns : tie.Need-returns Inv-loop μ-loop
-unfolding sunAt headPanel headConfigured
+unfolding sunAt planPanel planConfigured
 returns c =
     let o = c .before in
     let a = Start-of o .args in
@@ -132,7 +132,7 @@ returns c =
     let panel = o .before .panel-of .ensures in (
       o .loop .inv .1
           ∙ ap (λ (n : ℕ). filled n (M o) (now (a .mask))) e
-          ∙ filled-ext (M o) (markAt p (atConfigured (headConfigured p)) (a .row)) (timesOf p) (now (a .mask)) (λ t l. mark-shared p (a .row) t _ _ _ axes refl panel _ _ settings),
+          ∙ filled-ext (M o) (markAt p (atConfigured (planConfigured p)) (a .row)) (timesOf p) (now (a .mask)) (λ t l. mark-shared p (a .row) t _ _ _ axes refl panel _ _ settings),
       o .loop .inv .2
           ∙ ap (λ (n : ℕ). filled n (S o) (now (a .severities))) e
           ∙ filled-ext (S o) (severityAt p (a .row)) (timesOf p) (now (a .severities)) (λ t l. severity-shared p (a .row) t _ _ _ axes refl panel _ settings),

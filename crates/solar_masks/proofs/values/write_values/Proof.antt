@@ -5,7 +5,7 @@ use Rattle.buffers.specs.Rows.{Columns}
 use Rattle.float.specs.Arithmetic.{zero·0}
 use Rattle.solar_masks.proofs.Shared.{value-shared}
 use Rattle.solar_masks.specs.Mask.{valueAt, cellValue}
-use Rattle.solar_roll.specs.Plan.{Plan, planOf, count, triple, rowsOf, timesOf, rowDirection, directionOf, sunAt, headPanel}
+use Rattle.solar_roll.specs.Plan.{Plan, planOf, count, triple, rowsOf, timesOf, rowDirection, directionOf, sunAt, planPanel}
 use Rattle.solar_roll.specs.Roll.{sunUnit, bodyAxes, rollDegIn}
 use Rattle.solar_roll.specs.Vectors.{Vector}
 use borrow.Author.Needs.{needs}
@@ -114,7 +114,7 @@ same-length : tie.Need-same-length Inv-loop μ-loop
 same-length c = c .before .loop .inv .2 .same
 
 returns : tie.Need-returns Inv-loop μ-loop
-unfolding cellValue sunAt headPanel
+unfolding cellValue sunAt planPanel
 returns c =
     let o = c .before in
     let a = Start-of o .args in

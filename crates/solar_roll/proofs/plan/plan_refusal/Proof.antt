@@ -1,5 +1,5 @@
 use Rattle.buffers.specs.Refusal.{first, carried}
-use Rattle.solar_roll.specs.Plan.{headPanel, planRefusal}
+use Rattle.solar_roll.specs.Plan.{planPanel, planRefusal}
 use borrow.Author.Needs.{needs}
 use borrow.Author.Tests.{eq-eqb, ne-eqb}
 use mathlib.Core.Path.{sym, _∙_}
@@ -10,12 +10,12 @@ unlike-lengths-requires : tie.Need-unlike-lengths-requires
 unlike-lengths-requires c κs = search needs
 
 returns : tie.Need-returns
-unfolding planRefusal first carried headPanel
+unfolding planRefusal first carried planPanel
 returns c =
     simp (sym (c .before .unlike-lengths .ensures) ∙ c .if1 .taken)
 
 returns-2 : tie.Need-returns-2
-unfolding planRefusal first carried headPanel
+unfolding planRefusal first carried planPanel
 returns-2 c =
     simp (
       c .if2 .taken,
@@ -26,7 +26,7 @@ too-many-requires : tie.Need-too-many-requires
 too-many-requires c κs = search needs
 
 returns-3 : tie.Need-returns-3
-unfolding planRefusal first carried headPanel
+unfolding planRefusal first carried planPanel
 returns-3 c =
     simp (
       sym (c .before .too-many .ensures) ∙ c .if3 .taken,
@@ -35,7 +35,7 @@ returns-3 c =
     )
 
 returns-4 : tie.Need-returns-4
-unfolding planRefusal first carried headPanel
+unfolding planRefusal first carried planPanel
 returns-4 c =
     simp (
       ne-eqb _ _ (c .if4 .taken),
@@ -48,7 +48,7 @@ bad-position-requires : tie.Need-bad-position-requires
 bad-position-requires c κs = search needs
 
 returns-5 : tie.Need-returns-5
-unfolding planRefusal first carried headPanel
+unfolding planRefusal first carried planPanel
 returns-5 c =
     simp (
       sym (c .before .bad-position .ensures) ∙ c .if5 .taken,
@@ -62,7 +62,7 @@ bad-position-requires-2 : tie.Need-bad-position-requires-2
 bad-position-requires-2 c κs = search needs
 
 returns-6 : tie.Need-returns-6
-unfolding planRefusal first carried headPanel
+unfolding planRefusal first carried planPanel
 returns-6 c =
     simp (
       sym (c .before .bad-position2 .ensures) ∙ c .if6 .taken,
@@ -77,7 +77,7 @@ bad-direction-requires : tie.Need-bad-direction-requires
 bad-direction-requires c κs = search needs
 
 returns-7 : tie.Need-returns-7
-unfolding planRefusal first carried headPanel
+unfolding planRefusal first carried planPanel
 returns-7 c =
     simp (
       sym (c .before .bad-direction .ensures) ∙ c .if7 .taken,
@@ -96,7 +96,7 @@ bad-position-requires-3 : tie.Need-bad-position-requires-3
 bad-position-requires-3 c κs = search needs
 
 returns-8 : tie.Need-returns-8
-unfolding planRefusal first carried headPanel
+unfolding planRefusal first carried planPanel
 returns-8 c =
     simp (
       sym (c .before .bad-position3 .ensures) ∙ c .if8 .taken,
@@ -110,7 +110,7 @@ returns-8 c =
     )
 
 returns-9 : tie.Need-returns-9
-unfolding planRefusal first carried headPanel
+unfolding planRefusal first carried planPanel
 returns-9 c =
     simp (
       sym (c .before .bad-position3 .ensures) ∙ c .if8 .left,
