@@ -16,12 +16,13 @@ use Rattle.solar_roll.specs.declared.cell.ConfiguredRoll.the-variants.{N
 use Rattle.solar_roll.specs.declared.cell.EvaluationRoll.{EvaluationRoll}
 use Rattle.solar_roll.specs.declared.cell.EvaluationRoll.the-variants.{Sweep, Fixed}
 
--- ---- Free, or At the optimal roll
+-- ---- the answer of a cell, document 01's enum: Free, or At(roll)
 
+-- of a target, the Sun's unit and the panel's normal: Free where no roll is better than another, else At the optimal roll
 unfoldable pub optimalRoll : Vector → Vector → Vector → CellRoll
 optimalRoll target sun normal = cond (rollIsUnconstrained target sun normal) Free (At (solarOptimalRollDeg target sun normal))
 
--- the same of what a target's cells share, its axes, and of what all cells share, the panel: from the roll, and whole
+-- the same, from what a target's cells share, its axes, and what all cells share, the panel: with the roll given, and with the roll of these
 unfoldable pub freeOrAt : Axes → Vector → Panel → Float → CellRoll
 freeOrAt axes sun panel roll = cond (sunAlongBoresight (axis 0 axes) sun || panel .free) Free (At roll)
 
@@ -35,14 +36,15 @@ cellReply Free = accepted Free
 cellReply (At roll) = accepted (At roll)
 cellReply (Refused k) = refused k
 
--- ---- violated at a roll: not Free, and the difference > tolerance
+-- ---- violated at a roll
 
+-- not Free, and the difference of the roll and the optimal roll > tolerance
 unfoldable pub violates : CellRoll → Float → Float → Bool
 violates Free roll tolerance = false
 violates (At optimal) roll tolerance = lt tolerance (circularDiffDeg roll optimal)
 violates (Refused k) roll tolerance = false
 
--- a configured roll overrides Sweep, never Fixed
+-- the roll that counts, of the one that is asked for and the one that is configured: a configured roll overrides Sweep, never Fixed
 unfoldable pub inForce : EvaluationRoll → ConfiguredRoll → Float
 inForce (Sweep roll) None = roll
 inForce (Sweep roll) (Some configured) = configured
@@ -50,7 +52,7 @@ inForce (Fixed roll) configured = roll
 
 -- ---- one triple's tests, and the call on four triples
 
--- 1e100
+-- 1e100, the largest size of a position's or a panel's number
 abbrev pub LIMIT : Float
 LIMIT = ofBits binary64 0x54b2_49ad_2594_c37d
 
@@ -70,6 +72,7 @@ badDirection = any (tooLarge one)
 unfoldable pub directionRefusal : Vector → ℕ
 directionRefusal target = first ((badDirection target, 5) ∷ [])
 
+-- *One cell*, four triples: 4 of the Sun and the observer, 5 of the target, 6 of the panel; 0 for none
 unfoldable pub cellRefusal : Vector → Vector → Vector → Vector → ℕ
 cellRefusal target sun observer normal =
     first ((badPosition sun || badPosition observer, 4)

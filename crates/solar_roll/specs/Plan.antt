@@ -1,6 +1,6 @@
--- A plan as its calls lend it, and *Plan*, the refusals that come before every call with positions. A plan has rows and times; a cell is a row at
--- a time. Everything above these definitions speaks of rows: a row's direction and settings are `directionOf` and `configOf`, and nothing else
--- says where they come from. Definitions only. Assumes nothing.
+-- A plan as its calls lend it, and *Plan*, the refusals that come before every call with positions. A plan has rows and times. A row is a target;
+-- a cell, document 01's word, is a row at a time. Everything above these definitions speaks of rows: a row's direction and settings are
+-- `directionOf` and `configOf`, and nothing else says where they come from. Definitions only. Assumes nothing.
 use mathlib.Core.Path.{_≡_}
 use mathlib.Core.Bool.{Bool, true, false, cond, not, _||_, _&&_}
 use mathlib.Core.List.{List, [], _∷_}
@@ -17,48 +17,55 @@ use Rattle.solar_roll.specs.declared.cell.ConfiguredRoll.{ConfiguredRoll
 use Rattle.solar_roll.specs.declared.cell.EvaluationRoll.the-variants.{Sweep}
 use Rattle.solar_roll.specs.declared.plan.SolarRollConfig.{SolarRollConfig}
 
--- flat lists of triples: the targets' directions, and of each time the Sun's and the observer's position
+-- flat lists of triples: the targets' directions, and of each time the Sun's and the observer's position; and the settings: tolerance, configured
+-- roll and panel's normal
 pub record Plan : Type 0 where
   pub targets : List Float
   pub suns : List Float
   pub observers : List Float
   pub config : SolarRollConfig
 
+-- the plan of what a call is lent
 abbrev pub planOf : List Float → List Float → List Float → SolarRollConfig → Plan
 planOf targets suns observers config = record { targets = targets; suns = suns; observers = observers; config = config }
 
--- how many triples a flat list holds, and the i-th of them, NaN past the end
+-- how many triples a flat list holds
 abbrev pub count : List Float → ℕ
 count xs = length xs / 3
 
+-- the i-th triple of a flat list, NaN past the end
 unfoldable pub triple : List Float → ℕ → Vector
 triple xs i = vector (getD xs (3 * i) nan) (getD xs (3 * i + 1) nan) (getD xs (3 * i + 2) nan)
 
 -- ---- rows, times and cells: cell number = row · times + time
 
+-- how many rows: the targets
 abbrev pub rowsOf : Plan → ℕ
 rowsOf p = count (p .targets)
 
+-- how many times: the Sun's positions
 abbrev pub timesOf : Plan → ℕ
 timesOf p = count (p .suns)
 
+-- how many cells: rows · times
 abbrev pub cells : Plan → ℕ
 cells p = rowsOf p * timesOf p
 
--- the direction and the settings of a row
+-- the direction and the settings of row r, of the lists that a call is lent
 unfoldable pub rowDirection : List Float → ℕ → Vector
 rowDirection targets r = triple targets r
 
 unfoldable pub rowConfig : SolarRollConfig → ℕ → SolarRollConfig
 rowConfig config r = config
 
+-- the same, of a plan
 abbrev pub directionOf : Plan → ℕ → Vector
 directionOf p r = rowDirection (p .targets) r
 
 abbrev pub configOf : Plan → ℕ → SolarRollConfig
 configOf p r = rowConfig (p .config) r
 
--- the Sun's unit at a time
+-- the Sun's unit at time j
 unfoldable pub sunAt : Plan → ℕ → Vector
 sunAt p j = sunUnit (triple (p .suns) j) (triple (p .observers) j)
 
@@ -91,14 +98,15 @@ unlikeLengths targets suns observers = not (eqb (targets % 3) 0) || (not (eqb (s
 unfoldable pub tooMany : ℕ → ℕ → Bool
 tooMany rows times = ltb 65536 rows || (ltb 65536 times || ltb 1048576 (rows * times))
 
--- the number in the place of 3, 0 for none: n outside 1 to 3,600; in section 6's calls 0 is allowed
+-- the number in the place of 3, 0 for none: n outside 1 to 3,600
 unfoldable pub samplingOf : ℕ → ℕ
 samplingOf n = cond (leb 1 n && leb n 3600) 0 3
 
+-- the same in section 6's first two calls, where n = 0 is allowed
 unfoldable pub samplingOrNone : ℕ → ℕ
 samplingOrNone n = cond (leb n 3600) 0 3
 
--- `sampling` is the number said in the place of 3, 0 for none; `beyond` says that a used length lies beyond its buffer
+-- *Plan*, 0 for none. `sampling` is the number said in the place of 3, 0 for none; `beyond` says that a used length lies beyond its buffer.
 unfoldable pub planRefusal : Plan → ℕ → Bool → ℕ
 planRefusal p sampling beyond =
     first ((unlikeLengths (length (p .targets)) (length (p .suns)) (length (p .observers)) || beyond, 1)
@@ -109,7 +117,7 @@ planRefusal p sampling beyond =
     ∷ (badPosition (planPanel p), 6)
     ∷ [])
 
--- what is known of a plan that is not refused
+-- what is known of a plan that is not refused (`plan-facts`, proofs/Accepted)
 pub record PlanFacts (p : Plan) : Type 0 where
   pub targets-length : length (p .targets) ≡ 3 * rowsOf p
   pub suns-length : length (p .suns) ≡ 3 * timesOf p

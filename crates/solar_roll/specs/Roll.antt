@@ -53,7 +53,7 @@ panelAngle normal = arctangent (z normal) (y normal)
 unfoldable pub panelOf : Vector → Panel
 panelOf normal = record { free = panelIsFree normal; angle = panelAngle normal }
 
--- Free, document 01's word: no roll is better than another
+-- When a cell is Free, document 01's word for: no roll is better than another. `roll_is_unconstrained` of the Rust.
 unfoldable pub rollIsUnconstrained : Vector → Vector → Vector → Bool
 rollIsUnconstrained target sun normal = sunAlongBoresight target sun || panelIsFree normal
 
@@ -65,14 +65,15 @@ perpendicular t v =
     let d = dot3 t v in
     vector (sub binary64 (x v) (mul binary64 d (x t))) (sub binary64 (y v) (mul binary64 d (y t))) (sub binary64 (z v) (mul binary64 d (z t)))
 
--- near the pole another reference than celestial north
+-- the reference where celestial north, [0, 0, 1], lies along the boresight t: [0, 0, 1] if |t's z| < 0.9, else [0, 1, 0]
 unfoldable pub poleFallback : Vector → Vector
 poleFallback t = cond (lt (absOf (z t)) nineTenths) zHat yHat
 
--- celestial north, projected onto the plane perpendicular to the boresight t
+-- celestial north, projected onto the plane perpendicular to the boresight t, over its norm; else the fallback so; else [0, 1, 0]
 unfoldable pub north : Vector → Vector
 north t = unwrapOr (normalize3 (perpendicular t zHat)) (unwrapOr (normalize3 (perpendicular t (poleFallback t))) yHat)
 
+-- the body's y axis: north × t over its norm, or [0, 1, 0]
 unfoldable pub yAxis : Vector → Vector
 yAxis t = unwrapOr (normalize3 (cross3 (north t) t)) yHat
 
@@ -89,7 +90,7 @@ bodyAxes t = t ∷ yAxis t ∷ cross3 t (yAxis t) ∷ []
 
 -- ---- the optimal roll, in degrees
 
--- of a body's axes, the Sun's unit and the panel's angle
+-- of a body's axes, the Sun's unit and the panel's angle: the Sun's angle in the body's y-z plane less the panel's
 unfoldable pub rollDegIn : Axes → Vector → Float → Float
 rollDegIn axes sun angle = toDegrees (sub binary64 (arctangent (dot3 sun (axis 2 axes)) (dot3 sun (axis 1 axes))) angle)
 
@@ -99,10 +100,11 @@ solarOptimalRollDeg target sun normal = rollDegIn (bodyAxes target) sun (panelAn
 
 -- ---- the difference of two rolls: the shorter arc between them
 
--- that of a turn by x
+-- that of a turn by x: 180 - |x rem 360 - 180|
 unfoldable pub arc : Float → Float
 arc x = let d = remEuclid x fullTurn in sub binary64 halfTurn (absOf (sub binary64 d halfTurn))
 
+-- the difference of the rolls a and b, in degrees: in 0 to 180, or NaN
 unfoldable pub circularDiffDeg : Float → Float → Float
 unfolding arc
 circularDiffDeg a b = arc (sub binary64 a b)

@@ -8,6 +8,7 @@ use Rattle.float.specs.Root.{sqrtOf}
 use Rattle.float.specs.Arithmetic.{zero·0}
 use Rattle.solar_roll.specs.declared.vectors.Normalized.{Normalized}
 
+-- three components, by x, y and z; a list that is shorter reads as NaN past its end
 abbrev pub Vector : Type 0
 Vector = List Float
 
@@ -20,6 +21,7 @@ y v = getD v 1 nan
 abbrev pub z : Vector → Float
 z v = getD v 2 nan
 
+-- the vector of three components
 abbrev pub vector : Float → Float → Float → Vector
 vector a b c = a ∷ b ∷ c ∷ []
 
@@ -27,12 +29,15 @@ vector a b c = a ∷ b ∷ c ∷ []
 abbrev pub NEAR_ZERO : Float
 NEAR_ZERO = ofBits binary64 0x3d71_9799_812d_ea11
 
+-- a·b, summed from x to z
 unfoldable pub dot3 : Vector → Vector → Float
 dot3 a b = add binary64 (add binary64 (mul binary64 (x a) (x b)) (mul binary64 (y a) (y b))) (mul binary64 (z a) (z b))
 
+-- the norm: the root of v·v
 unfoldable pub norm3 : Vector → Float
 norm3 v = sqrtOf (add binary64 (add binary64 (mul binary64 (x v) (x v)) (mul binary64 (y v) (y v))) (mul binary64 (z v) (z v)))
 
+-- a × b
 unfoldable pub cross3 : Vector → Vector → Vector
 cross3 a b =
     vector
@@ -51,5 +56,6 @@ normalize3 v =
     (record { found = false; vector = vector zero·0 zero·0 zero·0 })
     (record { found = true; vector = over3 v (norm3 v) })
 
+-- what was normalized, or the other vector where there is nothing
 unfoldable pub unwrapOr : Normalized → Vector → Vector
 unwrapOr v other = cond (v .found) (v .vector) other
