@@ -13,9 +13,11 @@ use Rattle.solar_masks.specs.declared.mask.MarkRule.{MarkRule}
 
 -- ---- the calls: the plan's refusals, then 9, the time index not below times, then 7
 
+-- 7: a mask of length `room` has no place for each row
 unfoldable pub fieldShort : Plan → ℕ → Bool
 fieldShort p room = ltb room (rowsOf p)
 
+-- *Field of regard*: plan, 9, 7; 0 for none. `sampling` is the number said in the place of 3, 0 in the call that takes no n.
 unfoldable pub fieldRefusal : Plan → ℕ → ℕ → ℕ → ℕ
 fieldRefusal p sampling time room =
     first (carried (planRefusal p sampling false)
@@ -23,6 +25,7 @@ fieldRefusal p sampling time room =
     ∷ (fieldShort p room, 7)
     ∷ [])
 
+-- what the call answers: the number that it refuses by, or accepted with 0
 unfoldable pub fieldReply : Plan → ℕ → ℕ → ℕ → Reply ℕ
 fieldReply p sampling time room = reply (fieldRefusal p sampling time room) 0
 

@@ -21,7 +21,7 @@ use Rattle.solar_roll.specs.declared.cell.EvaluationRoll.{EvaluationRoll}
 use Rattle.solar_masks.specs.declared.mask.MarkRule.{MarkRule}
 use Rattle.solar_masks.specs.declared.mask.MarkRule.the-variants.{AtRoll, EveryStep, Nothing}
 
--- ---- section 6: every multiple of a step violates
+-- ---- section 6: a cell whose optimal roll is too far from every multiple of a step
 
 -- the smaller of phase and step - phase, where phase = roll rem step
 unfoldable pub stepDistance : Float → Float → Float
@@ -30,7 +30,7 @@ stepDistance roll step =
     let rest = sub binary64 step phase in
     cond (lt rest phase) rest phase
 
--- not Free, and that distance > tolerance
+-- not Free, and that distance of the optimal roll > tolerance
 unfoldable pub missesSteps : CellRoll → Float → Float → Bool
 missesSteps (cell.Free) step tolerance = false
 missesSteps (cell.At optimal) step tolerance = lt tolerance (stepDistance optimal step)
@@ -38,6 +38,7 @@ missesSteps (cell.Refused k) step tolerance = false
 
 -- ---- the rules
 
+-- whether a rule marks a cell, at a tolerance: violated at a roll, or too far from every multiple of a step; Nothing marks none
 unfoldable pub marked : CellRoll → MarkRule → Float → Bool
 marked c (AtRoll roll) tolerance = violates c roll tolerance
 marked c (EveryStep step) tolerance = missesSteps c step tolerance
@@ -71,20 +72,24 @@ cellMark p rule k = markAt p rule (k / timesOf p) (k % timesOf p)
 unfoldable pub valueAt : Plan → ℕ → ℕ → Float
 valueAt p r j = solarOptimalRollDeg (directionOf p r) (sunAt p j) (configOf p r .«panel_normal»)
 
+-- the named value of the cell of number k
 unfoldable pub cellValue : Plan → ℕ → Float
 cellValue p k = valueAt p (k / timesOf p) (k % timesOf p)
 
 -- ---- the calls: the plan's refusals, then 7, a lent output shorter than needed
 
+-- 7: an output of length `room` has no place for each cell
 unfoldable pub cellsShort : Plan → ℕ → Bool
 cellsShort p room = ltb room (cells p)
 
+-- *Masks, named values*: plan, 7; 0 for none. `sampling` is the number said in the place of 3, 0 in the calls that take no n.
 unfoldable pub cellsRefusal : Plan → ℕ → ℕ → ℕ
 cellsRefusal p sampling room =
     first (carried (planRefusal p sampling false)
     ∷ (cellsShort p room, 7)
     ∷ [])
 
+-- what the call answers: the number that it refuses by, or accepted with 0
 unfoldable pub cellsReply : Plan → ℕ → ℕ → Reply ℕ
 cellsReply p sampling room = reply (cellsRefusal p sampling room) 0
 

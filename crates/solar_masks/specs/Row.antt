@@ -17,25 +17,28 @@ use Rattle.solar_roll.specs.declared.cell.CellRoll.the-variants.{Free, At, Refu
 use Rattle.solar_roll.specs.declared.cell.ConfiguredRoll.{ConfiguredRoll}
 use Rattle.solar_roll.specs.declared.cell.ConfiguredRoll.the-variants.{None, Some}
 
--- the severity: difference - tolerance where violated, else zero
+-- the severity at a roll: difference - tolerance where violated, else zero
 unfoldable pub excess : CellRoll → Float → Float → Float
 excess Free roll tolerance = zero·0
 excess (At optimal) roll tolerance = let d = circularDiffDeg roll optimal in cond (lt tolerance d) (sub binary64 d tolerance) zero·0
 excess (Refused k) roll tolerance = zero·0
 
+-- the severity at the configured roll; without one it is zero
 unfoldable pub severity : CellRoll → ConfiguredRoll → Float → Float
 severity c None tolerance = zero·0
 severity c (Some roll) tolerance = excess c roll tolerance
 
--- of row r at time j
+-- the severity of row r at time j
 unfoldable pub severityAt : Plan → ℕ → ℕ → Float
 severityAt p r j = severity (cellOf p r j) (planConfigured p) (configOf p r .«tolerance_deg»)
 
 -- ---- the call: the plan's refusals, then 9, no such row, then 7, of the two lent lists' lengths
 
+-- 7: the mask or the severities, of these lengths, have no place for each time
 unfoldable pub rowShort : Plan → ℕ → ℕ → Bool
 rowShort p mask severities = ltb mask (timesOf p) || ltb severities (timesOf p)
 
+-- *One row*: plan, 9, 7; 0 for none
 unfoldable pub rowRefusal : Plan → ℕ → ℕ → ℕ → ℕ
 rowRefusal p r mask severities =
     first (carried (planRefusal p 0 false)
@@ -43,9 +46,11 @@ rowRefusal p r mask severities =
     ∷ (rowShort p mask severities, 7)
     ∷ [])
 
+-- what the call answers: the number that it refuses by, or accepted with 0
 unfoldable pub rowReply : Plan → ℕ → ℕ → ℕ → Reply ℕ
 rowReply p r mask severities = reply (rowRefusal p r mask severities) 0
 
+-- what the call leaves in the lent mask, and in the lent severities
 unfoldable pub rowMaskAfter : Plan → ℕ → List ℕ → List Float → List ℕ
 rowMaskAfter p r mask severities =
     unlessRefused (rowRefusal p r (length mask) (length severities)) (filled (timesOf p) (markAt p (atConfigured (planConfigured p)) r) mask) mask
