@@ -25,7 +25,7 @@ pub data Reply (A : Type 0) : Type 0 where
   refused : ℕ → Reply A
   accepted : A → Reply A
 
--- by the refusal's number
+-- what a call says, by its refusal's number: refused by it, or, where it is 0, accepted with the answer a
 unfoldable pub reply : {A : Type 0} → ℕ → A → Reply A
 reply zero a = accepted a
 reply (suc k) a = refused (suc k)
