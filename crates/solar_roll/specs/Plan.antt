@@ -90,21 +90,35 @@ violatesAt p r j roll = violates (cellOf p r j) (inForce (Sweep roll) (planConfi
 
 -- ---- the refusals
 
+-- the largest plan: rows, times and cells
+abbrev pub mostRows : ℕ
+mostRows = 65536
+
+abbrev pub mostTimes : ℕ
+mostTimes = 65536
+
+abbrev pub mostCells : ℕ
+mostCells = 1048576
+
+-- the largest n
+abbrev pub mostSamples : ℕ
+mostSamples = 3600
+
 -- 1, of the lists' lengths: target numbers or positions not a multiple of 3, or Sun and observer lengths differ
 unfoldable pub unlikeLengths : ℕ → ℕ → ℕ → Bool
 unlikeLengths targets suns observers = not (eqb (targets % 3) 0) || (not (eqb (suns % 3) 0) || not (eqb suns observers))
 
 -- 2: rows or times over 65,536, or cells over 1,048,576
 unfoldable pub tooMany : ℕ → ℕ → Bool
-tooMany rows times = ltb 65536 rows || (ltb 65536 times || ltb 1048576 (rows * times))
+tooMany rows times = ltb mostRows rows || (ltb mostTimes times || ltb mostCells (rows * times))
 
 -- the number in the place of 3, 0 for none: n outside 1 to 3,600
 unfoldable pub samplingOf : ℕ → ℕ
-samplingOf n = cond (leb 1 n && leb n 3600) 0 3
+samplingOf n = cond (leb 1 n && leb n mostSamples) 0 3
 
 -- the same in section 6's first two calls, where n = 0 is allowed
 unfoldable pub samplingOrNone : ℕ → ℕ
-samplingOrNone n = cond (leb n 3600) 0 3
+samplingOrNone n = cond (leb n mostSamples) 0 3
 
 -- *Plan*, 0 for none. `sampling` is the number said in the place of 3, 0 for none; `beyond` says that a used length lies beyond its buffer.
 unfoldable pub planRefusal : Plan → ℕ → Bool → ℕ
@@ -122,9 +136,9 @@ pub record PlanFacts (p : Plan) : Type 0 where
   pub targets-length : length (p .targets) ≡ 3 * rowsOf p
   pub suns-length : length (p .suns) ≡ 3 * timesOf p
   pub observers-length : length (p .observers) ≡ 3 * timesOf p
-  pub few-rows : rowsOf p ≤ 65536
-  pub few-times : timesOf p ≤ 65536
-  pub few-cells : cells p ≤ 1048576
+  pub few-rows : rowsOf p ≤ mostRows
+  pub few-times : timesOf p ≤ mostTimes
+  pub few-cells : cells p ≤ mostCells
   pub suns-small : badPosition (p .suns) ≡ false
   pub observers-small : badPosition (p .observers) ≡ false
   pub targets-small : badDirection (p .targets) ≡ false
