@@ -1,6 +1,6 @@
--- Section 2: the Sun's unit, the free cells, the body's axes, the optimal roll and the difference of two rolls, as solar_roll.rs has them, with
--- every fallback. What the roll takes of the target (its axes) and of the panel (its angle) are definitions of their own. Definitions only.
--- Assumes nothing.
+-- Section 2: the Sun's unit, the Free cells, the body's axes, the optimal roll and the difference of two rolls, as solar_roll.rs has them, with
+-- every fallback; and the step of even samples (sections 3 and 6). What the roll takes of the target (its axes) and of the panel (its angle) are
+-- definitions of their own. Definitions only. Assumes nothing.
 use mathlib.Core.Bool.{Bool, true, false, cond, _||_}
 use mathlib.Core.List.{List, [], _∷_}
 use Prim.Native.Nat.{ℕ}
@@ -111,6 +111,6 @@ circularDiffDeg a b = arc (sub binary64 a b)
 
 -- ---- the even samples of a turn
 
--- sections 3's and 6's step of n samples: 360 / n
+-- the step of n samples: 360 / n
 unfoldable pub sampleStep : ℕ → Float
 sampleStep n = div binary64 fullTurn (ofInt binary64 (pos n))

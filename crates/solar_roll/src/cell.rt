@@ -28,7 +28,8 @@ pub enum EvaluationRoll {
     Fixed(f64),
 }
 
-// A cell's answer: no roll is better than another, the optimal roll, or the number of a refusal.
+// A cell's answer: document 01's Free, where no roll is better than another; At, with the optimal roll;
+// or the number of a refusal.
 pub enum CellRoll {
     Free,
     At(f64),
