@@ -5,7 +5,7 @@
  * that can be cut off at any byte of its journal and taken up again; and the windows that follow from it.
  *
  * Link libwilfnusk.a, for x86-64 (`rt staticlib wilfnusk` writes it to target/staticlib/), and the C library's mathematics (-lm). It
- * allocates nothing, has no global state, reads and writes nothing but what it is lent, and always returns; a call needs up to 256 KiB of
+ * allocates nothing, has no global state, reads and writes nothing but what it is lent, and always returns; a call needs up to 448 KiB of
  * stack. Any number of threads may call it at the same time.
  *
  *

@@ -2,6 +2,7 @@
 //!
 //! Every answer is the proved library's own: this crate only passes slices on. A refused call leaves everything
 //! that it was lent unchanged and gives a [`Refusal`] with the number of the reason and its sentence.
+//! A call needs up to 448 KiB of stack.
 //!
 //! ```
 //! use wilfnusk::{Plan, Roll};
