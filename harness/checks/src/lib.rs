@@ -1,5 +1,6 @@
 //! The calls as one trait, so that the library and the plain model can be asked the same: `Library` calls the C names, `Model` is
 //! document 01 in plain Rust.
+pub mod examples;
 mod library;
 
 pub use library::{lent, Library};
@@ -10,6 +11,8 @@ use model::{Answer, Optimal, Plan, Roll};
 
 /// What `lent` lengths mean: the room of each output.
 pub trait Calls {
+    fn root(&self, x: f64) -> f64;
+    fn arctangent(&self, y: f64, z: f64) -> f64;
     fn difference(&self, a: f64, b: f64) -> f64;
     fn cell(&self, target: [f64; 3], sun: [f64; 3], observer: [f64; 3], panel: [f64; 3]) -> Answer<Optimal>;
     fn named_values(&self, plan: &Plan, lent: usize) -> Answer<Vec<f64>>;
@@ -21,6 +24,8 @@ pub trait Calls {
     fn field_of_regard_violated_at_roll(&self, plan: &Plan, time: u64, roll: f64, lent: usize) -> Answer<Vec<u8>>;
     /// Begin, work on the chunks in this order, and collect: the journal, the mask and the sum of probes.
     fn swept(&self, plan: &Plan, n: u64, order: &[u64]) -> Answer<(Vec<u8>, Vec<u8>, u64)>;
+    /// The used length after it, of a journal all of whose bytes are used.
+    fn recover(&self, plan: &Plan, n: u64, journal: &[u8]) -> Answer<u64>;
     fn violation_windows(&self, mask: &[u8], times: &[i64], severities: &[f64], columns: [usize; 6]) -> Answer<Vec<Window>>;
     fn visibility_windows(&self, mask: &[u8], times: &[i64], columns: [usize; 6]) -> Answer<Vec<Window>>;
     fn violation_records(&self, mask: &[u8], times: &[i64], severities: &[f64], lent: usize) -> Answer<Vec<Window>>;
@@ -32,6 +37,12 @@ pub trait Calls {
 pub struct Model;
 
 impl Calls for Model {
+    fn root(&self, x: f64) -> f64 {
+        x.sqrt()
+    }
+    fn arctangent(&self, y: f64, z: f64) -> f64 {
+        model::arithmetic::arctangent(y, z)
+    }
     fn difference(&self, a: f64, b: f64) -> f64 {
         model::roll::difference(a, b)
     }
@@ -67,6 +78,9 @@ impl Calls for Model {
         }
         let (mask, sum) = sweep.collect(&journal, journal.len() as u64, plan.cells())?;
         Ok((journal, mask, sum))
+    }
+    fn recover(&self, plan: &Plan, n: u64, journal: &[u8]) -> Answer<u64> {
+        Sweep::new(plan.clone(), n)?.recover(journal, journal.len() as u64)
     }
     fn violation_windows(&self, mask: &[u8], times: &[i64], severities: &[f64], columns: [usize; 6]) -> Answer<Vec<Window>> {
         model::windows::violation_windows(mask, times, severities, columns)

@@ -96,6 +96,12 @@ fn flag(x: u64) -> bool {
 }
 
 impl Calls for Library {
+    fn root(&self, x: f64) -> f64 {
+        wilfnusk::sqrt(x)
+    }
+    fn arctangent(&self, y: f64, z: f64) -> f64 {
+        wilfnusk::atan2(y, z)
+    }
     fn difference(&self, a: f64, b: f64) -> f64 {
         wilfnusk::circular_diff_deg(a, b)
     }
@@ -152,6 +158,9 @@ impl Calls for Library {
         let mask = output(plan.cells(), BYTE, plan.cells(), |mask| p.collect(n, &journal, used, mask).map(|s| sum = s))?;
         journal.truncate(used as usize);
         Ok((journal, mask, sum))
+    }
+    fn recover(&self, plan: &Plan, n: u64, journal: &[u8]) -> Answer<u64> {
+        lent(plan).recover(n, journal, journal.len() as u64).map_err(|r| r.number())
     }
     fn violation_windows(&self, mask: &[u8], times: &[i64], severities: &[f64], room: [usize; 6]) -> Answer<Vec<Window>> {
         columns(room, |out| wilfnusk::violation_windows(mask, times, severities, out))

@@ -1,6 +1,7 @@
 //! Same inputs to the library and to the customer's Rust, every result compared.
 //!
 //! `compare [model] [FACTOR]`: FACTOR times as many inputs; `model` compares the plain model in the library's place.
+mod examples;
 mod findings;
 mod plans;
 mod rows;
@@ -16,13 +17,14 @@ fn main() {
     let factor: u64 = arguments.iter().find_map(|a| a.parse().ok()).unwrap_or(1);
     let mut tally = Tally::default();
     let start = Instant::now();
+    let examples = examples::run();
     findings::run(calls, &mut tally);
     plans::run(calls, &mut tally, factor);
     let plans = start.elapsed();
     rows::run(calls, &mut tally, factor);
     let good = tally.report();
     println!("{:.1} s for plans, {:.1} s for rows", plans.as_secs_f64(), (start.elapsed() - plans).as_secs_f64());
-    if !good {
+    if !good || examples > 0 {
         exit(1);
     }
 }

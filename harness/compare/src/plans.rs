@@ -3,7 +3,7 @@ use crate::tally::Tally;
 use cases::plans::{for_roll, for_sweep, plan, roll, samples, Targets};
 use cases::{rows, Seeded};
 use checks::Calls;
-use model::journal::{HEADER, LINE};
+use model::journal::HEADER;
 use model::{Optimal, Plan, Roll};
 use oracle::Oracle;
 
@@ -102,22 +102,30 @@ fn rolls(calls: &dyn Calls, t: &mut Tally, p: &Plan, o: &Oracle, room: usize) {
     t.same("named values", calls.named_values(p, room), named, &shown);
 }
 
-/// The chunks in a random order; the mask, each line's probes, and their sum.
+/// Section 4's line of each chunk, from each cell's mark and how often it was tried.
+pub fn lines((mask, tried): &(Vec<u8>, Vec<u64>)) -> Vec<Vec<u8>> {
+    let line = |(c, (mask, tried)): (usize, (&[u8], &[u64]))| {
+        let word: u64 = mask.iter().enumerate().map(|(k, &mark)| (mark as u64) << k).sum();
+        format!("{c:08x}{word:016x}{:08x}\n", tried.iter().sum::<u64>()).into_bytes()
+    };
+    mask.chunks(64).zip(tried.chunks(64)).enumerate().map(line).collect()
+}
+
+/// The chunks in a random order: each line, the mask, and the sum of probes.
 fn sweep(calls: &dyn Calls, t: &mut Tally, s: &mut Seeded, p: &Plan, o: &Oracle, n: u64) {
     let mut order: Vec<u64> = (0..p.cells().div_ceil(64) as u64).collect();
     for k in (1..order.len()).rev() {
         order.swap(k, s.index(k + 1));
     }
-    let (mask, tried) = o.sweep(n);
+    let swept = o.sweep(n);
+    let lines = lines(&swept);
+    let (mask, tried) = swept;
     let shown = || format!("n {n} order {order:?} {p:?}");
     match calls.swept(p, n, &order) {
         Ok((journal, ours, sum)) => {
             t.mask("sweep", Ok(ours), mask, &shown);
             t.same("probes", Ok(sum), tried.iter().sum(), &shown);
-            let probes = |line: &[u8]| u64::from_str_radix(std::str::from_utf8(&line[24..32]).unwrap(), 16).unwrap();
-            let ours: Vec<u64> = journal[HEADER..].chunks(LINE).map(probes).collect();
-            let of_chunk = |&c: &u64| tried[64 * c as usize..].iter().take(64).sum();
-            t.same("probes of chunks", Ok(ours), order.iter().map(of_chunk).collect(), &shown);
+            t.same("lines", Ok(journal[HEADER..].to_vec()), order.iter().flat_map(|&c| lines[c as usize].clone()).collect(), &shown);
         }
         Err(number) => {
             t.mask("sweep", Err(number), mask, &shown);

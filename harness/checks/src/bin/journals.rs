@@ -313,30 +313,6 @@ fn sweeps(s: &mut Seeded) -> Vec<Sweep> {
     (0..sizes.len() * 30).map(|k| one(s, k)).collect()
 }
 
-/// Document 01's example: both lines of its journal.
-fn example(machine: &dyn Machine, t: &mut Tally) {
-    let plan = model::Plan {
-        targets: vec![1.0, 0.0, 0.0],
-        suns: vec![0.0, 1.0, 0.0, 0.0, 0.0, 1.0],
-        observers: vec![0.0; 6],
-        tolerance_deg: 10.0,
-        roll_deg: None,
-        panel_normal: [0.0, 1.0, 0.0],
-    };
-    let sweep = Sweep::new(plan, 1).expect("an accepted plan");
-    let mut journal = vec![FILL; HEADER + LINE];
-    let used = machine.begin(&sweep, &mut journal, 0).unwrap_or(0);
-    let used = machine.work(&sweep, 0, &mut journal, used).unwrap_or(0);
-    let zeros = "0".repeat(16);
-    let expected = format!(
-        "0000000100000002000000014024000000000000{}{zeros}{zeros}3ff0000000000000{zeros}\n00000000000000000000000200000002\n",
-        "00"
-    );
-    let what = || "document 01's example".to_string();
-    t.same(&what, used, expected.len() as u64);
-    t.same(&what, String::from_utf8_lossy(&journal).into_owned(), expected);
-}
-
 fn main() {
     let arguments: Vec<String> = std::env::args().skip(1).collect();
     let own = arguments.iter().any(|a| a == "model");
@@ -345,7 +321,6 @@ fn main() {
     let mut s = Seeded::new(4);
     let sweeps = sweeps(&mut s);
     let mut t = Tally::default();
-    example(machine, &mut t);
     for k in 0..120_000 * factor {
         let sweep = &sweeps[s.index(sweeps.len())];
         list(&mut s, sweep, machine, &mut t);

@@ -83,7 +83,6 @@ fn roots(s: &mut Seeded, factor: u64) -> Tally {
         t.root(f64::from_bits(b));
         t.root(f64::from_bits(b | 1 << 63));
     }
-    assert_eq!(wilfnusk::sqrt(2.0).to_bits(), 0x3ff6_a09e_667f_3bcd);
     for _ in 0..2_000_000 * factor {
         t.root(f64::from_bits(s.bits()));
     }

@@ -1,0 +1,160 @@
+//! Document 01's examples: what is asked, and the answer that it prints. Beside its own list, the bits and roots that section 1 names, and
+//! what it rules out.
+use crate::Calls;
+use model::arithmetic::bits;
+use model::windows::Window;
+use model::{Answer, Optimal, Plan, Roll};
+use Asked::*;
+
+#[derive(Clone, Copy, Debug)]
+pub enum Asked {
+    Difference(f64, f64),
+    Root(f64),
+    RootBits(f64),
+    ArctangentBits(f64, f64),
+    /// The roll with the Sun there.
+    RollOf([f64; 3]),
+    /// The mark at roll 0 with the Sun there and this tolerance.
+    Mark([f64; 3], f64),
+    /// A row's marks.
+    Violations(&'static str),
+    Visibility(&'static str),
+    /// The marks of a window at these times.
+    Expansion((i64, i64), &'static [i64]),
+    Journal,
+    /// Mask and sum of probes of that journal.
+    Collected,
+    /// The used length that recovery leaves of that journal's first bytes.
+    Recovered(usize),
+}
+
+/// The header's fields, whose widths section 4 gives (the printed header has four zeros more), and the line.
+const JOURNAL: &str = concat!(
+    "000000010000000200000001",
+    "4024000000000000",
+    "00",
+    "0000000000000000",
+    "0000000000000000",
+    "3ff0000000000000",
+    "0000000000000000",
+    "\n",
+    "00000000000000000000000200000002",
+    "\n"
+);
+
+pub const EXAMPLES: [(Asked, &str); 29] = [
+    (Difference(350.0, 10.0), "20"),
+    (Difference(10.0, 350.0), "20"),
+    (Difference(0.0, 180.0), "180"),
+    (Root(4.0), "2"),
+    (RootBits(2.0), "3ff6a09e667f3bcd"),
+    (RollOf([0.0, 1.0, 0.0]), "0"),
+    (RollOf([0.0, 0.0, 1.0]), "90"),
+    (RollOf([0.0, -1.0, 0.0]), "180"),
+    (RollOf([1.0, 0.0, 0.0]), "Free"),
+    (Violations("01011"), "1-1 3-4(last)"),
+    // The flag of section 5, where a window reaches the last sample.
+    (Visibility("01011"), ""),
+    (Visibility("10"), "1-1(last)"),
+    (Visibility("0010"), "0-1 3-3(last)"),
+    (Visibility(""), ""),
+    (Journal, JOURNAL),
+    (Collected, "01 2"),
+    // Section 1.
+    (Root(-0.0), "-0"),
+    (Root(-1.0), "NaN"),
+    (Root(f64::NAN), "NaN"),
+    (Root(f64::INFINITY), "inf"),
+    (ArctangentBits(0.0, -1.0), "400921fb54442d18"),
+    // Ruled out: a tolerance met exactly counted as violated.
+    (Mark([0.0, 0.0, 1.0], 90.0), "0"),
+    (Mark([0.0, 0.0, 1.0], 89.0), "1"),
+    // A one-sample window dropped at the end.
+    (Violations("01"), "1-1(last)"),
+    // A full line without 0a kept.
+    (Recovered(140), "140"),
+    (Recovered(139), "107"),
+    (Recovered(106), "0"),
+    // Strict order assumed in expansion.
+    (Expansion((10, 10), &[0, 10, 10, 20]), "0110"),
+    (Expansion((10, 20), &[20, 0, 10, 30, 10]), "10101"),
+];
+
+/// The examples' target and panel, with a Sun a time, seen from 0.
+pub fn plan(suns: &[[f64; 3]], tolerance_deg: f64) -> Plan {
+    Plan {
+        targets: vec![1.0, 0.0, 0.0],
+        suns: suns.concat(),
+        observers: vec![0.0; 3 * suns.len()],
+        tolerance_deg,
+        roll_deg: None,
+        panel_normal: [0.0, 1.0, 0.0],
+    }
+}
+
+/// The plan of the example's journal; its n is 1.
+pub fn journal_plan() -> Plan {
+    plan(&[[0.0, 1.0, 0.0], [0.0, 0.0, 1.0]], 10.0)
+}
+
+/// A row's mask, and times for it.
+pub fn row(marks: &str) -> (Vec<u8>, Vec<i64>) {
+    (marks.bytes().map(|b| b - b'0').collect(), (0..marks.len() as i64).collect())
+}
+
+pub fn marks(mask: &[u8]) -> String {
+    mask.iter().map(|b| b.to_string()).collect()
+}
+
+pub fn windows(list: &[Window]) -> String {
+    let shown = |w: &Window| format!("{}-{}{}", w.first, w.last, if w.is_last { "(last)" } else { "" });
+    list.iter().map(shown).collect::<Vec<_>>().join(" ")
+}
+
+pub fn roll(optimal: Optimal) -> String {
+    match optimal {
+        Optimal::Free => "Free".to_string(),
+        Optimal::At(roll) => roll.to_string(),
+    }
+}
+
+/// What an implementation says, as document 01 prints it.
+pub fn answer(calls: &dyn Calls, asked: Asked) -> Answer<String> {
+    Ok(match asked {
+        Difference(a, b) => calls.difference(a, b).to_string(),
+        Root(x) => calls.root(x).to_string(),
+        RootBits(x) => format!("{:016x}", bits(calls.root(x))),
+        ArctangentBits(y, z) => format!("{:016x}", bits(calls.arctangent(y, z))),
+        RollOf(sun) => roll(calls.cell([1.0, 0.0, 0.0], sun, [0.0; 3], [0.0, 1.0, 0.0])?),
+        Mark(sun, tolerance) => marks(&calls.in_constraint_batch_at_roll(&plan(&[sun], tolerance), Roll::Sweep(0.0), 1)?),
+        Violations(marks) => {
+            let (mask, times) = row(marks);
+            windows(&calls.violation_windows(&mask, &times, &vec![0.0; mask.len()], [mask.len(); 6])?)
+        }
+        Visibility(marks) => {
+            let (mask, times) = row(marks);
+            windows(&calls.visibility_windows(&mask, &times, [mask.len(); 6])?)
+        }
+        Expansion((first, last), times) => marks(&calls.expand(&[first], &[last], times, times.len())?),
+        Journal => String::from_utf8(calls.swept(&journal_plan(), 1, &[0])?.0).expect("text"),
+        Collected => {
+            let (_, mask, sum) = calls.swept(&journal_plan(), 1, &[0])?;
+            format!("{} {sum}", marks(&mask))
+        }
+        Recovered(used) => calls.recover(&journal_plan(), 1, &JOURNAL.as_bytes()[..used])?.to_string(),
+    })
+}
+
+/// Holds an implementation's answers against the printed ones: how many differ.
+pub fn run(who: &str, answer: impl Fn(Asked) -> Answer<String>) -> usize {
+    let mut differ = 0;
+    for (asked, printed) in EXAMPLES {
+        let said = answer(asked);
+        if said.as_deref() != Ok(printed) {
+            println!("DIFFERS {asked:?}: document 01 {printed:?}, {who} {said:?}");
+            differ += 1;
+        }
+    }
+    println!("examples: {} of document 01, {differ} differ in {who}", EXAMPLES.len());
+    differ
+}

@@ -1,0 +1,40 @@
+//! Document 01's examples against the customer's Rust. What it does not have, root, arctangent, header and recovery, is the plain model's.
+use checks::examples::{self, journal_plan, marks, plan, roll, row, windows, Asked, Asked::*};
+use checks::Model;
+use model::{Answer, Optimal, Roll};
+use oracle::Oracle;
+
+fn answer(asked: Asked) -> Answer<String> {
+    Ok(match asked {
+        Difference(a, b) => oracle::circular_diff_deg(a, b).to_string(),
+        RollOf(sun) => {
+            let o = Oracle::new(&plan(&[sun], 0.0), &[0]);
+            roll(if o.not_free()[0] == 1 { Optimal::At(o.named_values()[0]) } else { Optimal::Free })
+        }
+        Mark(sun, tolerance) => marks(&Oracle::new(&plan(&[sun], tolerance), &[0]).in_constraint_batch_at_roll(Roll::Sweep(0.0))),
+        Violations(marks) => {
+            let (mask, times) = row(marks);
+            windows(&oracle::violation_windows(&mask, &vec![0.0; mask.len()], &times))
+        }
+        Visibility(marks) => {
+            let (mask, times) = row(marks);
+            windows(&oracle::visibility_windows(&mask, &times))
+        }
+        Expansion((first, last), times) => marks(&oracle::expand(&[first], &[last], times)),
+        Journal => {
+            let header = examples::answer(&Model, Journal)?[..107].to_string();
+            let lines = crate::plans::lines(&Oracle::new(&journal_plan(), &[0, 1]).sweep(1));
+            header + &String::from_utf8(lines.concat()).expect("text")
+        }
+        Collected => {
+            let (mask, tried) = Oracle::new(&journal_plan(), &[0, 1]).sweep(1);
+            format!("{} {}", marks(&mask), tried.iter().sum::<u64>())
+        }
+        Root(_) | RootBits(_) | ArctangentBits(..) | Recovered(_) => return examples::answer(&Model, asked),
+    })
+}
+
+/// How many differ.
+pub fn run() -> usize {
+    examples::run("the customer's Rust", answer)
+}
