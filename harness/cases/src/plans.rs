@@ -211,3 +211,26 @@ pub fn for_roll(s: &mut Seeded, plan: &mut Plan) {
         _ => s.between(0.0, 180.0),
     };
 }
+
+/// How work over a range of so many chunks gets the Sun's units, as `pays` of crates/journal/src/range.rt decides: from a table of all times,
+/// or chunk by chunk, as the range is too short for a table or there are too many times. The answer must not tell; the comparisons count that they
+/// saw each.
+#[derive(Clone, Copy, PartialEq, Debug)]
+pub enum Units {
+    Table,
+    ShortRange,
+    ManyTimes,
+}
+
+pub fn units(plan: &Plan, chunks: u64) -> Units {
+    match plan.times() {
+        8785.. => Units::ManyTimes,
+        times if times as u64 / 64 + 8 < chunks => Units::Table,
+        _ => Units::ShortRange,
+    }
+}
+
+/// A range's length about where that decision turns.
+pub fn around_the_turn(s: &mut Seeded, plan: &Plan) -> u64 {
+    plan.times() as u64 / 64 + s.within(1, 12)
+}

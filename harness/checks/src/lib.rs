@@ -3,11 +3,12 @@
 pub mod examples;
 mod library;
 
-pub use library::{lent, Library};
+pub use library::{lent, work_range, Library};
 
 use model::journal::Sweep;
 use model::windows::Window;
 use model::{Answer, Optimal, Plan, Roll};
+use std::ops::Range;
 
 /// What `lent` lengths mean: the room of each output.
 pub trait Calls {
@@ -24,6 +25,8 @@ pub trait Calls {
     fn field_of_regard_violated_at_roll(&self, plan: &Plan, time: u64, roll: f64, lent: usize) -> Answer<Vec<u8>>;
     /// Begin, work on the chunks in this order, and collect: the journal, the mask and the sum of probes.
     fn swept(&self, plan: &Plan, n: u64, order: &[u64]) -> Answer<(Vec<u8>, Vec<u8>, u64)>;
+    /// The same by work over ranges of chunks, in this order.
+    fn ranged(&self, plan: &Plan, n: u64, ranges: &[Range<u64>]) -> Answer<(Vec<u8>, Vec<u8>, u64)>;
     /// The used length after it, of a journal all of whose bytes are used.
     fn recover(&self, plan: &Plan, n: u64, journal: &[u8]) -> Answer<u64>;
     fn violation_windows(&self, mask: &[u8], times: &[i64], severities: &[f64], columns: [usize; 6]) -> Answer<Vec<Window>>;
@@ -78,6 +81,9 @@ impl Calls for Model {
         }
         let (mask, sum) = sweep.collect(&journal, journal.len() as u64, plan.cells())?;
         Ok((journal, mask, sum))
+    }
+    fn ranged(&self, plan: &Plan, n: u64, ranges: &[Range<u64>]) -> Answer<(Vec<u8>, Vec<u8>, u64)> {
+        self.swept(plan, n, &ranges.iter().cloned().flatten().collect::<Vec<_>>())
     }
     fn recover(&self, plan: &Plan, n: u64, journal: &[u8]) -> Answer<u64> {
         Sweep::new(plan.clone(), n)?.recover(journal, journal.len() as u64)

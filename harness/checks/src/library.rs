@@ -3,6 +3,7 @@
 use crate::Calls;
 use model::windows::Window;
 use model::{Answer, Optimal, Plan, Roll};
+use std::ops::Range;
 use wilfnusk::{Columns, OptimalRoll, Refusal};
 
 pub struct Library;
@@ -90,6 +91,58 @@ fn records(lent: usize, call: impl FnOnce(&mut [wilfnusk::Window]) -> Result<u64
     answer.map(|n| out[..n as usize].iter().map(window).collect()).map_err(|r| r.number())
 }
 
+/// Work over a range: the used length after it, and the chunk at which it stopped, which a refused call leaves as it was.
+pub fn work_range(plan: &Plan, n: u64, chunks: Range<u64>, journal: &mut [u8], used: u64) -> Answer<(u64, u64)> {
+    let (p, [x, y, z]) = (plan, plan.panel_normal);
+    let (has_roll, roll) = (p.roll_deg.is_some() as u64, p.roll_deg.unwrap_or(0.0));
+    let (targets, suns, observers) = (p.targets.as_ptr(), p.suns.as_ptr(), p.observers.as_ptr());
+    let (bytes, room, mut stopped) = (journal.as_mut_ptr(), journal.len(), NUMBER);
+    // The C name itself, as the wrapper keeps the lent number to itself.
+    let answer = unsafe {
+        wilfnusk::sys::wilfnusk_work_range(
+            targets,
+            p.targets.len(),
+            suns,
+            p.suns.len(),
+            observers,
+            p.observers.len(),
+            p.tolerance_deg,
+            has_roll,
+            roll,
+            x,
+            y,
+            z,
+            n,
+            chunks.start,
+            chunks.end,
+            bytes,
+            room,
+            used,
+            &mut stopped,
+        )
+    };
+    assert!(answer >= 0 || stopped == NUMBER, "{answer}, and a number that is not its to write has changed");
+    u64::try_from(answer).map(|used| (used, stopped)).map_err(|_| -answer as u8)
+}
+
+/// Begins a journal of so many lines, has them written, and collects.
+fn written(
+    plan: &Plan,
+    n: u64,
+    lines: u64,
+    write: impl FnOnce(&wilfnusk::Plan, &mut [u8], u64) -> Result<u64, Refusal>,
+) -> Answer<(Vec<u8>, Vec<u8>, u64)> {
+    let p = lent(plan);
+    let room = wilfnusk::HEADER_BYTES + lines * wilfnusk::LINE_BYTES;
+    let mut journal = vec![BYTE; room as usize + 2];
+    let used = p.begin(n, &mut journal, 0).and_then(|used| write(&p, &mut journal, used)).map_err(|r| r.number())?;
+    let mut sum = 0;
+    let mask = output(plan.cells(), BYTE, plan.cells(), |mask| p.collect(n, &journal, used, mask).map(|s| sum = s))?;
+    assert!(journal[used as usize..].iter().all(|&b| b == BYTE), "a byte beyond the journal has changed");
+    journal.truncate(used as usize);
+    Ok((journal, mask, sum))
+}
+
 fn flag(x: u64) -> bool {
     assert!(x <= 1, "a flag of {x}");
     x == 1
@@ -106,11 +159,22 @@ impl Calls for Library {
         wilfnusk::circular_diff_deg(a, b)
     }
     fn cell(&self, target: [f64; 3], sun: [f64; 3], observer: [f64; 3], panel: [f64; 3]) -> Answer<Optimal> {
-        match wilfnusk::cell(target, sun, observer, panel) {
+        let answer = match wilfnusk::cell(target, sun, observer, panel) {
             Ok(OptimalRoll::Free) => Ok(Optimal::Free),
             Ok(OptimalRoll::At(roll)) => Ok(Optimal::At(roll)),
             Err(refusal) => Err(refusal.number()),
-        }
+        };
+        // The lent roll, which the wrapper keeps to itself.
+        let ([a, b, c], [d, e, f], [g, h, i], [x, y, z]) = (target, sun, observer, panel);
+        let mut roll = FLOAT;
+        let number = unsafe { wilfnusk::sys::wilfnusk_cell(a, b, c, d, e, f, g, h, i, x, y, z, &mut roll) };
+        let expected = match answer {
+            Ok(Optimal::Free) => (0, FLOAT),
+            Ok(Optimal::At(roll)) => (1, roll),
+            Err(refusal) => (-(refusal as i64), FLOAT),
+        };
+        assert_eq!((number, roll), expected, "the wrapper says something else, or a roll that is not its to write has changed");
+        answer
     }
     fn named_values(&self, plan: &Plan, room: usize) -> Answer<Vec<f64>> {
         output(room, FLOAT, plan.cells(), |out| lent(plan).named_values(out))
@@ -147,17 +211,23 @@ impl Calls for Library {
         output(room, BYTE, plan.rows(), |mask| lent(plan).field_of_regard_violated_at_roll(time, roll, mask))
     }
     fn swept(&self, plan: &Plan, n: u64, order: &[u64]) -> Answer<(Vec<u8>, Vec<u8>, u64)> {
-        let number = |r: Refusal| r.number();
-        let p = lent(plan);
-        let mut journal = vec![BYTE; (wilfnusk::HEADER_BYTES + order.len() as u64 * wilfnusk::LINE_BYTES) as usize];
-        let mut used = p.begin(n, &mut journal, 0).map_err(number)?;
-        for &chunk in order {
-            used = p.work(n, chunk, &mut journal, used).map_err(number)?;
-        }
-        let mut sum = 0;
-        let mask = output(plan.cells(), BYTE, plan.cells(), |mask| p.collect(n, &journal, used, mask).map(|s| sum = s))?;
-        journal.truncate(used as usize);
-        Ok((journal, mask, sum))
+        written(plan, n, order.len() as u64, |p, journal, mut used| {
+            for &chunk in order {
+                used = p.work(n, chunk, journal, used)?;
+            }
+            Ok(used)
+        })
+    }
+    fn ranged(&self, plan: &Plan, n: u64, ranges: &[Range<u64>]) -> Answer<(Vec<u8>, Vec<u8>, u64)> {
+        let lines = ranges.iter().map(|r| r.end - r.start).sum();
+        written(plan, n, lines, |p, journal, mut used| {
+            for range in ranges {
+                let (after, stopped) = p.work_range(n, range.clone(), journal, used)?;
+                assert_eq!((after, stopped), (used + (range.end - range.start) * wilfnusk::LINE_BYTES, range.end));
+                used = after;
+            }
+            Ok(used)
+        })
     }
     fn recover(&self, plan: &Plan, n: u64, journal: &[u8]) -> Answer<u64> {
         lent(plan).recover(n, journal, journal.len() as u64).map_err(|r| r.number())
@@ -178,6 +248,13 @@ impl Calls for Library {
         output(room, BYTE, times.len(), |mask| wilfnusk::expand(first, last, times, mask))
     }
     fn seconds(&self, first: &[i64], last: &[i64]) -> Answer<f64> {
-        wilfnusk::total_violation_duration(first, last).map_err(|r| r.number())
+        let answer = wilfnusk::total_violation_duration(first, last).map_err(|r| r.number());
+        // The lent number, which the wrapper keeps to itself.
+        let mut seconds = FLOAT;
+        let (a, b) = (first.as_ptr(), last.as_ptr());
+        let number = unsafe { wilfnusk::sys::wilfnusk_total_violation_duration(a, first.len(), b, last.len(), &mut seconds) };
+        let expected = answer.map_or_else(|refusal| (-(refusal as i64), FLOAT), |sum| (0, sum));
+        assert_eq!((number, seconds), expected, "the wrapper says something else, or a number that is not its to write has changed");
+        answer
     }
 }

@@ -1,11 +1,14 @@
 //! Random plans: rolls, masks of every call, rows, and the sweep through its journal.
 use crate::tally::Tally;
-use cases::plans::{for_roll, for_sweep, plan, roll, samples, Targets};
+use cases::plans::{around_the_turn, for_roll, for_sweep, plan, roll, samples, units, Targets};
 use cases::{rows, Seeded};
 use checks::Calls;
 use model::journal::HEADER;
 use model::{Optimal, Plan, Roll};
 use oracle::Oracle;
+
+/// Kinds of ranges, by how they get the Sun's units.
+pub const RANGES: [&str; 3] = ["range, units in a table", "range, too short for a table", "range, too many times for a table"];
 
 pub fn run(calls: &dyn Calls, t: &mut Tally, factor: u64) {
     let mut s = Seeded::new(2);
@@ -17,6 +20,10 @@ pub fn run(calls: &dyn Calls, t: &mut Tally, factor: u64) {
     if factor > 1 {
         one(calls, t, &mut s, (1024, 1024), 8, Targets::Unit);
         one(calls, t, &mut s, (16, 65_536), 2, Targets::Any);
+    }
+    // Where work over a range changes how it works out the Sun's units: at 8,784 times.
+    for (rows, times) in [(1, 8784), (2, 8784), (3, 8784), (1, 8785), (2, 8785), (3, 8785)] {
+        one(calls, t, &mut s, (rows, times), 1 + rows as u64, Targets::Unit);
     }
     t.uncounted = false;
     while t.cells < 2_200_000 * factor {
@@ -51,7 +58,11 @@ fn one(calls: &dyn Calls, t: &mut Tally, s: &mut Seeded, (rows, times): (usize, 
     let o = Oracle::new(&p, &instants);
     let shown = || format!("n {n} {p:?}");
     rolls(calls, t, &p, &o, room);
-    sweep(calls, t, s, &p, &o, n);
+    let swept = o.sweep(n);
+    sweep(calls, t, s, &p, n, swept.clone());
+    for _ in 0..if times > 8000 { 6 } else { 1 } {
+        ranges(calls, t, s, &p, n, &swept);
+    }
     t.mask("every roll", calls.constrained_at_every_roll(&p, n, room), o.constrained_at_every_roll(n), &shown);
     let j = s.index(times);
     let ours = calls.field_of_regard_violated_batch(&p, j as u64, n, rows);
@@ -111,13 +122,16 @@ pub fn lines((mask, tried): &(Vec<u8>, Vec<u64>)) -> Vec<Vec<u8>> {
     mask.chunks(64).zip(tried.chunks(64)).enumerate().map(line).collect()
 }
 
-/// The chunks in a random order: each line, the mask, and the sum of probes.
-fn sweep(calls: &dyn Calls, t: &mut Tally, s: &mut Seeded, p: &Plan, o: &Oracle, n: u64) {
-    let mut order: Vec<u64> = (0..p.cells().div_ceil(64) as u64).collect();
-    for k in (1..order.len()).rev() {
-        order.swap(k, s.index(k + 1));
+fn shuffle<T>(s: &mut Seeded, list: &mut [T]) {
+    for k in (1..list.len()).rev() {
+        list.swap(k, s.index(k + 1));
     }
-    let swept = o.sweep(n);
+}
+
+/// The chunks in a random order: each line, the mask, and the sum of probes.
+fn sweep(calls: &dyn Calls, t: &mut Tally, s: &mut Seeded, p: &Plan, n: u64, swept: (Vec<u8>, Vec<u64>)) {
+    let mut order: Vec<u64> = (0..p.cells().div_ceil(64) as u64).collect();
+    shuffle(s, &mut order);
     let lines = lines(&swept);
     let (mask, tried) = swept;
     let shown = || format!("n {n} order {order:?} {p:?}");
@@ -131,6 +145,37 @@ fn sweep(calls: &dyn Calls, t: &mut Tally, s: &mut Seeded, p: &Plan, o: &Oracle,
             t.mask("sweep", Err(number), mask, &shown);
         }
     }
+}
+
+/// All chunks by ranges in a random order: short ones, the whole, and ones about where the library changes how it works.
+fn ranges(calls: &dyn Calls, t: &mut Tally, s: &mut Seeded, p: &Plan, n: u64, swept: &(Vec<u8>, Vec<u64>)) {
+    let chunks = p.cells().div_ceil(64) as u64;
+    let mut list = Vec::new();
+    let mut from = 0;
+    while from < chunks {
+        let length = match s.below(8) {
+            0 => chunks,
+            1..=3 => s.within(1, 9),
+            _ => around_the_turn(s, p),
+        };
+        let to = chunks.min(from + length);
+        list.push(from..to);
+        from = to;
+    }
+    shuffle(s, &mut list);
+    let lines = lines(swept);
+    let shown = || format!("n {n} ranges {list:?} {p:?}");
+    let ours = calls.ranged(p, n, &list);
+    let mut at = HEADER;
+    for range in &list {
+        let kind = RANGES[units(p, range.end - range.start) as usize];
+        let theirs = lines[range.start as usize..range.end as usize].concat();
+        let end = at + theirs.len();
+        t.same(kind, ours.clone().map(|(journal, ..)| journal[at..end].to_vec()), theirs, &shown);
+        at = end;
+    }
+    t.same("mask by ranges", ours.clone().map(|(_, mask, _)| mask), swept.0.clone(), &shown);
+    t.same("probes by ranges", ours.map(|(.., sum)| sum), swept.1.iter().sum(), &shown);
 }
 
 /// A row of `evaluate`, and the windows of it.

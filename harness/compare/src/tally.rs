@@ -1,4 +1,5 @@
 //! What was compared, how much of it was marked, and what differed.
+use crate::plans::RANGES;
 use model::arithmetic::bits;
 use model::windows::Window;
 use model::Answer;
@@ -125,6 +126,11 @@ impl Tally {
         );
         if self.cells < 2_000_000 || self.masks < 1_000_000 {
             fail("fewer than 2,000,000 cells or 1,000,000 masks".to_string());
+        }
+        for name in RANGES {
+            if self.kinds.get(name).map_or(0, |k| k.answers) < 20 {
+                fail(format!("fewer than 20 of {name}"));
+            }
         }
         if self.telling < self.plans / 2 {
             fail("fewer than half of the plans have a tolerance below 180 / n or a configured roll".to_string());

@@ -84,6 +84,8 @@ struct Tally {
     entries: u64,
     accepted: u64,
     ranges: u64,
+    /// Lines of accepted ranges, by how they got the Sun's units.
+    range_lines: [u64; 3],
     cuts: u64,
     range_cuts: u64,
     collected: u64,
@@ -117,9 +119,10 @@ fn chunk(s: &mut Seeded, sweep: &Sweep) -> u64 {
 
 /// A range's end: mostly some chunks on, and often beyond the last; sometimes none.
 fn end(s: &mut Seeded, sweep: &Sweep, from: u64) -> u64 {
-    match s.below(8) {
+    match s.below(10) {
         0 => from.saturating_sub(s.below(2)),
         1 => s.one_of(&[1 << 32, u64::MAX, 16_384]),
+        2 | 3 => from.saturating_add(plans::around_the_turn(s, &sweep.plan)),
         _ => from.saturating_add(s.within(1, sweep.chunks() as u64 + 1)),
     }
 }
@@ -143,7 +146,7 @@ fn list(s: &mut Seeded, sweep: &Sweep, machine: &dyn Machine, t: &mut Tally) {
     let mut ledger = Ledger::new(sweep);
     let mut file: Vec<u8> = Vec::new();
     let cells = sweep.mask.len();
-    let entries = s.within(1, 6 + 3 * sweep.chunks() as u64);
+    let entries = s.within(1, 6 + 3 * sweep.chunks().min(40) as u64);
     let mut history = Vec::new();
     let unworked = s.index(sweep.chunks() + 1);
     t.lists += 1;
@@ -159,7 +162,7 @@ fn list(s: &mut Seeded, sweep: &Sweep, machine: &dyn Machine, t: &mut Tally) {
             7 | 8 => Entry::Work { chunk: chunk(s, sweep), lent: room(s, file.len(), LINE) },
             9..=12 => {
                 let from = if s.once_in(2) { chunk(s, sweep) } else { next as u64 };
-                let lines = s.within(1, 9) as usize;
+                let lines = if s.once_in(2) { s.within(1, 9) as usize } else { sweep.chunks().max(1) };
                 Entry::WorkRange { from, to: end(s, sweep, from), lent: room(s, file.len(), lines * LINE) }
             }
             // Lists that come to an end: the next chunk, from one that differs by list.
@@ -215,6 +218,9 @@ fn list(s: &mut Seeded, sweep: &Sweep, machine: &dyn Machine, t: &mut Tally) {
             (Ok(Said::Done), Ok(after)) => after,
             (Ok(Said::Stopped(chunk)), Ok(after)) => {
                 t.same(&shown, stopped, Some(*chunk));
+                if let Entry::WorkRange { from, to, .. } = entry {
+                    t.range_lines[plans::units(&sweep.plan, to - from) as usize] += (after - used) / LINE as u64;
+                }
                 after
             }
             _ => {
@@ -299,19 +305,23 @@ fn on_damage(s: &mut Seeded, sweep: &Sweep, other: &Sweep, machine: &dyn Machine
     t.same(&shown, &ours, &theirs);
 }
 
-/// Plans of few cells, chunks that are not full, no cells at all, and one of many chunks.
-fn sweeps(s: &mut Seeded) -> Vec<Sweep> {
-    let sizes = [(0, 0), (0, 3), (2, 0), (1, 1), (1, 2), (7, 9), (8, 8), (5, 13), (3, 43), (10, 20), (1, 640), (31, 33)];
-    let one = |s: &mut Seeded, k: usize| {
-        let (rows, times) = sizes[k % sizes.len()];
+/// A sweep of each size, `count` times.
+fn sweeps(s: &mut Seeded, sizes: &[(usize, usize)], count: usize) -> Vec<Sweep> {
+    let one = |&(rows, times): &(usize, usize)| {
         let targets = if s.once_in(4) { plans::Targets::Any } else { plans::Targets::Unit };
         let mut plan = plans::plan(s, targets, rows, times);
         let n = s.one_of(&[1, 1, 2, 3, 5, 8, 12]);
         plans::for_sweep(s, &mut plan, n);
         Sweep::new(plan, n).expect("an accepted plan")
     };
-    (0..sizes.len() * 30).map(|k| one(s, k)).collect()
+    sizes.iter().cycle().take(sizes.len() * count).map(one).collect()
 }
+
+/// Few cells, chunks that are not full, no cells at all, and some of many chunks.
+const SMALL: [(usize, usize); 12] =
+    [(0, 0), (0, 3), (2, 0), (1, 1), (1, 2), (7, 9), (8, 8), (5, 13), (3, 43), (10, 20), (1, 640), (31, 33)];
+/// Times on both sides of 8,784, up to which work over a range has the Sun's units in a table.
+const LONG: [(usize, usize); 8] = [(1, 8784), (2, 8784), (3, 8784), (1, 8785), (2, 8785), (3, 8785), (4, 4095), (1, 20_000)];
 
 fn main() {
     let arguments: Vec<String> = std::env::args().skip(1).collect();
@@ -319,9 +329,10 @@ fn main() {
     let factor: u64 = arguments.iter().find_map(|a| a.parse().ok()).unwrap_or(1);
     let machine: &dyn Machine = if own { &Bytes } else { &Library };
     let mut s = Seeded::new(4);
-    let sweeps = sweeps(&mut s);
+    let (small, long) = (sweeps(&mut s, &SMALL, 30), sweeps(&mut s, &LONG, 4));
     let mut t = Tally::default();
     for k in 0..120_000 * factor {
+        let sweeps = if k % 300 == 0 { &long } else { &small };
         let sweep = &sweeps[s.index(sweeps.len())];
         list(&mut s, sweep, machine, &mut t);
         if k % 2 == 0 {
@@ -329,12 +340,16 @@ fn main() {
             on_damage(&mut s, sweep, other, machine, &mut t);
         }
     }
+    let [table, short, many] = t.range_lines;
+    println!(
+        "lines of ranges: {table} by a table of the Sun's units, {short} of ranges too short for one, {many} of too many times for one"
+    );
     println!(
         "journals: {} lists of {} entries ({} accepted, {} ranges, {} cuts, {} of them of a range, {} collected) against the ledger, {} damaged \
          journals: {} differ",
         t.lists, t.entries, t.accepted, t.ranges, t.cuts, t.range_cuts, t.collected, t.damaged, t.differ
     );
-    if t.differ > 0 || t.lists < 100_000 || t.range_cuts < 5_000 {
+    if t.differ > 0 || t.lists < 100_000 || t.range_cuts < 5_000 || t.range_lines.iter().any(|&lines| lines < 5_000) {
         exit(1);
     }
 }

@@ -2,7 +2,7 @@
 //! refused call changes nothing, and an accepted one nothing beyond its answer, is looked at in every call.
 //! `refusals [FACTOR]` multiplies the number of inputs.
 use cases::{plans, rows, Seeded};
-use checks::{lent, Calls, Library, Model};
+use checks::{lent, work_range, Calls, Library, Model};
 use model::journal::{Sweep, HEADER, LINE};
 use model::plan::Rolls;
 use model::{arithmetic::bits, Answer, Optimal, Plan, Roll};
@@ -29,7 +29,7 @@ impl Tally {
 }
 
 /// The numbers that each call lists.
-const LISTED: [(&str, &[u8]); 18] = [
+const LISTED: [(&str, &[u8]); 19] = [
     ("cell", &[0, 4, 5, 6]),
     ("named values", &[0, 1, 2, 4, 5, 6, 7]),
     ("batch", &[0, 1, 2, 4, 5, 6, 7]),
@@ -40,6 +40,7 @@ const LISTED: [(&str, &[u8]); 18] = [
     ("field of regard at a roll", &[0, 1, 2, 4, 5, 6, 7, 9]),
     ("begin", &[0, 1, 2, 3, 4, 5, 6, 7, 13]),
     ("work", &[0, 1, 2, 3, 4, 5, 6, 7, 9, 10, 11, 12]),
+    ("work over a range", &[0, 1, 2, 3, 4, 5, 6, 7, 9, 10, 11, 12]),
     ("recover", &[0, 1, 2, 3, 4, 5, 6, 11]),
     ("collect", &[0, 1, 2, 3, 4, 5, 6, 7, 11, 12, 15]),
     ("violation windows", &[0, 1, 2, 7, 8, 14]),
@@ -151,7 +152,7 @@ fn of_plans(s: &mut Seeded, t: &mut Tally) {
     journal(s, t, &p, n, &shown);
 }
 
-/// The four calls of a journal, each on a journal as far along as chance has it.
+/// The calls of a journal, each on a journal as far along as chance has it.
 fn journal(s: &mut Seeded, t: &mut Tally, p: &Plan, n: u64, shown: &dyn Fn() -> String) {
     let sweep = if p.cells() < 1000 { Sweep::new(p.clone(), n).ok() } else { None };
     let mut file = Vec::new();
@@ -205,6 +206,17 @@ fn journal(s: &mut Seeded, t: &mut Tally, p: &Plan, n: u64, shown: &dyn Fn() -> 
         Ok((used + LINE as u64, after))
     });
     t.same("work", ours.map(|u| (u, buffer)), expected, shown);
+    let to = s.one_of(&[chunk.wrapping_sub(1), chunk, chunk.saturating_add(1), chunk.saturating_add(2), u64::MAX]);
+    let mut buffer = file.clone();
+    let ours = work_range(p, n, chunk..to, &mut buffer, used);
+    assert!(ours.is_ok() || buffer == file, "work over a range refused and wrote");
+    let expected = theirs.and_then(|sweep| {
+        let (lines, stopped) = sweep.work_range(chunk, to, &file, used)?;
+        let mut after = file.clone();
+        after[used as usize..][..lines.len()].copy_from_slice(&lines);
+        Ok(((used + lines.len() as u64, stopped), after))
+    });
+    t.same("work over a range", ours.map(|u| (u, buffer)), expected, shown);
 
     t.same("recover", l.recover(n, &file, used).map_err(number), theirs.and_then(|sweep| sweep.recover(&file, used)), shown);
 
