@@ -135,18 +135,17 @@ fn sqrt_by_steps(x: f64) -> f64
     }
 }
 
-// About the root of f, from g, about the root, and y, about 1 / root(f): g to 26 digits, so that its square is exact; then what that leaves of f, divided by
-// twice the root. Nothing is promised of it.
-fn root_near(f: f64, g: f64, y: f64) -> f64 {
+// About the root of f, from g, about the root, and h, about half of 1 / root(f): g to 26 digits, so that its square is exact; then what that leaves of f,
+// divided by twice the root. Nothing is promised of it.
+fn root_near(f: f64, g: f64, h: f64) -> f64 {
     let s = (g + 201326592.0) - 201326592.0;
     let t = s * s;
-    let h = 0.5 * y;
     s + (f - t) * h * (1.5 - (f + t) * (h * h))
 }
 
-// The same, from y alone.
+// The same, from y, about 1 / root(f).
 pub(crate) fn root_by_inverse(f: f64, y: f64) -> f64 {
-    root_near(f, f * y, y)
+    root_near(f, f * y, 0.5 * y)
 }
 
 // About the root of the normal pattern b's number times a power of four, from 1/2 to 2: its nearest f64 but for few operands. Nothing is promised of it:
@@ -159,9 +158,9 @@ fn guess(b: u64) -> f64 {
     let y = f64::from_bits(0x5fd3_fea0_0000_0000 - n / 2);
     let z = f * y;
     let r = z * y;
-    // About 1 / root(r): the cubic whose largest error is least where r lies. Two halves of it do not wait for each other.
-    let p = (4.906405164 - 24.672098479 * r) + r * r * (74.395979945 - 88.969694697 * r);
-    root_near(f, z * p, y * p)
+    // About 1 / root(r) divided by 88.9696947: the cubic whose largest error is least where r lies, as two factors.
+    let p = (0.502803727 - r) * ((r - 0.333390892) * r + 0.109678833);
+    root_near(f, 88.9696947 * z * p, 44.48484735 * y * p)
 }
 
 // Whether q is what steps 2 and 3 make of m: m * 2^52 lies above the square of q - 1/2 and below that of q + 1/2.
@@ -190,16 +189,14 @@ pub fn sqrt(x: f64) -> f64
 {
     if x > 0.0 {
         let b = f64::to_bits(x);
-        let field = b >> 52;
-        if 0 < field {
-            if field < 2047 {
-                let g = guess(b);
-                if g == g {
-                    let q = 0x10_0000_0000_0000 + f64::to_bits(g) % 0x10_0000_0000_0000;
-                    let s = scale(b);
-                    if is_rounded_root(s.significand, q) {
-                        return packed(q, s.half - 26);
-                    }
+        // A normal pattern: its exponent's field lies from 1 to 2046.
+        if wrapping_sub_u64(b >> 52, 1) < 2046 {
+            let g = guess(b);
+            if g == g {
+                let q = 0x10_0000_0000_0000 + f64::to_bits(g) % 0x10_0000_0000_0000;
+                let s = scale(b);
+                if is_rounded_root(s.significand, q) {
+                    return packed(q, s.half - 26);
                 }
             }
         }

@@ -1,7 +1,7 @@
 -- `float::root::sqrt` meets its contract: a guess that passes the test is what steps 2 and 3 give. Assumes nothing.
-use mathlib.Core.Path.{sym, ap, _∙_, subst}
+use mathlib.Core.Path.{_≡_, sym, ap, _∙_, subst}
 use mathlib.Core.Bool.{false}
-use Prim.Native.Nat.{ℕ, _-_, _*_, _^_, _≤_, _<_}
+use Prim.Native.Nat.{ℕ, _+_, _-_, _*_, _/_, _^_, _≤_, _<_}
 use native.Mathlib.Omega.{arith}
 use lib.Dec.{T}
 use lib.Ieee.{binary64, toBits, units}
@@ -14,26 +14,38 @@ use borrow.Author.Needs.{needs}
 use Rattle.float.proofs.root.sqrt.Statement.{statement}
 use Rattle.float.proofs.root.sqrt.Tie as tie
 
+-- a pattern that passes the test is a normal number's
+normal : (c : tie.Then2) → let b = toBits binary64 (c .before .before .before .args .x) in (2 ^ 52 ≤ b) × (b < 2047 * 2 ^ 52)
+normal c =
+    let b = toBits binary64 (c .before .before .before .args .x) in
+    let r = c .before .wrapping-sub-u64 .result in
+    let e : r + 1 ≡ b / 2 ^ 52 = omega arith in
+    (omega arith, omega arith)
+
 -- what `scale` gives
 scaled-at : (c : tie.After-scale) → Scales (magnitude (toBits binary64 (c .before .before .before .before .before .before .args .x)) * 2 ^ 1074) (c .scale .result) × (511 ≤ c .scale .result .half) × (c .scale .result .half < 1560)
 scaled-at c =
     let b = toBits binary64 (c .before .before .before .before .before .before .args .x) in
-    subst (λ (s : Scaled). Scales (magnitude b * 2 ^ 1074) s × (511 ≤ s .half) × (s .half < 1560)) (sym (c .scale .ensures)) (scaled-facts b (omega arith) (omega arith))
+    let n = normal (c .before .before .before) in
+    subst (λ (s : Scaled). Scales (magnitude b * 2 ^ 1074) s × (511 ≤ s .half) × (s .half < 1560)) (sym (c .scale .ensures)) (scaled-facts b (omega (arith, n .0)) (n .1))
 
 float-to-bits-b : tie.Need-float-to-bits-b
 float-to-bits-b c = above-not-nan (c .before .args .x) (c .if1 .taken)
+
+wrapping-sub-u64-requires : tie.Need-wrapping-sub-u64-requires
+wrapping-sub-u64-requires c κs = search needs
 
 guess-requires : tie.Need-guess-requires
 guess-requires c κs = search needs
 
 float-to-bits-q : tie.Need-float-to-bits-q
-float-to-bits-q c = same-not-nan (c .before .guess .result) (c .if4 .taken)
+float-to-bits-q c = same-not-nan (c .before .guess .result) (c .if3 .taken)
 
 add-q : tie.Need-add-q
 add-q c = search needs
 
 scale-requires : tie.Need-scale-requires
-scale-requires c κs = search needs
+scale-requires c κs = let n = normal (c .before .before) in (omega (arith, n .0), n .1)
 
 is-rounded-root-requires : tie.Need-is-rounded-root-requires
 is-rounded-root-requires c κs = (scaled-at c .0 .2, omega arith, omega arith)
@@ -55,7 +67,7 @@ returns c =
     let x = start .before .args .x in
     let f = scaled-at s in
     c .packed .ensures
-    ∙ ap (λ (q : ℕ). units binary64 false q (s .scale .result .half - 26)) (sym (r .is-rounded-root .ensures (c .before .before .if5 .taken)))
+    ∙ ap (λ (q : ℕ). units binary64 false q (s .scale .result .half - 26)) (sym (r .is-rounded-root .ensures (c .before .before .if4 .taken)))
     ∙ root-of-scaled x (s .scale .result) (normal-left x (start .if1 .taken) (omega arith)) (subst T (sym (start .before .good .0 .1)) tt) (f .0) (omega arith)
 
 sqrt-by-steps-requires : tie.Need-sqrt-by-steps-requires
@@ -69,6 +81,7 @@ sqrt-spec =
     tie.close
     (tie.spec
     float-to-bits-b
+    wrapping-sub-u64-requires
     guess-requires
     float-to-bits-q
     add-q
