@@ -159,7 +159,7 @@ fn repeated(one: Swept, n: usize) -> Swept
     }
 }
 
-// The same over samples. A configured roll stands for every sample, so it is tried once for all.
+// Sweeps cells as `sweep_cells` does, over samples. A configured roll stands for every sample, so it is tried once for all.
 fn sweep_samples(
     targets: &[f64],
     times: usize,
