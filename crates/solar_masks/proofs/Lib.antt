@@ -1,4 +1,5 @@
 -- Laws of specs/.
+pub mod Blocks
 pub mod Calls
 pub mod Shared
 pub mod Tiles

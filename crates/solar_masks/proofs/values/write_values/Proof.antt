@@ -1,8 +1,9 @@
-use Prim.Native.Nat.{ℕ, _+_, _-_, _≤_, _<_, min}
+use Prim.Native.Nat.{ℕ, _+_, _-_, _≤_, _<_}
 use Rattle.buffers.proofs.Rows.{columns-ext, columns-zero, columns-add, columns-all}
 use Rattle.buffers.specs.Lent.{filled}
 use Rattle.buffers.specs.Rows.{Columns}
 use Rattle.float.specs.Arithmetic.{zero·0}
+use Rattle.solar_masks.proofs.Blocks.{Block, block-of, block-units}
 use Rattle.solar_masks.proofs.Shared.{value-shared}
 use Rattle.solar_masks.specs.Mask.{valueAt, cellValue}
 use Rattle.solar_roll.specs.Plan.{Plan, planOf, count, triple, rowsOf, timesOf, rowDirection, directionOf, sunAt, planPanel}
@@ -13,7 +14,7 @@ use denote.Ref.{now}
 use lib.Ieee.{Float}
 use lib.ListN.{length, getD}
 use mathlib.Core.List.{List, []}
-use Rattle.buffers.proofs.Lent.{length-filled, getD-filled}
+use Rattle.buffers.proofs.Lent.{getD-filled}
 use mathlib.Core.Path.{_≡_, refl, ap, _∙_, subst}
 use native.Mathlib.Omega.{arith}
 use Rattle.solar_masks.proofs.values.write_values.Statement.{statement}
@@ -35,29 +36,18 @@ plan o = let a = Start-of o .args in planOf (now (a .targets)) (now (a .suns)) (
 abbrev F : tie.At-loop Inv-loop μ-loop → ℕ → ℕ → Float
 F o r j = rollDegIn (bodyAxes (directionOf (plan o) r)) (sunUnit (triple (plan o .suns) j) (triple (plan o .observers) j)) (o .before .panel-of .result .angle)
 
--- the block of n times from `from` on
-record Block (from times n : ℕ) : Type 0 where
-  pub more : 0 < n
-  pub few : n ≤ 2048
-  pub within : from + n ≤ times
-
+-- the block of times, and the table with its units
 block : (c : tie.After-smaller Inv-loop μ-loop) → Block (c .before .before .loop .from) (timesOf (plan (c .before .before))) (c .smaller .result)
-block c = record { more = omega arith; few = omega arith; within = omega arith }
+block c = block-of _ _ _ (c .before .loop-test .taken) (c .smaller .ensures)
 
--- the table's first n places hold the units of the block; its length stays
-filled-units : (c : tie.After-sun-units Inv-loop μ-loop) →
+units-filled : (c : tie.After-sun-units Inv-loop μ-loop) →
     let o = c .before .before .before .before in
-    c .sun-units .last .1 .1 .1 .0 ≡ filled (c .before .before .smaller .result) (λ t. sunAt (plan o) (o .loop .from + t)) (o .loop .units)
+    (c .sun-units .last .1 .1 .1 .0 ≡ filled (c .before .before .smaller .result) (λ t. sunAt (plan o) (o .loop .from + t)) (o .loop .units))
+    × (c .before .before .smaller .result ≤ length (c .sun-units .last .1 .1 .1 .0))
 unfolding sunAt
-filled-units c =
+units-filled c =
     let o = c .before .before .before .before in
-    let n : min (length (o .loop .units)) (timesOf (plan o) - o .loop .from) ≡ c .before .before .smaller .result = omega (arith, o .loop .inv .1) in
-    c .sun-units .ensures ∙ ap (λ (m : ℕ). filled m (λ t. sunAt (plan o) (o .loop .from + t)) (o .loop .units)) n
-
-kept : (c : tie.After-sun-units Inv-loop μ-loop) → c .before .before .smaller .result ≤ length (c .sun-units .last .1 .1 .1 .0)
-kept c =
-    let h : c .before .before .smaller .result ≤ length (c .before .before .before .before .loop .units) = omega (arith, c .before .before .before .before .loop .inv .1, block (c .before .before) .few) in
-    omega (arith, ap length (filled-units c) ∙ length-filled _ _ _ h, h)
+    block-units (plan o) (o .loop .from) _ (o .loop .units) _ (o .loop .inv .1) (c .before .before .smaller .ensures) (c .sun-units .ensures)
 
 panel-of-requires : tie.Need-panel-of-requires Inv-loop μ-loop
 panel-of-requires c κs = search needs
@@ -81,7 +71,7 @@ slice-aggregate-value-block : tie.Need-slice-aggregate-value-block Inv-loop μ-l
 slice-aggregate-value-block c = search needs
 
 value-block-requires : tie.Need-value-block-requires Inv-loop μ-loop
-value-block-requires c κs = let o = c .before .before .before .before .before .before .before in (omega (arith, o .loop .inv .2 .same, Start-of o .pre .0), block (c .before .before .before .before .before) .within, omega (arith, kept (c .before .before .before)))
+value-block-requires c κs = let o = c .before .before .before .before .before .before .before in (omega (arith, o .loop .inv .2 .same, Start-of o .pre .0), block (c .before .before .before .before .before) .within, omega (arith, units-filled (c .before .before .before) .1))
 
 add-from : tie.Need-add-from Inv-loop μ-loop
 add-from c = omega (arith, block (c .before .before .before .before .before .before .before .before) .within, Start-of (c .before .before .before .before .before .before .before .before .before .before) .pre .1)
@@ -102,7 +92,7 @@ loop-again c =
     let e : (r j : ℕ) → r < rowsOf p → o .loop .from ≤ j → j < o .loop .from + n → G r j ≡ F o r j = λ r j h l u.
     let q : o .loop .from + (j - o .loop .from) ≡ j = omega arith in
     ap (λ (unit : Vector). rollDegIn (bodyAxes (directionOf p r)) unit (o .before .panel-of .result .angle))
-    (ap (λ (x : List Vector). getD x (j - o .loop .from) []) (filled-units (c .before .before .before .before .before .before)) ∙ getD-filled _ n _ [] (j - o .loop .from) (omega arith)
+    (ap (λ (x : List Vector). getD x (j - o .loop .from) []) (units-filled (c .before .before .before .before .before .before) .0) ∙ getD-filled _ n _ [] (j - o .loop .from) (omega arith)
     ∙ ap (sunAt p) q) in (
       block (c .before .before .before .before .before .before .before .before) .within,
       search needs,
