@@ -49,7 +49,9 @@ const ENTRIES: &[Entry] = &[
     ("collect", |name, _| journals::collect_case(name, false, Limit::Ratio(3.0))),
     ("collect-vectors", |name, _| journals::collect_case(name, true, Limit::None)),
     ("violation-clear", |name, _| rows::windows_case(name, ROW, Violation, "clear", &[0], Limit::Rate(1.0))),
-    ("violation-alternating", |name, _| rows::windows_case(name, ROW, Violation, "alternating", &[0, 1], Limit::Times(3.0, "violation-clear"))),
+    ("violation-alternating", |name, _| {
+        rows::windows_case(name, ROW, Violation, "alternating", &[0, 1], Limit::Times(3.0, "violation-clear"))
+    }),
     ("visibility-marked", |name, _| rows::windows_case(name, ROW, Visibility, "all marked", &[1], Limit::Rate(1.0))),
     ("visibility-alternating", |name, _| {
         rows::windows_case(name, ROW, Visibility, "two and two", &[0, 0, 1, 1], Limit::Times(3.0, "visibility-marked"))

@@ -1,7 +1,7 @@
 //! Windows of a row, listed again and again into the same lent columns. A unit is a sample, which is a byte of the mask.
 use crate::case::{side, Case, Limit, Side};
 use crate::inputs;
-use wilfnusk::Columns;
+use checks::Lists;
 
 /// How many times a row is listed, and how many samples it has.
 pub type Shape = (usize, usize);
@@ -11,40 +11,6 @@ pub type Shape = (usize, usize);
 pub enum Listing {
     Violation,
     Visibility,
-}
-
-struct Lists {
-    first: Vec<u64>,
-    last: Vec<u64>,
-    first_time: Vec<i64>,
-    last_time: Vec<i64>,
-    severity: Vec<f64>,
-    is_last: Vec<u8>,
-    count: usize,
-}
-
-impl Lists {
-    fn new(places: usize) -> Lists {
-        Lists {
-            first: vec![0; places],
-            last: vec![0; places],
-            first_time: vec![0; places],
-            last_time: vec![0; places],
-            severity: vec![0.0; places],
-            is_last: vec![0; places],
-            count: 0,
-        }
-    }
-    fn columns(&mut self) -> Columns<'_> {
-        Columns {
-            first: &mut self.first,
-            last: &mut self.last,
-            first_time: &mut self.first_time,
-            last_time: &mut self.last_time,
-            severity: &mut self.severity,
-            is_last: &mut self.is_last,
-        }
-    }
 }
 
 /// First and last times.
@@ -58,17 +24,17 @@ pub fn windows_case(name: &'static str, (listings, samples): Shape, listing: Lis
     let times = inputs::times(samples);
     let severities: Vec<f64> = (0..samples).map(|k| (k % 97) as f64 / 8.0).collect();
     let original = oracle::Row::new(&mask, &severities, &times);
-    let list = move |lists: &mut Lists| {
+    let list = move |(lists, count): &mut (Lists, usize)| {
         for _ in 0..listings {
-            let out = lists.columns();
-            let count = match listing {
+            let out = lists.lend();
+            let listed = match listing {
                 Listing::Violation => wilfnusk::violation_windows(&mask, &times, &severities, out),
                 Listing::Visibility => wilfnusk::visibility_windows(&mask, &times, out),
             };
-            lists.count = count.unwrap() as usize;
+            *count = listed.unwrap() as usize;
         }
     };
-    let found = |lists: &Lists| ends(lists.first_time.iter().copied().zip(lists.last_time.iter().copied()).take(lists.count));
+    let found = |(lists, count): &(Lists, usize)| ends(lists.first_time.iter().copied().zip(lists.last_time.iter().copied()).take(*count));
     // The original's visibility getter makes Python objects: no side here.
     let other = (listing == Listing::Violation).then(|| -> Box<dyn Side> {
         side(
@@ -91,7 +57,7 @@ pub fn windows_case(name: &'static str, (listings, samples): Shape, listing: Lis
         unit: "byte",
         limit,
         mask: false,
-        port: side(Lists::new(samples.div_ceil(2)), list, move |_| (listings * samples) as u64, found),
+        port: side((Lists::new([samples.div_ceil(2); 6]), 0), list, move |_| (listings * samples) as u64, found),
         other,
     }
 }

@@ -3,7 +3,7 @@
 pub mod examples;
 mod library;
 
-pub use library::{lent, work_range, Library};
+pub use library::{lent, work_range, Library, Lists};
 
 use model::journal::Sweep;
 use model::windows::Window;

@@ -42,19 +42,44 @@ fn output<T: Copy + PartialEq>(
     answer.map(|()| out).map_err(|r| r.number())
 }
 
+/// Six columns to lend, full of patterns.
+pub struct Lists {
+    pub first: Vec<u64>,
+    pub last: Vec<u64>,
+    pub first_time: Vec<i64>,
+    pub last_time: Vec<i64>,
+    pub severity: Vec<f64>,
+    pub is_last: Vec<u8>,
+}
+
+impl Lists {
+    pub fn new(lent: [usize; 6]) -> Lists {
+        Lists {
+            first: vec![NUMBER; lent[0]],
+            last: vec![NUMBER; lent[1]],
+            first_time: vec![TIME; lent[2]],
+            last_time: vec![TIME; lent[3]],
+            severity: vec![FLOAT; lent[4]],
+            is_last: vec![BYTE; lent[5]],
+        }
+    }
+    pub fn lend(&mut self) -> Columns<'_> {
+        Columns {
+            first: &mut self.first,
+            last: &mut self.last,
+            first_time: &mut self.first_time,
+            last_time: &mut self.last_time,
+            severity: &mut self.severity,
+            is_last: &mut self.is_last,
+        }
+    }
+}
+
 /// Lends six columns, and gives the windows that the call says it wrote.
 fn columns(lent: [usize; 6], call: impl FnOnce(Columns) -> Result<u64, Refusal>) -> Answer<Vec<Window>> {
-    let (mut first, mut last) = (vec![NUMBER; lent[0]], vec![NUMBER; lent[1]]);
-    let (mut first_time, mut last_time) = (vec![TIME; lent[2]], vec![TIME; lent[3]]);
-    let (mut severity, mut is_last) = (vec![FLOAT; lent[4]], vec![BYTE; lent[5]]);
-    let answer = call(Columns {
-        first: &mut first,
-        last: &mut last,
-        first_time: &mut first_time,
-        last_time: &mut last_time,
-        severity: &mut severity,
-        is_last: &mut is_last,
-    });
+    let mut lists = Lists::new(lent);
+    let answer = call(lists.lend());
+    let Lists { first, last, first_time, last_time, severity, is_last } = lists;
     let n = answer.as_ref().map_or(0, |&n| n as usize);
     let beyond = first[n..].iter().all(|&x| x == NUMBER)
         && last[n..].iter().all(|&x| x == NUMBER)

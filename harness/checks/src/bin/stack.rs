@@ -1,9 +1,10 @@
 //! How much stack each C name takes at its largest inputs, and that include/wilfnusk.h's promise holds: a thread with that much runs them all.
 //! `stack [KIB]` takes KIB for the promise: with too little, the thread overflows its stack, which ends the program.
+use checks::Lists;
 use std::hint::black_box;
 use std::process::exit;
 use std::thread;
-use wilfnusk::{Columns, Plan, Roll, Window};
+use wilfnusk::{Plan, Roll, Window};
 
 /// What a thread in Rust takes besides: its own data and start, and the frames of this program down to a call.
 const RUST: usize = 8 << 10;
@@ -30,12 +31,7 @@ struct Inputs {
     journal: Vec<u8>,
     times: Vec<i64>,
     severities: Vec<f64>,
-    first: Vec<u64>,
-    last: Vec<u64>,
-    first_time: Vec<i64>,
-    last_time: Vec<i64>,
-    severity: Vec<f64>,
-    is_last: Vec<u8>,
+    columns: Lists,
     records: Vec<Window>,
 }
 
@@ -57,12 +53,7 @@ impl Inputs {
             journal: vec![0; (wilfnusk::HEADER_BYTES + CHUNKS * wilfnusk::LINE_BYTES) as usize],
             times: (0..SAMPLES as i64).collect(),
             severities: vec![1.0; SAMPLES],
-            first: vec![0; SAMPLES],
-            last: vec![0; SAMPLES],
-            first_time: vec![0; SAMPLES],
-            last_time: vec![0; SAMPLES],
-            severity: vec![0.0; SAMPLES],
-            is_last: vec![0; SAMPLES],
+            columns: Lists::new([SAMPLES; 6]),
             records: vec![Window::default(); SAMPLES],
         }
     }
@@ -149,14 +140,7 @@ fn of_row(i: &mut Inputs, mask: &[u8], run: &mut dyn FnMut(&'static str, &mut dy
         wilfnusk::visibility_records(mask, &i.times, &mut i.records).expect("accepted");
     });
     let mut columns = |clear: bool| {
-        let out = Columns {
-            first: &mut i.first,
-            last: &mut i.last,
-            first_time: &mut i.first_time,
-            last_time: &mut i.last_time,
-            severity: &mut i.severity,
-            is_last: &mut i.is_last,
-        };
+        let out = i.columns.lend();
         if clear {
             wilfnusk::visibility_windows(mask, &i.times, out).expect("accepted");
         } else {
@@ -165,9 +149,9 @@ fn of_row(i: &mut Inputs, mask: &[u8], run: &mut dyn FnMut(&'static str, &mut dy
     };
     run("wilfnusk_visibility_windows", &mut || columns(true));
     run("wilfnusk_violation_windows", &mut || columns(false));
-    run("wilfnusk_expand", &mut || wilfnusk::expand(&i.first_time, &i.last_time, &i.times, &mut i.mask).expect("accepted"));
+    run("wilfnusk_expand", &mut || wilfnusk::expand(&i.columns.first_time, &i.columns.last_time, &i.times, &mut i.mask).expect("accepted"));
     run("wilfnusk_total_violation_duration", &mut || {
-        wilfnusk::total_violation_duration(&i.first_time, &i.last_time).expect("accepted");
+        wilfnusk::total_violation_duration(&i.columns.first_time, &i.columns.last_time).expect("accepted");
     });
 }
 
