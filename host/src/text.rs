@@ -1,4 +1,5 @@
 //! Small things of output.
+use std::borrow::Cow;
 
 /// Says something on standard error; a sweep goes on though nobody listens there.
 #[macro_export]
@@ -20,6 +21,37 @@ pub fn grouped(n: impl ToString) -> String {
         text.push(d);
     }
     text
+}
+
+/// A text as a terminal may show it: characters that move the cursor, break the line or show nothing are escaped.
+pub fn visible(text: &str) -> Cow<'_, str> {
+    let unseen = |c: char| {
+        c.is_control()
+            || matches!(c, '\u{ad}' | '\u{61c}' | '\u{200b}'..='\u{200f}' | '\u{2028}'..='\u{202e}' | '\u{2060}'..='\u{206f}' | '\u{feff}')
+    };
+    if !text.contains(unseen) {
+        return text.into();
+    }
+    let mut shown = String::new();
+    for c in text.chars() {
+        if unseen(c) {
+            shown.extend(c.escape_default());
+        } else {
+            shown.push(c);
+        }
+    }
+    shown.into()
+}
+
+/// What a message shows of a text that may be long: its start.
+pub fn excerpt(text: &str) -> String {
+    const MOST: usize = 80;
+    let start: String = text.chars().take(MOST + 1).collect();
+    let shown = visible(&start);
+    match shown.char_indices().nth(MOST) {
+        Some((end, _)) => format!("{} ..", &shown[..end]),
+        None => shown.into_owned(),
+    }
 }
 
 /// Which of these are as asked, as ranges: 0..3, 7.
@@ -56,6 +88,15 @@ mod tests {
         assert_eq!(grouped(999), "999");
         assert_eq!(grouped(1000), "1,000");
         assert_eq!(grouped(1048576), "1,048,576");
+    }
+    #[test]
+    fn what_a_terminal_shows() {
+        assert!(matches!(visible("α Cen, 4\u{a0}ly"), Cow::Borrowed(_)));
+        assert_eq!(visible("a\n\u{1b}[2J\0\u{9b}b\r\t"), "a\\n\\u{1b}[2J\\u{0}\\u{9b}b\\r\\t");
+        assert_eq!(visible("\u{202e}\u{feff}x"), "\\u{202e}\\u{feff}x");
+        assert_eq!(excerpt("a\n"), "a\\n");
+        assert_eq!(excerpt(&"ä".repeat(80)), "ä".repeat(80));
+        assert_eq!(excerpt(&"ä".repeat(81)), "ä".repeat(80) + " ..");
     }
     #[test]
     fn runs() {
