@@ -55,33 +55,54 @@ impl Reader<'_> {
     }
 }
 
+const RFC_3339: &str = "RFC 3339, such as 2026-03-20T14:46:00Z";
+
 /// Reads a time such as 2026-03-20T14:46:00Z, 2026-03-20T14:46:00.123456789+01:00.
 pub fn parse(text: &str) -> Result<i64, Fault> {
     let r = &mut Reader { text: text.as_bytes(), at: 0 };
-    let year = r.number(4, 0, 9999, "a year of four digits")?;
-    r.one_of(b"-", "-")?;
+    if let Some(other) = other_form(text) {
+        return Err((0, other));
+    }
+    let year = r.number(4, 0, 9999, RFC_3339).map_err(|(_, allowed)| (0, allowed))?;
+    if let [b'-' | b':' | b'.' | b'/' | b' ', b'0'..=b'9', b'0'..=b'9', b'0'..=b'9', ..] = r.text[r.at..] {
+        let after_hyphen = r.at + usize::from(r.text[r.at] == b'-');
+        return Err((after_hyphen, "RFC 3339, such as 2026-03-20T14:46:00Z (this reads like a day of the year)"));
+    }
+    r.one_of(b"-", RFC_3339)?;
     let month = r.number(2, 1, 12, "a month from 01 to 12")?;
-    r.one_of(b"-", "-")?;
+    r.one_of(b"-", RFC_3339)?;
     let day_at = r.at;
     let day = r.number(2, 1, 31, "a day of that month")?;
     if day > days_of(year, month) {
         return Err((day_at, "a day of that month"));
     }
-    r.one_of(b"Tt ", "T between date and time")?;
+    let is_date = r.at == text.len();
+    r.one_of(
+        b"Tt ",
+        if is_date { "T and the time of day after it, T14:46:00Z (this reads like a date alone)" } else { "T between date and time" },
+    )?;
     let hour = r.number(2, 0, 23, "an hour from 00 to 23")?;
-    r.one_of(b":", ":")?;
+    r.one_of(b":", "hours, minutes and seconds with : between them")?;
     let minute = r.number(2, 0, 59, "a minute from 00 to 59")?;
-    r.one_of(b":", ":")?;
+    r.one_of(b":", "seconds too, such as :00 (this reads like a time without seconds)")?;
     let second = r.number(2, 0, 59, "a second from 00 to 59 (leap seconds have no place in nanoseconds since 1970)")?;
     let mut nanos = 0;
-    if r.text.get(r.at) == Some(&b'.') {
-        r.at += 1;
-        nanos = r.fraction()?;
+    match r.text.get(r.at) {
+        Some(b'.') => {
+            r.at += 1;
+            nanos = r.fraction()?;
+        }
+        Some(b',') => return Err((r.at, "a point before the fraction of a second")),
+        _ => {}
     }
-    let offset = match r.one_of(b"Zz+-", "Z or an offset such as +01:00")? {
+    let zone = match r.text.get(r.at) {
+        None => "Z at its end for UTC, or an offset such as +01:00 (this reads like a time without its zone)",
+        Some(_) => "Z or an offset such as +01:00",
+    };
+    let offset = match r.one_of(b"Zz+-", zone)? {
         sign @ (b'+' | b'-') => {
             let hours = r.number(2, 0, 23, "an offset's hours from 00 to 23")?;
-            r.one_of(b":", ":")?;
+            r.one_of(b":", "an offset's hours and minutes with : between them")?;
             let minutes = r.number(2, 0, 59, "an offset's minutes from 00 to 59")?;
             (60 * hours + minutes) * if sign == b'+' { 60 } else { -60 }
         }
@@ -92,6 +113,35 @@ pub fn parse(text: &str) -> Result<i64, Fault> {
     }
     let seconds = 86_400 * days_since_1970(year, month, day) + 3600 * hour + 60 * minute + second - offset;
     i64::try_from(i128::from(seconds) * SECOND + nanos).map_err(|_| (0, "a time from 1843-03-31T16:53:20Z to 2096-10-02T07:06:40Z"))
+}
+
+/// Forms of time that files for other programs have, told by their look or by a number's size; what is allowed in their place.
+fn other_form(text: &str) -> Option<&'static str> {
+    let letters = text.len() - text.trim_start_matches(|c: char| c.is_ascii_alphabetic()).len();
+    let (scale, rest) = text.split_at(letters);
+    let julian = "RFC 3339, such as 2026-03-20T14:46:00Z (this reads like a Julian Date)";
+    let modified = "RFC 3339, such as 2026-03-20T14:46:00Z (this reads like a Modified Julian Date)";
+    if scale.eq_ignore_ascii_case("JD") {
+        return Some(julian);
+    }
+    if scale.eq_ignore_ascii_case("MJD") {
+        return Some(modified);
+    }
+    let digits = rest.bytes().take_while(u8::is_ascii_digit).count();
+    if letters == 0 && digits == 8 && rest[digits..].bytes().next().map_or(true, |b| matches!(b, b'T' | b't' | b' ')) {
+        return Some("RFC 3339, such as 2026-03-20T14:46:00Z (this reads like a date without hyphens)");
+    }
+    let number: f64 = text.parse().ok()?;
+    match number.abs() {
+        // The days of the times that are allowed, and some more.
+        x if (2.35e6..2.55e6).contains(&x) => Some(julian),
+        x if (1e4..2e5).contains(&x) => Some(modified),
+        x if (1e8..1e11).contains(&x) => Some("RFC 3339, such as 2026-03-20T14:46:00Z (this reads like seconds since 1970)"),
+        x if (1e11..1e14).contains(&x) => Some("RFC 3339, such as 2026-03-20T14:46:00Z (this reads like milliseconds since 1970)"),
+        x if (1e14..1e17).contains(&x) => Some("RFC 3339, such as 2026-03-20T14:46:00Z (this reads like microseconds since 1970)"),
+        x if (1e17..1e20).contains(&x) => Some("RFC 3339, such as 2026-03-20T14:46:00Z (this reads like nanoseconds since 1970)"),
+        _ => Some(RFC_3339),
+    }
 }
 
 /// Writes a time in UTC with this many digits of a second, 0 to 9; the digits left off are cut.
@@ -185,9 +235,42 @@ mod tests {
             ("2026-02-28T00:00:00Z ", 20),
             ("2026-02-28T00:00:00+1:00", 21),
             ("9999-02-28T00:00:00Z", 0),
-            ("61120.5", 4),
         ] {
             assert_eq!(parse(text).unwrap_err().0, at, "{}", text);
+        }
+    }
+    #[test]
+    fn other_forms_are_recognised() {
+        for (text, at, says) in [
+            ("2461120.5", 0, "a Julian Date"),
+            ("JD 2461120.5", 0, "a Julian Date"),
+            ("61120.5", 0, "a Modified Julian Date"),
+            ("61120", 0, "a Modified Julian Date"),
+            ("mjd61120.25", 0, "a Modified Julian Date"),
+            ("1773964800", 0, "seconds since 1970"),
+            ("1773964800.5", 0, "seconds since 1970"),
+            ("1773964800000", 0, "milliseconds since 1970"),
+            ("1.7739648e18", 0, "nanoseconds since 1970"),
+            ("20260320T000000Z", 0, "a date without hyphens"),
+            ("20260320", 0, "a date without hyphens"),
+            ("2026-079T00:00:00Z", 5, "a day of the year"),
+            ("2026:079:00:00:00", 4, "a day of the year"),
+            ("2026-03-20", 10, "a date alone"),
+            ("2026-03-20T14:46Z", 16, "a time without seconds"),
+            ("2026-03-20T14:46:00", 19, "a time without its zone"),
+            ("2026-03-20T14:46:00.25", 22, "a time without its zone"),
+            ("2026-03-20 14:46:00 UTC", 19, "Z or an offset"),
+            ("2026-03-20T14:46:00,5Z", 19, "a point before the fraction"),
+            ("2026/03/20 14:46:00", 4, "such as 2026-03-20T14:46:00Z"),
+            ("20 Mar 2026", 0, "such as 2026-03-20T14:46:00Z"),
+            ("noon", 0, "such as 2026-03-20T14:46:00Z"),
+            ("", 0, "such as 2026-03-20T14:46:00Z"),
+            ("7", 0, "such as 2026-03-20T14:46:00Z"),
+            ("nan", 0, "such as 2026-03-20T14:46:00Z"),
+        ] {
+            let (stopped, allowed) = parse(text).unwrap_err();
+            assert_eq!(stopped, at, "{}", text);
+            assert!(allowed.contains(says), "{}: {}", text, allowed);
         }
     }
     proptest! {
