@@ -16,10 +16,10 @@ pub fn plan(plan: &Plan, refusal: Refusal) -> Fault {
         2 => Some(format!(
             "{} has {} targets and {} has {} times, {} cells; allowed: 65,536 targets and times each, 1,048,576 cells",
             plan.targets_sheet.source.path.display(),
-            grouped(plan.names.len()),
+            grouped(plan.targets_sheet.len()),
             plan.ephemeris_sheet.source.path.display(),
-            grouped(plan.times.len()),
-            grouped(plan.cells())
+            grouped(plan.ephemeris_sheet.len()),
+            grouped(plan.targets_sheet.len() * plan.ephemeris_sheet.len())
         )),
         3 => Some(format!("{}: rolls reads {}; allowed: 1 to 3600", plan.at("rolls"), plan.rolls)),
         4 => position(plan),
