@@ -286,6 +286,20 @@ mod tests {
             }
         }
         #[test]
+        fn any_characters_are_read_or_faulted_between_two(text in "(\\PC|\\s|[0-9]){0,30}") {
+            if let Err((at, _)) = parse(&text) {
+                prop_assert!(text.is_char_boundary(at));
+            }
+        }
+        #[test]
+        fn a_changed_time_is_read_or_faulted_between_two(t in any::<i64>(), from in 0usize..30, to in 0usize..30, put in "\\PC{0,3}") {
+            let mut text = format(t, 9);
+            text.replace_range(from.min(to)..from.max(to), &put);
+            if let Err((at, _)) = parse(&text) {
+                prop_assert!(text.is_char_boundary(at));
+            }
+        }
+        #[test]
         fn consecutive_days_are_one_apart(d in -80_000i64..80_000) {
             let (y, m, day) = date_of(d);
             prop_assert_eq!(days_since_1970(y, m, day), d);

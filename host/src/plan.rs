@@ -364,6 +364,8 @@ fn number(value: &Value) -> Option<f64> {
 #[cfg(test)]
 pub mod tests {
     use super::*;
+    use crate::{digest::Digest, engine, explain};
+    use proptest::prelude::*;
     use std::fs;
 
     const TARGETS: &str = "name,x,y,z\nA,1,0,0\n";
@@ -371,7 +373,7 @@ pub mod tests {
         2026-03-20T00:00:00Z,0,1,0,0,0,0\n2026-03-20T00:01:00Z,0,0,1,0,0,0\n";
 
     /// A plan made of these three texts.
-    pub fn plan(toml: &str, targets: &str, ephemeris: &str) -> Result<Plan, Fault> {
+    pub fn plan(toml: impl AsRef<[u8]>, targets: impl AsRef<[u8]>, ephemeris: impl AsRef<[u8]>) -> Result<Plan, Fault> {
         let folder = tempfile::tempdir().unwrap();
         fs::write(folder.path().join("t.csv"), targets).unwrap();
         fs::write(folder.path().join("e.csv"), ephemeris).unwrap();
@@ -523,5 +525,161 @@ pub mod tests {
         assert!(e.to_string().contains("plan.toml, line 1, column 11: targets reads \"T.csv\", and there is no such file; allowed: "));
         let e = Plan::read(Path::new("/nowhere/plan.toml")).unwrap_err();
         assert_eq!(e.to_string(), "/nowhere/plan.toml: there is no such file or folder");
+    }
+
+    #[test]
+    fn a_refusal_shows_a_cell_that_a_terminal_can_show() {
+        let toml = "targets = \"t.csv\"\nephemeris = \"e.csv\"\nrolls = 1\ntolerance = 1\n";
+        let p = plan(toml, "name,x,y,z\n\u{1b}[2J,1.5,0,0\n", EPHEMERIS).unwrap();
+        let text = explain::plan(&p, engine::check(&p).unwrap_err()).to_string();
+        assert!(text.contains("t.csv, line 2, column 6: x of target `\\u{1b}[2J` reads `1.5`; allowed: -1 to 1"), "{}", text);
+        let rows = "A,1,0,0\n".repeat(70_000);
+        let p = plan(toml, "name,x,y,z\n".to_owned() + &rows, EPHEMERIS).unwrap();
+        let text = explain::plan(&p, engine::check(&p).unwrap_err()).to_string();
+        assert!(
+            text.starts_with("refused with 2: ") && text.contains("has 70,000 targets and") && text.contains("140,000 cells"),
+            "{}",
+            text
+        );
+    }
+
+    /// What a reader may trip over, beside bytes that are no text.
+    const PIECES: &[&str] = &[
+        "[",
+        "[[",
+        "]",
+        "{",
+        "}",
+        "=",
+        ".",
+        ",",
+        "\"",
+        "\"\"\"",
+        "'",
+        "'''",
+        "\\",
+        "\\u0000",
+        "#",
+        "\n",
+        "\r",
+        "\r\n",
+        " ",
+        "\t",
+        "\0",
+        "\u{1b}",
+        "\u{a0}",
+        "\u{3000}",
+        "\u{feff}",
+        "é",
+        "\u{1f680}",
+        "targets",
+        "rolls",
+        "panel",
+        "tolerance = 1\n",
+        "rolls = 1",
+        "a.b",
+        "0",
+        "-1",
+        "1.5",
+        "1e999",
+        "0x1f",
+        "1_000",
+        "nan",
+        "-inf",
+        "true",
+        "2026-03-20",
+        "2026-03-20T00:00:00Z",
+        "99999999999999999999",
+        "A,1,0,0\n",
+        ";",
+    ];
+    /// Changes of a text: where, how many bytes are cut there, and what is put in their place.
+    fn changes() -> impl Strategy<Value = Vec<(usize, usize, Vec<u8>)>> {
+        let piece = prop_oneof![
+            4 => prop::sample::select(PIECES).prop_map(|p| p.as_bytes().to_vec()),
+            1 => prop::collection::vec(any::<u8>(), 0..3),
+            1 => "\\PC{1,2}".prop_map(String::into_bytes),
+        ];
+        prop::collection::vec((any::<usize>(), prop_oneof![3 => 0usize..3, 1 => 0usize..200], piece), 0..4)
+    }
+    fn changed(text: &str, changes: &[(usize, usize, Vec<u8>)]) -> Vec<u8> {
+        let mut bytes = text.as_bytes().to_vec();
+        for (at, cut, put) in changes {
+            let at = at % (bytes.len() + 1);
+            let end = bytes.len().min(at + cut);
+            bytes.splice(at..end, put.iter().copied());
+        }
+        bytes
+    }
+    /// Reads the value of every key.
+    fn read_all(source: &Source) -> Result<(), Fault> {
+        let mut values = Values::of(source)?;
+        let faults = [
+            values.file("targets").err(),
+            values.file("ephemeris").err(),
+            values.rolls().err(),
+            values.tolerance().err(),
+            values.panel().err(),
+            values.number("configured_roll").err(),
+        ];
+        faults.into_iter().flatten().next().map_or(Ok(()), Err)
+    }
+    fn depth(value: &Value) -> usize {
+        match value {
+            Value::Array(items) => 1 + items.iter().map(depth).max().unwrap_or(0),
+            Value::Table(items) => 1 + items.values().map(depth).max().unwrap_or(0),
+            _ => 0,
+        }
+    }
+
+    proptest! {
+        #[test]
+        fn a_changed_plan_is_read_or_refused(t in changes(), e in changes(), p in changes()) {
+            let toml = "targets = \"t.csv\"\nephemeris = \"e.csv\"\nrolls = 1\ntolerance = 10\npanel = [[0, 1, 0.5]]\n# ..\n";
+            let told = match plan(changed(toml, &p), changed(TARGETS, &t), changed(EPHEMERIS, &e)) {
+                Ok(plan) => {
+                    Digest::of(&plan);
+                    plan.warnings();
+                    engine::check(&plan).map_err(|refusal| explain::plan(&plan, refusal)).err()
+                }
+                Err(e) => Some(e),
+            };
+            if let Some(fault) = told {
+                prop_assert!(!fault.to_string().contains(|c: char| c.is_control()), "{}", fault);
+            }
+        }
+        #[test]
+        fn any_toml_is_read_or_refused(pieces in prop::collection::vec(prop::sample::select(PIECES), 0..40)) {
+            let source = Source::of(Path::new("p"), pieces.concat().into()).unwrap();
+            if let Err(fault) = read_all(&source) {
+                prop_assert!(!fault.to_string().contains(|c: char| c.is_control()), "{}", fault);
+            }
+        }
+        #[test]
+        fn what_the_toml_reader_follows_is_shallow(wraps in prop::collection::vec(0usize..9, 0..24)) {
+            const WRAPS: [(&str, &str); 9] = [
+                ("[", "]"),
+                ("[\n#]\n", ",]"),
+                ("{a=", "}"),
+                ("{ a.\"b]\".c = ", "}"),
+                ("[\"]\\\"]\", ", "]"),
+                ("['\\', ", "]"),
+                ("['''\n]'']''', ", ", 1.5]"),
+                ("[\"\"\"]\\\"\"\"]\"\"\"\"\", ", "]"),
+                ("[\"\", '', ", "]"),
+            ];
+            let mut text = "1".to_owned();
+            for (before, after) in wraps.iter().map(|&i| WRAPS[i]) {
+                text = before.to_owned() + &text + after;
+            }
+            let source = Source::of(Path::new("p"), format!("panel = {}", text).into()).unwrap();
+            let read: Value = toml::from_str(&source.text).unwrap();
+            // The dots of a key are counted only until its value starts.
+            let brackets = wraps.len();
+            match shallow(&source) {
+                Ok(()) => prop_assert!(brackets <= MOST_DEPTH, "{}", depth(&read)),
+                Err(_) => prop_assert!(brackets + 2 > MOST_DEPTH),
+            }
+        }
     }
 }

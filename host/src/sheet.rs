@@ -46,7 +46,7 @@ impl Sheet {
         short_lines(&source)?;
         // A comment that ends with the file would be read as a record.
         let text = source.text.as_bytes().chain(&b"\n"[..]);
-        let mut reader = ReaderBuilder::new().has_headers(false).trim(Trim::All).comment(Some(b'#')).from_reader(text);
+        let mut reader = builder().from_reader(text);
         let mut record = StringRecord::new();
         let mut next = |record: &mut StringRecord| reader.read_record(record).map_err(|e| csv_fault(&source, e));
         let columns = match next(&mut record)? {
@@ -79,6 +79,12 @@ impl Sheet {
     pub fn fields(&self) -> impl Iterator<Item = Vec<Field<'_>>> {
         (0..self.records.len()).map(move |r| (0..self.names.len()).map(|c| self.field(r, c)).collect())
     }
+}
+
+fn builder() -> ReaderBuilder {
+    let mut builder = ReaderBuilder::new();
+    builder.has_headers(false).trim(Trim::All).comment(Some(b'#'));
+    builder
 }
 
 fn short_lines(source: &Source) -> Result<(), Fault> {
@@ -168,27 +174,24 @@ fn unclosed(text: &str, record: usize) -> Option<usize> {
     (reading == Reading::Quoted).then_some(quote)
 }
 
-/// The byte of the file where byte `inside` of a trimmed field stands.
+/// The byte of the file where byte `inside` of a trimmed field stands; of the field's end, that is its closing quote if it has one.
 fn place(text: &str, record: usize, column: usize, inside: usize) -> usize {
-    let (mut reading, mut commas, mut read) = (Reading::Start, 0, 0);
+    let (mut reading, mut commas, mut read, mut closing) = (Reading::Start, 0, 0, None);
     for (i, c) in text[record..].char_indices() {
-        let role = reading.role(c);
-        if matches!(role, Role::End) || commas == column && matches!(role, Role::Comma) {
-            return record + i;
-        }
-        if matches!(role, Role::Comma) {
-            commas += 1;
-        } else if commas == column {
-            let value = matches!(role, Role::Value) && !(read == 0 && c.is_whitespace());
-            if read >= inside && (value || read > 0) {
-                return record + i;
-            }
-            if value {
+        match reading.role(c) {
+            Role::Comma if commas < column => commas += 1,
+            Role::Comma | Role::End => return closing.unwrap_or(record + i),
+            _ if commas < column => {}
+            Role::Mark => closing = Some(record + i).filter(|_| read > 0),
+            Role::Value if read == 0 && c.is_whitespace() => {}
+            Role::Value if read >= inside => return record + i,
+            Role::Value => {
                 read += c.len_utf8();
+                closing = None;
             }
         }
     }
-    text.len()
+    closing.unwrap_or(text.len())
 }
 
 fn csv_fault(source: &Source, e: csv::Error) -> Fault {
@@ -247,6 +250,7 @@ impl<'a> Field<'a> {
 #[cfg(test)]
 mod tests {
     use super::*;
+    use proptest::prelude::*;
 
     fn sheet(text: &str) -> Result<Sheet, Fault> {
         Sheet::of(Source::of(Path::new("t.csv"), text.into()).unwrap(), &["name", "x"])
@@ -354,5 +358,33 @@ mod tests {
         let s = sheet(&format!("name,x\na,{}\n", "7x".repeat(10_000))).unwrap();
         assert!(s.field(0, 1).number().unwrap_err().to_string().len() < 300);
         assert!(fault(&format!("{}\n", "\0".repeat(10_000))).len() < 400);
+    }
+    proptest! {
+        #[test]
+        fn every_character_of_a_field_has_its_place(text in "[ab,\"\n\r# \u{a0}\u{3000}é]{0,60}") {
+            let source = Source::of(Path::new("t.csv"), text.into()).unwrap();
+            let reader = builder().flexible(true).from_reader(source.text.as_bytes().chain(&b"\n"[..]));
+            for record in reader.into_records().map(Result::unwrap) {
+                let from = start(&source, record.position());
+                for (column, field) in record.iter().enumerate() {
+                    for (inside, c) in field.char_indices() {
+                        let at = place(&source.text, from, column, inside);
+                        prop_assert!(source.text[at..].starts_with(c), "{:?} {:?} {}", source.text, field, inside);
+                    }
+                    let end = place(&source.text, from, column, field.len());
+                    prop_assert!(source.text.is_char_boundary(end));
+                }
+            }
+        }
+        #[test]
+        fn any_text_is_a_sheet_or_a_fault(head in "(name,x\n)?", text in "(\\PC|\\s|[\",#\n]|[0-9a-z]{1,3},[0-9.]{1,3}\n){0,40}") {
+            if let Ok(s) = sheet(&(head + &text)) {
+                for f in s.fields().flatten() {
+                    let faults = [f.number().err(), f.time().err()].map(|e| e.map_or(String::new(), |e| e.to_string()));
+                    prop_assert!(faults.iter().all(|text| text.len() < 800));
+                    prop_assert!(f.line() <= s.source.text.lines().count());
+                }
+            }
+        }
     }
 }
