@@ -4,7 +4,7 @@ use crate::{
     files,
     sheet::Sheet,
     source::{shown, Source},
-    text::{excerpt, grouped, visible},
+    text::{excerpt, grouped},
 };
 use serde::de::{Deserialize, Deserializer, MapAccess, Visitor};
 use std::{
@@ -212,9 +212,9 @@ impl<'a> Values<'a> {
         let Pairs(read) = toml::from_str(&source.text).map_err(no_toml)?;
         let mut values = BTreeMap::new();
         for (key, value) in read {
-            let name = visible(key.get_ref());
+            let name = excerpt(key.get_ref());
             if !KEYS.contains(&key.get_ref().as_str()) {
-                return Err(source.fault(key.start(), format!("`{}` is no key of a plan", excerpt(&name)), &KEYS.join(", ")));
+                return Err(source.fault(key.start(), format!("`{}` is no key of a plan", name), &KEYS.join(", ")));
             }
             if values.contains_key(key.get_ref()) {
                 return Err(source.fault(key.start(), format!("`{}` is given twice", name), "each key once"));

@@ -2,7 +2,7 @@
 use crate::{
     fault::Fault,
     files,
-    text::{grouped, visible},
+    text::{grouped, printable},
 };
 use std::{
     fs::{self, File, FileType},
@@ -81,7 +81,7 @@ impl Source {
 
 /// A file's name as a message shows it.
 pub fn shown(path: &Path) -> String {
-    visible(&path.to_string_lossy()).into_owned()
+    printable(&path.to_string_lossy())
 }
 
 fn word(kind: FileType) -> &'static str {

@@ -1,5 +1,4 @@
 //! Small things of output.
-use std::borrow::Cow;
 
 /// Says something on standard error; a sweep goes on though nobody listens there.
 #[macro_export]
@@ -8,6 +7,19 @@ macro_rules! tell {
         use std::io::Write;
         let _ = writeln!(std::io::stderr(), $($words)*);
     }};
+}
+
+/// A name or a cell as a terminal may show it: what would steer the terminal, or turn the direction of the text, is escaped.
+pub fn printable(text: &str) -> String {
+    let mut safe = String::with_capacity(text.len());
+    for c in text.chars() {
+        match c {
+            '\u{61c}' | '\u{200e}' | '\u{200f}' | '\u{2028}'..='\u{202e}' | '\u{2066}'..='\u{2069}' => safe.extend(c.escape_default()),
+            c if c.is_control() => safe.extend(c.escape_default()),
+            c => safe.push(c),
+        }
+    }
+    safe
 }
 
 /// A number with commas between thousands.
@@ -23,34 +35,20 @@ pub fn grouped(n: impl ToString) -> String {
     text
 }
 
-/// A text as a terminal may show it: characters that move the cursor, break the line or show nothing are escaped.
-pub fn visible(text: &str) -> Cow<'_, str> {
-    let unseen = |c: char| {
-        c.is_control()
-            || matches!(c, '\u{ad}' | '\u{61c}' | '\u{200b}'..='\u{200f}' | '\u{2028}'..='\u{202e}' | '\u{2060}'..='\u{206f}' | '\u{feff}')
-    };
-    if !text.contains(unseen) {
-        return text.into();
-    }
-    let mut shown = String::new();
-    for c in text.chars() {
-        if unseen(c) {
-            shown.extend(c.escape_default());
-        } else {
-            shown.push(c);
-        }
-    }
-    shown.into()
-}
-
-/// What a message shows of a text that may be long: its start.
+/// What a message shows of a text that could not be read: its start, and escapes for characters that show nothing.
 pub fn excerpt(text: &str) -> String {
     const MOST: usize = 80;
-    let start: String = text.chars().take(MOST + 1).collect();
-    let shown = visible(&start);
+    let mut shown = String::new();
+    for c in text.chars().take(MOST + 1) {
+        match c {
+            '\u{ad}' | '\u{200b}'..='\u{200d}' | '\u{2060}'..='\u{2065}' | '\u{feff}' => shown.extend(c.escape_default()),
+            c => shown.push(c),
+        }
+    }
+    shown = printable(&shown);
     match shown.char_indices().nth(MOST) {
         Some((end, _)) => format!("{} ..", &shown[..end]),
-        None => shown.into_owned(),
+        None => shown,
     }
 }
 
@@ -91,10 +89,9 @@ mod tests {
     }
     #[test]
     fn what_a_terminal_shows() {
-        assert!(matches!(visible("α Cen, 4\u{a0}ly"), Cow::Borrowed(_)));
-        assert_eq!(visible("a\n\u{1b}[2J\0\u{9b}b\r\t"), "a\\n\\u{1b}[2J\\u{0}\\u{9b}b\\r\\t");
-        assert_eq!(visible("\u{202e}\u{feff}x"), "\\u{202e}\\u{feff}x");
-        assert_eq!(excerpt("a\n"), "a\\n");
+        assert_eq!(printable("α Cen, 4\u{a0}ly"), "α Cen, 4\u{a0}ly");
+        assert_eq!(printable("a\n\u{1b}[2J\0\u{9b}b\r\t"), "a\\n\\u{1b}[2J\\u{0}\\u{9b}b\\r\\t");
+        assert_eq!(excerpt("\u{202e}\u{feff}1\n"), "\\u{202e}\\u{feff}1\\n");
         assert_eq!(excerpt(&"ä".repeat(80)), "ä".repeat(80));
         assert_eq!(excerpt(&"ä".repeat(81)), "ä".repeat(80) + " ..");
     }
