@@ -145,7 +145,7 @@ impl Plan {
             told.push(if before < i {
                 format!("{} has the name of line {}; both are listed under it", target, field(before).line())
             } else {
-                format!("{} has a name of {} lines; is a quote missing at the end of the first?", target, lines)
+                format!("{} has a name of {} lines; is a quote missing at the end of the first?", target, grouped(lines))
             });
         }
         if more > 0 {

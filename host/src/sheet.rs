@@ -64,8 +64,8 @@ impl Sheet {
                 records.push(kept);
             }
         }
-        if let Some(quote) = unclosed(&source.text, start(&source, last.as_ref())) {
-            return Err(source.fault(quote, "this quote is not closed", "a second \" at the field's end"));
+        if let Some(fault) = open_quote(&source, start(&source, last.as_ref())) {
+            return Err(fault);
         }
         Ok(Sheet { source, names, columns, records, rows })
     }
@@ -160,10 +160,10 @@ impl Reading {
     }
 }
 
-/// The quote that opens the last field of a text and is not closed.
-fn unclosed(text: &str, record: usize) -> Option<usize> {
+/// A fault of the last record: its last field has a quote that is not closed, and so all lines that follow.
+fn open_quote(source: &Source, record: usize) -> Option<Fault> {
     let (mut reading, mut quote) = (Reading::Start, record);
-    for (i, c) in text[record..].char_indices() {
+    for (i, c) in source.text[record..].char_indices() {
         if reading == Reading::Start {
             quote = record + i;
         }
@@ -171,7 +171,7 @@ fn unclosed(text: &str, record: usize) -> Option<usize> {
             return None;
         }
     }
-    (reading == Reading::Quoted).then_some(quote)
+    (reading == Reading::Quoted).then(|| source.fault(quote, "this quote is not closed", "a second \" at the field's end"))
 }
 
 /// The byte of the file where byte `inside` of a trimmed field stands; of the field's end, that is its closing quote if it has one.
@@ -197,17 +197,13 @@ fn place(text: &str, record: usize, column: usize, inside: usize) -> usize {
 fn csv_fault(source: &Source, e: csv::Error) -> Fault {
     match e.kind() {
         ErrorKind::UnequalLengths { pos, expected_len, len } => {
-            let start = start(source, pos.as_ref());
-            let comment = source.text[start..].trim_start().starts_with('#');
-            source.fault(
-                start,
-                format!("{} field{}", len, if *len == 1 { "" } else { "s" }),
-                &format!(
-                    "{} fields, as many as the first line has{}",
-                    expected_len,
-                    if comment { "; a comment starts with # at the line's start" } else { "" }
-                ),
-            )
+            let record = start(source, pos.as_ref());
+            open_quote(source, record).unwrap_or_else(|| {
+                let is_comment = source.text[record..].trim_start().starts_with('#');
+                let comment = if is_comment { "; a comment starts with # at the line's start" } else { "" };
+                let allowed = format!("{} fields, as many as the first line has{}", expected_len, comment);
+                source.fault(record, format!("{} field{}", len, if *len == 1 { "" } else { "s" }), &allowed)
+            })
         }
         _ => Fault::Files(format!("{}: {}", shown(&source.path), e)),
     }
@@ -321,6 +317,7 @@ mod tests {
     fn a_quote_that_is_not_closed_swallows_no_row() {
         let text = fault("x,name\n1,\"a\n2,b\n3,c\n");
         assert_eq!(text, "t.csv, line 2, column 3: this quote is not closed; allowed: a second \" at the field's end");
+        assert!(fault("x,name\n\"1,a\n2,b\n3,c\n").starts_with("t.csv, line 2, column 1: this quote is not closed; "));
         assert!(sheet("x,name\n1,\"a\"\n2,b\"\n3,\"c\"").is_ok());
     }
     #[test]
