@@ -656,8 +656,8 @@ pub mod tests {
             }
         }
         #[test]
-        fn what_the_toml_reader_follows_is_shallow(wraps in prop::collection::vec(0usize..9, 0..24)) {
-            const WRAPS: [(&str, &str); 9] = [
+        fn what_the_toml_reader_follows_is_shallow(wraps in prop::collection::vec(0usize..10, 0..24)) {
+            const WRAPS: [(&str, &str); 10] = [
                 ("[", "]"),
                 ("[\n#]\n", ",]"),
                 ("{a=", "}"),
@@ -666,6 +666,7 @@ pub mod tests {
                 ("['\\', ", "]"),
                 ("['''\n]'']''', ", ", 1.5]"),
                 ("[\"\"\"]\\\"\"\"]\"\"\"\"\", ", "]"),
+                ("['''[''''', \"\"\"]\"\"\"\", ", "]"),
                 ("[\"\", '', ", "]"),
             ];
             let mut text = "1".to_owned();
