@@ -117,9 +117,13 @@ impl Plan {
     pub fn path(&self) -> &Path {
         &self.source.path
     }
-    /// Where the journal stands unless another place is named.
+    /// Where the journal stands unless another place is named; never where the plan does.
     pub fn journal(&self) -> PathBuf {
-        self.path().with_extension("journal")
+        let mut name = self.path().with_extension("journal");
+        if name == self.path() {
+            name.as_mut_os_string().push(".journal");
+        }
+        name
     }
     /// The place of a key's value in the TOML file; of the file's start for a key that is left out.
     pub fn at(&self, key: &str) -> String {
@@ -322,7 +326,7 @@ fn shallow(source: &Source) -> Result<(), Fault> {
 /// The byte after a string that starts here: one of three quotes ends with three, and with up to two more that are its own.
 fn string_end(text: &[u8], start: usize) -> usize {
     let quote = text[start];
-    let quotes = |at: usize| text[at..].iter().take_while(|&&b| b == quote).count();
+    let quotes = |at: usize| text[at..].iter().take(5).take_while(|&&b| b == quote).count();
     let needed = match quotes(start) {
         1 => 1,
         2 => return start + 2,
@@ -336,7 +340,7 @@ fn string_end(text: &[u8], start: usize) -> usize {
             // The reader stops here.
             b'\n' if needed == 1 => return text.len(),
             _ if needed == 1 && found > 0 => return at + 1,
-            _ if found >= needed => return at + found.min(5),
+            _ if found >= needed => return at + found,
             _ => at += found.max(1),
         }
     }
@@ -366,7 +370,10 @@ pub mod tests {
     use super::*;
     use crate::{digest::Digest, engine, explain};
     use proptest::prelude::*;
-    use std::fs;
+    use std::{
+        fs,
+        time::{Duration, Instant},
+    };
 
     const TARGETS: &str = "name,x,y,z\nA,1,0,0\n";
     const EPHEMERIS: &str = "time,sun_x,sun_y,sun_z,observer_x,observer_y,observer_z\n\
@@ -398,10 +405,21 @@ pub mod tests {
         assert_eq!((p.names.len(), p.times.len(), p.cells(), p.chunks()), (1, 2, 2, 1));
         assert_eq!(p.suns, [0.0, 1.0, 0.0, 0.0, 0.0, 1.0]);
         assert!(p.at("tolerance").ends_with("plan.toml, line 4, column 13"));
+        assert!(p.journal().ends_with("plan.journal"));
         let p = with("rolls = 1\ntolerance = nan\nconfigured_roll = -inf\npanel = [[1, 0.5, -0.0]]").unwrap();
         assert!(p.tolerance.is_nan());
         assert_eq!(p.configured_roll, Some(f64::NEG_INFINITY));
         assert_eq!(p.panel, [1.0, 0.5, -0.0]);
+    }
+    #[test]
+    fn a_plan_is_never_its_own_journal() {
+        let folder = tempfile::tempdir().unwrap();
+        let path = folder.path().join("day.journal");
+        let toml = "targets = \"t.csv\"\nephemeris = \"e.csv\"\nrolls = 1\ntolerance = 10\n";
+        for (file, text) in [("day.journal", toml), ("t.csv", TARGETS), ("e.csv", EPHEMERIS)] {
+            fs::write(folder.path().join(file), text).unwrap();
+        }
+        assert!(Plan::read(&path).unwrap().journal().ends_with("day.journal.journal"));
     }
     #[test]
     fn forms_that_come_later_are_told_apart() {
@@ -460,6 +478,10 @@ pub mod tests {
             "{}",
             text
         );
+        // Each quote is looked at a few times, not each with all that follow.
+        let begun = Instant::now();
+        assert!(fault(&"\"".repeat(1_000_000)).starts_with("plan.toml, line 3, column "));
+        assert!(begun.elapsed() < Duration::from_secs(10));
         // Brackets and dots that nest nothing.
         let many = "[".repeat(100);
         let dots = "1.5, ".repeat(100);

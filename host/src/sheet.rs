@@ -235,7 +235,20 @@ impl<'a> Field<'a> {
         self.sheet.source.fault(self.byte(inside), format!("{} reads `{}`", self.name(), excerpt(self.text())), allowed)
     }
     pub fn number(self) -> Result<f64, Fault> {
-        self.text().parse().map_err(|_| self.fault(0, "a number such as -0.5 or 1.5e8"))
+        let text = self.text();
+        let would_read = |from: &[char], to| text.replace(from, to).parse::<f64>().is_ok();
+        text.parse().map_err(|_| {
+            let allowed = if would_read(&['\u{2212}', '\u{2013}'], "-") {
+                "a number such as -0.5 or 1.5e8 (this has a dash for its minus)"
+            } else if would_read(&[','], ".") {
+                "a number such as -0.5 or 1.5e8 (this has a comma for its point)"
+            } else if would_read(&['d', 'D'], "e") {
+                "a number such as -0.5 or 1.5e8 (this has a D for its exponent)"
+            } else {
+                "a number such as -0.5 or 1.5e8"
+            };
+            self.fault(0, allowed)
+        })
     }
     /// An RFC 3339 time.
     pub fn time(self) -> Result<i64, Fault> {
@@ -277,6 +290,20 @@ mod tests {
     fn an_empty_field_has_a_place() {
         let s = sheet("name,x\na,\nb,1\n").unwrap();
         assert!(s.field(0, 1).number().unwrap_err().to_string().starts_with("t.csv, line 2, column 3: x reads ``"));
+    }
+    #[test]
+    fn numbers_of_other_programs_are_recognised() {
+        for (number, says) in [
+            ("\u{2212}0.5", "(this has a dash for its minus)"),
+            ("\"0,5\"", "(this has a comma for its point)"),
+            ("1.5D+08", "(this has a D for its exponent)"),
+            ("1 000", "1.5e8"),
+            ("0x1f", "1.5e8"),
+            ("", "1.5e8"),
+        ] {
+            let text = sheet(&format!("name,x\na,{}\n", number)).unwrap().field(0, 1).number().unwrap_err().to_string();
+            assert!(text.ends_with(says), "{}", text);
+        }
     }
     #[test]
     fn faults_of_the_whole_file() {
