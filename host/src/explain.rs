@@ -6,7 +6,7 @@ use crate::{
     instant,
     journal::{chunk_of, hex},
     plan::Plan,
-    text::{excerpt, grouped},
+    text::grouped,
 };
 use std::path::Path;
 
@@ -25,8 +25,8 @@ pub fn plan(plan: &Plan, refusal: Refusal) -> Fault {
         4 => position(plan),
         5 => plan.targets.iter().position(|x| !(-1.0..=1.0).contains(x)).map(|i| {
             let field = plan.targets_sheet.field(i / 3, 1 + i % 3);
-            let (name, text) = (excerpt(&plan.names[i / 3]), excerpt(field.text()));
-            format!("{}: {} of target `{}` reads `{}`; allowed: -1 to 1", field.at(), field.name(), name, text)
+            let name = plan.targets_sheet.field(i / 3, 0).shown();
+            format!("{}: {} of target `{}` reads `{}`; allowed: -1 to 1", field.at(), field.name(), name, field.shown())
         }),
         6 => Some(format!("{}: panel reads {:?}; allowed: three finite numbers of at most 1e100 in size", plan.at("panel"), plan.panel)),
         8 => {
@@ -34,7 +34,7 @@ pub fn plan(plan: &Plan, refusal: Refusal) -> Fault {
             plan.times.iter().position(|t| !(-most..=most).contains(t)).map(|i| {
                 let field = plan.ephemeris_sheet.field(i, 0);
                 let (first, last) = (instant::format(-most, 0), instant::format(most, 0));
-                format!("{}: time reads `{}`; allowed: {} to {}", field.at(), excerpt(field.text()), first, last)
+                format!("{}: time reads `{}`; allowed: {} to {}", field.at(), field.shown(), first, last)
             })
         }
         _ => None,
@@ -47,10 +47,12 @@ fn position(plan: &Plan) -> Option<String> {
         let field = plan.ephemeris_sheet.field(j, c);
         match field.number() {
             Ok(x) if x.abs() <= 1e100 => None,
-            _ => {
-                let text = excerpt(field.text());
-                Some(format!("{}: {} reads `{}`; allowed: finite numbers of at most 1e100 in size", field.at(), field.name(), text))
-            }
+            _ => Some(format!(
+                "{}: {} reads `{}`; allowed: finite numbers of at most 1e100 in size",
+                field.at(),
+                field.name(),
+                field.shown()
+            )),
         }
     })
 }

@@ -85,7 +85,7 @@ impl Plan {
                 return Err(Fault::Files(format!(
                     "{}: time reads `{}`, which is not after the time before it; allowed: times that increase",
                     fields[0].at(),
-                    excerpt(fields[0].text())
+                    fields[0].shown()
                 )));
             }
             times.push(time);
@@ -145,7 +145,7 @@ impl Plan {
                 more += 1;
                 continue;
             }
-            let target = format!("{}: target `{}`", field(i).at(), excerpt(name));
+            let target = format!("{}: target `{}`", field(i).at(), field(i).shown());
             told.push(if before < i {
                 format!("{} has the name of line {}; both are listed under it", target, field(before).line())
             } else {

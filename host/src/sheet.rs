@@ -213,6 +213,10 @@ impl<'a> Field<'a> {
     pub fn text(self) -> &'a str {
         &self.sheet.records[self.record][self.column]
     }
+    /// Its text as a message shows it.
+    pub fn shown(self) -> String {
+        excerpt(self.text())
+    }
     pub fn name(self) -> &'static str {
         self.sheet.names[self.column]
     }
@@ -232,7 +236,7 @@ impl<'a> Field<'a> {
     }
     /// A fault in it, `inside` bytes after its start.
     fn fault(self, inside: usize, allowed: &str) -> Fault {
-        self.sheet.source.fault(self.byte(inside), format!("{} reads `{}`", self.name(), excerpt(self.text())), allowed)
+        self.sheet.source.fault(self.byte(inside), format!("{} reads `{}`", self.name(), self.shown()), allowed)
     }
     pub fn number(self) -> Result<f64, Fault> {
         let text = self.text();
