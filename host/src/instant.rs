@@ -55,7 +55,15 @@ impl Reader<'_> {
     }
 }
 
-const RFC_3339: &str = "RFC 3339, such as 2026-03-20T14:46:00Z";
+/// What is allowed in place of a form that files for other programs have.
+macro_rules! rfc_3339 {
+    () => {
+        "RFC 3339, such as 2026-03-20T14:46:00Z"
+    };
+    ($form:literal) => {
+        concat!(rfc_3339!(), " (this reads like ", $form, ")")
+    };
+}
 
 /// Reads a time such as 2026-03-20T14:46:00Z, 2026-03-20T14:46:00.123456789+01:00.
 pub fn parse(text: &str) -> Result<i64, Fault> {
@@ -63,28 +71,24 @@ pub fn parse(text: &str) -> Result<i64, Fault> {
     if let Some(other) = other_form(text) {
         return Err((0, other));
     }
-    let year = r.number(4, 0, 9999, RFC_3339).map_err(|(_, allowed)| (0, allowed))?;
-    if let [b'-' | b':' | b'.' | b'/' | b' ', b'0'..=b'9', b'0'..=b'9', b'0'..=b'9', ..] = r.text[r.at..] {
-        let after_hyphen = r.at + usize::from(r.text[r.at] == b'-');
-        return Err((after_hyphen, "RFC 3339, such as 2026-03-20T14:46:00Z (this reads like a day of the year)"));
+    let year = r.number(4, 0, 9999, rfc_3339!()).map_err(|(_, allowed)| (0, allowed))?;
+    if let [b'-' | b':' | b'/' | b' ', b'0'..=b'9', b'0'..=b'9', b'0'..=b'9', ..] = r.text[r.at..] {
+        return Err((r.at, rfc_3339!("a day of the year")));
     }
-    r.one_of(b"-", RFC_3339)?;
+    r.one_of(b"-", rfc_3339!())?;
     let month = r.number(2, 1, 12, "a month from 01 to 12")?;
-    r.one_of(b"-", RFC_3339)?;
+    r.one_of(b"-", rfc_3339!())?;
     let day_at = r.at;
     let day = r.number(2, 1, 31, "a day of that month")?;
     if day > days_of(year, month) {
         return Err((day_at, "a day of that month"));
     }
     let is_date = r.at == text.len();
-    r.one_of(
-        b"Tt ",
-        if is_date { "T and the time of day after it, T14:46:00Z (this reads like a date alone)" } else { "T between date and time" },
-    )?;
+    r.one_of(b"Tt ", if is_date { rfc_3339!("a date alone") } else { "T between date and time" })?;
     let hour = r.number(2, 0, 23, "an hour from 00 to 23")?;
     r.one_of(b":", "hours, minutes and seconds with : between them")?;
     let minute = r.number(2, 0, 59, "a minute from 00 to 59")?;
-    r.one_of(b":", "seconds too, such as :00 (this reads like a time without seconds)")?;
+    r.one_of(b":", rfc_3339!("a time without seconds"))?;
     let second = r.number(2, 0, 59, "a second from 00 to 59 (leap seconds have no place in nanoseconds since 1970)")?;
     let mut nanos = 0;
     match r.text.get(r.at) {
@@ -115,33 +119,29 @@ pub fn parse(text: &str) -> Result<i64, Fault> {
     i64::try_from(i128::from(seconds) * SECOND + nanos).map_err(|_| (0, "a time from 1843-03-31T16:53:20Z to 2096-10-02T07:06:40Z"))
 }
 
-/// Forms of time that files for other programs have, told by their look or by a number's size; what is allowed in their place.
+/// What is allowed, if this is a number or has the look of another form; a number's form is told by its size.
 fn other_form(text: &str) -> Option<&'static str> {
-    let letters = text.len() - text.trim_start_matches(|c: char| c.is_ascii_alphabetic()).len();
-    let (scale, rest) = text.split_at(letters);
-    let julian = "RFC 3339, such as 2026-03-20T14:46:00Z (this reads like a Julian Date)";
-    let modified = "RFC 3339, such as 2026-03-20T14:46:00Z (this reads like a Modified Julian Date)";
+    let scale = text.trim_end_matches(|c: char| !c.is_ascii_alphabetic());
     if scale.eq_ignore_ascii_case("JD") {
-        return Some(julian);
+        return Some(rfc_3339!("a Julian Date"));
     }
     if scale.eq_ignore_ascii_case("MJD") {
-        return Some(modified);
+        return Some(rfc_3339!("a Modified Julian Date"));
     }
-    let digits = rest.bytes().take_while(u8::is_ascii_digit).count();
-    if letters == 0 && digits == 8 && rest[digits..].bytes().next().map_or(true, |b| matches!(b, b'T' | b't' | b' ')) {
-        return Some("RFC 3339, such as 2026-03-20T14:46:00Z (this reads like a date without hyphens)");
+    let after = text.trim_start_matches(|c: char| c.is_ascii_digit());
+    if text.len() - after.len() == 8 && (after.is_empty() || after.starts_with(['T', 't', ' '])) {
+        return Some(rfc_3339!("a date without hyphens"));
     }
-    let number: f64 = text.parse().ok()?;
-    match number.abs() {
-        // The days of the times that are allowed, and some more.
-        x if (2.35e6..2.55e6).contains(&x) => Some(julian),
-        x if (1e4..2e5).contains(&x) => Some(modified),
-        x if (1e8..1e11).contains(&x) => Some("RFC 3339, such as 2026-03-20T14:46:00Z (this reads like seconds since 1970)"),
-        x if (1e11..1e14).contains(&x) => Some("RFC 3339, such as 2026-03-20T14:46:00Z (this reads like milliseconds since 1970)"),
-        x if (1e14..1e17).contains(&x) => Some("RFC 3339, such as 2026-03-20T14:46:00Z (this reads like microseconds since 1970)"),
-        x if (1e17..1e20).contains(&x) => Some("RFC 3339, such as 2026-03-20T14:46:00Z (this reads like nanoseconds since 1970)"),
-        _ => Some(RFC_3339),
-    }
+    // The days of two centuries and more about now, and powers of ten about the seconds since 1970.
+    Some(match text.parse::<f64>().ok()?.abs() {
+        x if (2.35e6..2.55e6).contains(&x) => rfc_3339!("a Julian Date"),
+        x if (1e4..2e5).contains(&x) => rfc_3339!("a Modified Julian Date"),
+        x if (1e8..1e11).contains(&x) => rfc_3339!("seconds since 1970"),
+        x if (1e11..1e14).contains(&x) => rfc_3339!("milliseconds since 1970"),
+        x if (1e14..1e17).contains(&x) => rfc_3339!("microseconds since 1970"),
+        x if (1e17..1e20).contains(&x) => rfc_3339!("nanoseconds since 1970"),
+        _ => rfc_3339!(),
+    })
 }
 
 /// Writes a time in UTC with this many digits of a second, 0 to 9; the digits left off are cut.
@@ -253,7 +253,7 @@ mod tests {
             ("1.7739648e18", 0, "nanoseconds since 1970"),
             ("20260320T000000Z", 0, "a date without hyphens"),
             ("20260320", 0, "a date without hyphens"),
-            ("2026-079T00:00:00Z", 5, "a day of the year"),
+            ("2026-079T00:00:00Z", 4, "a day of the year"),
             ("2026:079:00:00:00", 4, "a day of the year"),
             ("2026-03-20", 10, "a date alone"),
             ("2026-03-20T14:46Z", 16, "a time without seconds"),

@@ -64,7 +64,7 @@ impl Plan {
                 // A name with a zero byte is no name.
                 Err(e) if matches!(e.kind(), io::ErrorKind::NotFound | io::ErrorKind::InvalidInput) => {
                     let read = format!("{} reads \"{}\", and there is no such file", key, excerpt(file));
-                    Err(source.fault(places[key], read, "a CSV file, named from the plan's folder"))
+                    Err(source.fault(places.get(key).copied().unwrap_or(0), read, "a CSV file, named from the plan's folder"))
                 }
                 Err(e) => Err(files::fault(&path, &e)),
             }
