@@ -16,16 +16,17 @@ pub fn plan(plan: &Plan, refusal: Refusal) -> Fault {
         2 => Some(format!(
             "{} has {} targets and {} has {} times, {} cells; allowed: 65,536 targets and times each, 1,048,576 cells",
             plan.targets_sheet.source.path.display(),
-            grouped(plan.names.len()),
+            grouped(plan.targets_sheet.len()),
             plan.ephemeris_sheet.source.path.display(),
-            grouped(plan.times.len()),
-            grouped(plan.cells())
+            grouped(plan.ephemeris_sheet.len()),
+            grouped(plan.targets_sheet.len() * plan.ephemeris_sheet.len())
         )),
         3 => Some(format!("{}: rolls reads {}; allowed: 1 to 3600", plan.at("rolls"), plan.rolls)),
         4 => position(plan),
         5 => plan.targets.iter().position(|x| !(-1.0..=1.0).contains(x)).map(|i| {
             let field = plan.targets_sheet.field(i / 3, 1 + i % 3);
-            format!("{}: {} of target `{}` reads `{}`; allowed: -1 to 1", field.at(), field.name(), plan.names[i / 3], field.text())
+            let name = plan.targets_sheet.field(i / 3, 0).shown();
+            format!("{}: {} of target `{}` reads `{}`; allowed: -1 to 1", field.at(), field.name(), name, field.shown())
         }),
         6 => Some(format!("{}: panel reads {:?}; allowed: three finite numbers of at most 1e100 in size", plan.at("panel"), plan.panel)),
         8 => {
@@ -33,7 +34,7 @@ pub fn plan(plan: &Plan, refusal: Refusal) -> Fault {
             plan.times.iter().position(|t| !(-most..=most).contains(t)).map(|i| {
                 let field = plan.ephemeris_sheet.field(i, 0);
                 let (first, last) = (instant::format(-most, 0), instant::format(most, 0));
-                format!("{}: time reads `{}`; allowed: {} to {}", field.at(), field.text(), first, last)
+                format!("{}: time reads `{}`; allowed: {} to {}", field.at(), field.shown(), first, last)
             })
         }
         _ => None,
@@ -46,9 +47,12 @@ fn position(plan: &Plan) -> Option<String> {
         let field = plan.ephemeris_sheet.field(j, c);
         match field.number() {
             Ok(x) if x.abs() <= 1e100 => None,
-            _ => {
-                Some(format!("{}: {} reads `{}`; allowed: finite numbers of at most 1e100 in size", field.at(), field.name(), field.text()))
-            }
+            _ => Some(format!(
+                "{}: {} reads `{}`; allowed: finite numbers of at most 1e100 in size",
+                field.at(),
+                field.name(),
+                field.shown()
+            )),
         }
     })
 }

@@ -55,33 +55,58 @@ impl Reader<'_> {
     }
 }
 
+/// What is allowed in place of a form that files for other programs have.
+macro_rules! rfc_3339 {
+    () => {
+        "RFC 3339, such as 2026-03-20T14:46:00Z"
+    };
+    ($form:literal) => {
+        concat!(rfc_3339!(), " (this reads like ", $form, ")")
+    };
+}
+
 /// Reads a time such as 2026-03-20T14:46:00Z, 2026-03-20T14:46:00.123456789+01:00.
 pub fn parse(text: &str) -> Result<i64, Fault> {
     let r = &mut Reader { text: text.as_bytes(), at: 0 };
-    let year = r.number(4, 0, 9999, "a year of four digits")?;
-    r.one_of(b"-", "-")?;
+    if let Some(other) = other_form(text) {
+        return Err((0, other));
+    }
+    let year = r.number(4, 0, 9999, rfc_3339!()).map_err(|(_, allowed)| (0, allowed))?;
+    if let [b'-' | b':' | b'/' | b' ', b'0'..=b'9', b'0'..=b'9', b'0'..=b'9', ..] = r.text[r.at..] {
+        return Err((r.at, rfc_3339!("a day of the year")));
+    }
+    r.one_of(b"-", rfc_3339!())?;
     let month = r.number(2, 1, 12, "a month from 01 to 12")?;
-    r.one_of(b"-", "-")?;
+    r.one_of(b"-", rfc_3339!())?;
     let day_at = r.at;
     let day = r.number(2, 1, 31, "a day of that month")?;
     if day > days_of(year, month) {
         return Err((day_at, "a day of that month"));
     }
-    r.one_of(b"Tt ", "T between date and time")?;
+    let is_date = r.at == text.len();
+    r.one_of(b"Tt ", if is_date { rfc_3339!("a date alone") } else { "T between date and time" })?;
     let hour = r.number(2, 0, 23, "an hour from 00 to 23")?;
-    r.one_of(b":", ":")?;
+    r.one_of(b":", "hours, minutes and seconds with : between them")?;
     let minute = r.number(2, 0, 59, "a minute from 00 to 59")?;
-    r.one_of(b":", ":")?;
+    r.one_of(b":", rfc_3339!("a time without seconds"))?;
     let second = r.number(2, 0, 59, "a second from 00 to 59 (leap seconds have no place in nanoseconds since 1970)")?;
     let mut nanos = 0;
-    if r.text.get(r.at) == Some(&b'.') {
-        r.at += 1;
-        nanos = r.fraction()?;
+    match r.text.get(r.at) {
+        Some(b'.') => {
+            r.at += 1;
+            nanos = r.fraction()?;
+        }
+        Some(b',') => return Err((r.at, "a point before the fraction of a second")),
+        _ => {}
     }
-    let offset = match r.one_of(b"Zz+-", "Z or an offset such as +01:00")? {
+    let zone = match r.text.get(r.at) {
+        None => "Z at its end for UTC, or an offset such as +01:00 (this reads like a time without its zone)",
+        Some(_) => "Z or an offset such as +01:00",
+    };
+    let offset = match r.one_of(b"Zz+-", zone)? {
         sign @ (b'+' | b'-') => {
             let hours = r.number(2, 0, 23, "an offset's hours from 00 to 23")?;
-            r.one_of(b":", ":")?;
+            r.one_of(b":", "an offset's hours and minutes with : between them")?;
             let minutes = r.number(2, 0, 59, "an offset's minutes from 00 to 59")?;
             (60 * hours + minutes) * if sign == b'+' { 60 } else { -60 }
         }
@@ -92,6 +117,31 @@ pub fn parse(text: &str) -> Result<i64, Fault> {
     }
     let seconds = 86_400 * days_since_1970(year, month, day) + 3600 * hour + 60 * minute + second - offset;
     i64::try_from(i128::from(seconds) * SECOND + nanos).map_err(|_| (0, "a time from 1843-03-31T16:53:20Z to 2096-10-02T07:06:40Z"))
+}
+
+/// What is allowed, if this is a number or has the look of another form; a number's form is told by its size.
+fn other_form(text: &str) -> Option<&'static str> {
+    let scale = text.trim_end_matches(|c: char| !c.is_ascii_alphabetic());
+    if scale.eq_ignore_ascii_case("JD") {
+        return Some(rfc_3339!("a Julian Date"));
+    }
+    if scale.eq_ignore_ascii_case("MJD") {
+        return Some(rfc_3339!("a Modified Julian Date"));
+    }
+    let after = text.trim_start_matches(|c: char| c.is_ascii_digit());
+    if text.len() - after.len() == 8 && (after.is_empty() || after.starts_with(['T', 't', ' '])) {
+        return Some(rfc_3339!("a date without hyphens"));
+    }
+    // The days of two centuries and more about now, and powers of ten about the seconds since 1970.
+    Some(match text.parse::<f64>().ok()?.abs() {
+        x if (2.35e6..2.55e6).contains(&x) => rfc_3339!("a Julian Date"),
+        x if (1e4..2e5).contains(&x) => rfc_3339!("a Modified Julian Date"),
+        x if (1e8..1e11).contains(&x) => rfc_3339!("seconds since 1970"),
+        x if (1e11..1e14).contains(&x) => rfc_3339!("milliseconds since 1970"),
+        x if (1e14..1e17).contains(&x) => rfc_3339!("microseconds since 1970"),
+        x if (1e17..1e20).contains(&x) => rfc_3339!("nanoseconds since 1970"),
+        _ => rfc_3339!(),
+    })
 }
 
 /// Writes a time in UTC with this many digits of a second, 0 to 9; the digits left off are cut.
@@ -185,9 +235,42 @@ mod tests {
             ("2026-02-28T00:00:00Z ", 20),
             ("2026-02-28T00:00:00+1:00", 21),
             ("9999-02-28T00:00:00Z", 0),
-            ("61120.5", 4),
         ] {
             assert_eq!(parse(text).unwrap_err().0, at, "{}", text);
+        }
+    }
+    #[test]
+    fn other_forms_are_recognised() {
+        for (text, at, says) in [
+            ("2461120.5", 0, "a Julian Date"),
+            ("JD 2461120.5", 0, "a Julian Date"),
+            ("61120.5", 0, "a Modified Julian Date"),
+            ("61120", 0, "a Modified Julian Date"),
+            ("mjd61120.25", 0, "a Modified Julian Date"),
+            ("1773964800", 0, "seconds since 1970"),
+            ("1773964800.5", 0, "seconds since 1970"),
+            ("1773964800000", 0, "milliseconds since 1970"),
+            ("1.7739648e18", 0, "nanoseconds since 1970"),
+            ("20260320T000000Z", 0, "a date without hyphens"),
+            ("20260320", 0, "a date without hyphens"),
+            ("2026-079T00:00:00Z", 4, "a day of the year"),
+            ("2026:079:00:00:00", 4, "a day of the year"),
+            ("2026-03-20", 10, "a date alone"),
+            ("2026-03-20T14:46Z", 16, "a time without seconds"),
+            ("2026-03-20T14:46:00", 19, "a time without its zone"),
+            ("2026-03-20T14:46:00.25", 22, "a time without its zone"),
+            ("2026-03-20 14:46:00 UTC", 19, "Z or an offset"),
+            ("2026-03-20T14:46:00,5Z", 19, "a point before the fraction"),
+            ("2026/03/20 14:46:00", 4, "such as 2026-03-20T14:46:00Z"),
+            ("20 Mar 2026", 0, "such as 2026-03-20T14:46:00Z"),
+            ("noon", 0, "such as 2026-03-20T14:46:00Z"),
+            ("", 0, "such as 2026-03-20T14:46:00Z"),
+            ("7", 0, "such as 2026-03-20T14:46:00Z"),
+            ("nan", 0, "such as 2026-03-20T14:46:00Z"),
+        ] {
+            let (stopped, allowed) = parse(text).unwrap_err();
+            assert_eq!(stopped, at, "{}", text);
+            assert!(allowed.contains(says), "{}: {}", text, allowed);
         }
     }
     proptest! {
@@ -200,6 +283,20 @@ mod tests {
         fn any_text_is_read_or_faulted_inside_it(text in "[0-9TZtz:.+ -]{0,35}") {
             if let Err((at, _)) = parse(&text) {
                 prop_assert!(at <= text.len());
+            }
+        }
+        #[test]
+        fn any_characters_are_read_or_faulted_between_two(text in "(\\PC|\\s|[0-9]){0,30}") {
+            if let Err((at, _)) = parse(&text) {
+                prop_assert!(text.is_char_boundary(at));
+            }
+        }
+        #[test]
+        fn a_changed_time_is_read_or_faulted_between_two(t in any::<i64>(), from in 0usize..30, to in 0usize..30, put in "\\PC{0,3}") {
+            let mut text = format(t, 9);
+            text.replace_range(from.min(to)..from.max(to), &put);
+            if let Err((at, _)) = parse(&text) {
+                prop_assert!(text.is_char_boundary(at));
             }
         }
         #[test]

@@ -104,6 +104,9 @@ impl Files {
     /// The plan, as far as the library takes it, and the journal's place.
     fn read(&self) -> Result<(plan::Plan, PathBuf), Fault> {
         let plan = plan::Plan::read(&self.plan)?;
+        for warning in plan.warnings() {
+            tell!("warning: {}", warning);
+        }
         engine::check(&plan).map_err(|refusal| explain::plan(&plan, refusal))?;
         let journal = self.journal.clone().unwrap_or_else(|| plan.journal());
         Ok((plan, journal))

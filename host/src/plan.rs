@@ -1,9 +1,15 @@
 //! A plan as its files say it: a TOML file that names a CSV file of targets and one of positions.
-use crate::{fault::Fault, sheet::Sheet, source::Source};
+use crate::{
+    fault::Fault,
+    files,
+    sheet::Sheet,
+    source::{shown, Source},
+    text::{excerpt, grouped},
+};
 use serde::de::{Deserialize, Deserializer, MapAccess, Visitor};
 use std::{
-    collections::BTreeMap,
-    fmt,
+    collections::{BTreeMap, HashMap},
+    fmt, fs, io,
     path::{Path, PathBuf},
 };
 use toml::{value::Value, Spanned};
@@ -11,6 +17,10 @@ use toml::{value::Value, Spanned};
 pub const TARGET_COLUMNS: &[&str] = &["name", "x", "y", "z"];
 pub const EPHEMERIS_COLUMNS: &[&str] = &["time", "sun_x", "sun_y", "sun_z", "observer_x", "observer_y", "observer_z"];
 const KEYS: &[&str] = &["targets", "ephemeris", "rolls", "tolerance", "panel", "configured_roll"];
+/// Far more than six keys and their comments take.
+const MOST_BYTES: u64 = 1 << 20;
+/// How deep a value may stand in others: the TOML reader calls itself for each.
+const MOST_DEPTH: usize = 16;
 
 #[derive(Debug)]
 pub struct Plan {
@@ -37,7 +47,7 @@ pub struct Plan {
 
 impl Plan {
     pub fn read(path: &Path) -> Result<Plan, Fault> {
-        let source = Source::read(path)?;
+        let source = Source::read(path, MOST_BYTES)?;
         let mut values = Values::of(&source)?;
         let targets_file = values.file("targets")?;
         let ephemeris_file = values.file("ephemeris")?;
@@ -49,11 +59,15 @@ impl Plan {
 
         let beside = |key: &str, file: &str| {
             let path = path.parent().unwrap_or_else(|| Path::new("")).join(file);
-            if path.exists() {
-                return Ok(path);
+            match fs::metadata(&path) {
+                Ok(_) => Ok(path),
+                // A name with a zero byte is no name.
+                Err(e) if matches!(e.kind(), io::ErrorKind::NotFound | io::ErrorKind::InvalidInput) => {
+                    let read = format!("{} reads \"{}\", and there is no such file", key, excerpt(file));
+                    Err(source.fault(places.get(key).copied().unwrap_or(0), read, "a CSV file, named from the plan's folder"))
+                }
+                Err(e) => Err(files::fault(&path, &e)),
             }
-            let read = format!("{} reads \"{}\", and there is no such file", key, file);
-            Err(source.fault(places[key], read, "a CSV file, named from the plan's folder"))
         };
         let targets_sheet = Sheet::read(&beside("targets", &targets_file)?, TARGET_COLUMNS)?;
         let ephemeris_sheet = Sheet::read(&beside("ephemeris", &ephemeris_file)?, EPHEMERIS_COLUMNS)?;
@@ -71,7 +85,7 @@ impl Plan {
                 return Err(Fault::Files(format!(
                     "{}: time reads `{}`, which is not after the time before it; allowed: times that increase",
                     fields[0].at(),
-                    fields[0].text()
+                    fields[0].shown()
                 )));
             }
             times.push(time);
@@ -103,13 +117,45 @@ impl Plan {
     pub fn path(&self) -> &Path {
         &self.source.path
     }
-    /// Where the journal stands unless another place is named.
+    /// Where the journal stands unless another place is named; never where the plan does.
     pub fn journal(&self) -> PathBuf {
-        self.path().with_extension("journal")
+        let mut name = self.path().with_extension("journal");
+        if name == self.path() {
+            name.as_mut_os_string().push(".journal");
+        }
+        name
     }
     /// The place of a key's value in the TOML file; of the file's start for a key that is left out.
     pub fn at(&self, key: &str) -> String {
         self.source.at(self.places.get(key).copied().unwrap_or(0))
+    }
+    /// What is accepted and yet seldom meant: two targets of one name, and a name of several lines.
+    pub fn warnings(&self) -> Vec<String> {
+        const TOLD: usize = 5;
+        let (mut told, mut more) = (Vec::new(), 0);
+        let mut first = HashMap::new();
+        for (i, name) in self.names.iter().enumerate() {
+            let field = |i| self.targets_sheet.field(i, 0);
+            let before = *first.entry(name).or_insert(i);
+            let lines = name.lines().count();
+            if before == i && lines <= 1 {
+                continue;
+            }
+            if told.len() == TOLD {
+                more += 1;
+                continue;
+            }
+            let target = format!("{}: target `{}`", field(i).at(), field(i).shown());
+            told.push(if before < i {
+                format!("{} has the name of line {}; both are listed under it", target, field(before).line())
+            } else {
+                format!("{} has a name of {} lines; is a quote missing at the end of the first?", target, grouped(lines))
+            });
+        }
+        if more > 0 {
+            told.push(format!("{}: the same of {} more targets", shown(&self.targets_sheet.source.path), grouped(more)));
+        }
+        told
     }
     pub fn cells(&self) -> usize {
         self.names.len() * self.times.len()
@@ -120,7 +166,7 @@ impl Plan {
 }
 
 /// The keys and values of a TOML file in its order, a repeated key too.
-struct Pairs(Vec<(Spanned<String>, Value)>);
+struct Pairs(Vec<(Spanned<String>, Spanned<Value>)>);
 
 impl<'de> Deserialize<'de> for Pairs {
     fn deserialize<D: Deserializer<'de>>(deserializer: D) -> Result<Pairs, D::Error> {
@@ -145,104 +191,165 @@ impl<'de> Deserialize<'de> for Pairs {
 /// The values of the TOML file, each with the place where it stands.
 struct Values<'a> {
     source: &'a Source,
-    values: BTreeMap<String, (usize, Value)>,
+    values: BTreeMap<String, Read>,
     places: BTreeMap<&'static str, usize>,
+}
+
+/// A value, its first byte in the file, and its text.
+struct Read {
+    at: usize,
+    value: Value,
+    text: String,
 }
 
 impl<'a> Values<'a> {
     fn of(source: &'a Source) -> Result<Values<'a>, Fault> {
+        shallow(source)?;
         let no_toml = |e: toml::de::Error| {
             let (line, column) = e.line_col().unwrap_or((0, 0));
             let text = e.to_string();
             // The message ends with the place, which we say first.
             let text = text.rsplit_once(" at line ").map_or(text.as_str(), |(what, _)| what);
-            let path = source.path.display();
-            Fault::Files(format!("{}, line {}, column {}: {}; allowed: TOML", path, line + 1, column + 1, text))
+            let path = shown(&source.path);
+            Fault::Files(format!("{}, line {}, column {}: {}; allowed: TOML", path, line + 1, column + 1, excerpt(text)))
         };
         let Pairs(read) = toml::from_str(&source.text).map_err(no_toml)?;
         let mut values = BTreeMap::new();
         for (key, value) in read {
+            let name = excerpt(key.get_ref());
             if !KEYS.contains(&key.get_ref().as_str()) {
-                return Err(source.fault(key.start(), format!("`{}` is no key of a plan", key.get_ref()), &KEYS.join(", ")));
+                return Err(source.fault(key.start(), format!("`{}` is no key of a plan", name), &KEYS.join(", ")));
             }
             if values.contains_key(key.get_ref()) {
-                return Err(source.fault(key.start(), format!("`{}` is given twice", key.get_ref()), "each key once"));
+                return Err(source.fault(key.start(), format!("`{}` is given twice", name), "each key once"));
             }
-            let place = value_start(&source.text, key.end());
-            values.insert(key.into_inner(), (place, value));
+            // The reader's own start of a number is after its decimal point, and a table of dotted keys has no end.
+            let at = value_start(&source.text, key.end());
+            let text = source.text.get(at..value.end()).map_or("a table".into(), excerpt);
+            values.insert(key.into_inner(), Read { at, value: value.into_inner(), text });
         }
         Ok(Values { source, values, places: BTreeMap::new() })
     }
-    fn optional(&mut self, key: &'static str) -> Option<(usize, Value)> {
-        let (at, value) = self.values.remove(key)?;
-        self.places.insert(key, at);
-        Some((at, value))
+    fn optional(&mut self, key: &'static str) -> Option<Read> {
+        let read = self.values.remove(key)?;
+        self.places.insert(key, read.at);
+        Some(read)
     }
-    fn needed(&mut self, key: &'static str, allowed: &str) -> Result<(usize, Value), Fault> {
+    fn needed(&mut self, key: &'static str, allowed: &str) -> Result<Read, Fault> {
         let fault = self.source.fault(0, format!("`{}` is missing", key), allowed);
         self.optional(key).ok_or(fault)
     }
-    fn wrong(&self, key: &str, at: usize, value: &Value, allowed: &str) -> Fault {
-        self.source.fault(at, format!("{} reads {}", key, value), allowed)
+    fn wrong(&self, key: &str, read: &Read, allowed: &str) -> Fault {
+        self.source.fault(read.at, format!("{} reads {}", key, read.text), allowed)
+    }
+    /// A form that the library has and a plan cannot ask for yet.
+    fn later(&self, key: &str, read: &Read, what: &str, allowed: &str) -> Fault {
+        self.source.fault(read.at, format!("{} reads {}: {} cannot be swept yet", key, read.text, what), allowed)
     }
     fn file(&mut self, key: &'static str) -> Result<String, Fault> {
         let allowed = format!("{} = \"{}.csv\", a file named from the plan's folder", key, key);
         match self.needed(key, &allowed)? {
-            (_, Value::String(file)) => Ok(file),
-            (at, value) => Err(self.wrong(key, at, &value, &allowed)),
+            Read { value: Value::String(file), .. } => Ok(file),
+            read => Err(self.wrong(key, &read, &allowed)),
         }
     }
     fn rolls(&mut self) -> Result<u64, Fault> {
         const ALLOWED: &str = "a whole number of rolls, 1 to 3600";
-        match self.needed("rolls", ALLOWED)? {
-            (_, Value::Integer(n)) if n >= 0 => Ok(n as u64),
-            (at, value @ Value::Array(_)) => {
-                Err(self.source.fault(at, format!("rolls reads {}: a table of rolls cannot be swept yet", value), ALLOWED))
-            }
-            (at, value) => Err(self.wrong("rolls", at, &value, ALLOWED)),
+        let read = self.needed("rolls", ALLOWED)?;
+        match &read.value {
+            Value::Integer(n) => u64::try_from(*n).map_err(|_| self.wrong("rolls", &read, ALLOWED)),
+            Value::Array(_) => Err(self.later("rolls", &read, "a table of rolls", ALLOWED)),
+            _ => Err(self.wrong("rolls", &read, ALLOWED)),
         }
     }
     fn tolerance(&mut self) -> Result<f64, Fault> {
         const ALLOWED: &str = "one number of degrees for all targets";
-        let (at, value) = self.needed("tolerance", ALLOWED)?;
-        match number(&value) {
+        let read = self.needed("tolerance", ALLOWED)?;
+        match number(&read.value) {
             Some(x) => Ok(x),
-            None if value.is_array() => {
-                Err(self.source.fault(at, format!("tolerance reads {}: a tolerance for each target cannot be swept yet", value), ALLOWED))
-            }
-            None => Err(self.wrong("tolerance", at, &value, ALLOWED)),
+            None if read.value.is_array() => Err(self.later("tolerance", &read, "a tolerance for each target", ALLOWED)),
+            None => Err(self.wrong("tolerance", &read, ALLOWED)),
         }
     }
     fn panel(&mut self) -> Result<[f64; 3], Fault> {
         const ALLOWED: &str = "one panel normal of three numbers, such as [0, 1, 0]";
-        let (at, value) = match self.optional("panel") {
+        let read = match self.optional("panel") {
             None => return Ok([0.0, 1.0, 0.0]),
             Some(read) => read,
         };
-        let panels = match &value {
-            Value::Array(items) if items.iter().any(Value::is_array) => items.clone(),
-            _ => vec![value.clone()],
+        let panel = match read.value.as_array().map(Vec::as_slice) {
+            Some([Value::Array(panel)]) => Some(panel.as_slice()),
+            Some(items) if items.iter().any(Value::is_array) => return Err(self.later("panel", &read, "several panels", ALLOWED)),
+            items => items,
         };
-        if panels.len() > 1 {
-            return Err(self.source.fault(at, format!("panel reads {}: several panels cannot be swept yet", value), ALLOWED));
-        }
-        let numbers: Option<Vec<f64>> = panels[0].as_array().and_then(|v| v.iter().map(number).collect());
-        numbers.and_then(|v| <[f64; 3]>::try_from(v).ok()).ok_or_else(|| self.wrong("panel", at, &value, ALLOWED))
+        let numbers: Option<Vec<f64>> = panel.and_then(|items| items.iter().map(number).collect());
+        numbers.and_then(|v| <[f64; 3]>::try_from(v).ok()).ok_or_else(|| self.wrong("panel", &read, ALLOWED))
     }
     fn number(&mut self, key: &'static str) -> Result<Option<f64>, Fault> {
         match self.optional(key) {
             None => Ok(None),
-            Some((at, value)) => match number(&value) {
-                Some(x) => Ok(Some(x)),
-                None => Err(self.wrong(key, at, &value, "a number of degrees")),
-            },
+            Some(read) => number(&read.value).map(Some).ok_or_else(|| self.wrong(key, &read, "a number of degrees")),
         }
     }
 }
 
+/// Refuses what no plan has and the TOML reader would follow as deep as it goes: tables, and brackets or dots inside each other.
+/// Where a string or a bracket is wrong the TOML reader stops, so what follows need not be read as it would.
+fn shallow(source: &Source) -> Result<(), Fault> {
+    let text = source.text.as_bytes();
+    let (mut at, mut depth, mut dots, mut line_starts) = (0, 0usize, 0, true);
+    while let Some(&byte) = text.get(at) {
+        match byte {
+            b'[' if line_starts && depth == 0 => {
+                return Err(source.fault(at, "a table starts here", &format!("keys and their values: {}", KEYS.join(", "))));
+            }
+            b'[' | b'{' => depth += 1,
+            b']' | b'}' => depth = depth.saturating_sub(1),
+            b'.' => dots += 1,
+            b',' | b'=' | b'\n' => dots = 0,
+            _ => {}
+        }
+        if depth + dots > MOST_DEPTH {
+            let read = format!("values inside values, {} deep", depth + dots);
+            return Err(source.fault(at, read, &format!("at most {}", MOST_DEPTH)));
+        }
+        line_starts = byte == b'\n' || line_starts && matches!(byte, b' ' | b'\t');
+        at = match byte {
+            b'"' | b'\'' => string_end(text, at),
+            b'#' => text[at..].iter().position(|&b| b == b'\n').map_or(text.len(), |end| at + end),
+            _ => at + 1,
+        };
+    }
+    Ok(())
+}
+
+/// The byte after a string that starts here: one of three quotes ends with three, and with up to two more that are its own.
+fn string_end(text: &[u8], start: usize) -> usize {
+    let quote = text[start];
+    let quotes = |at: usize| text[at..].iter().take(5).take_while(|&&b| b == quote).count();
+    let needed = match quotes(start) {
+        1 => 1,
+        2 => return start + 2,
+        _ => 3,
+    };
+    let mut at = start + needed;
+    while at < text.len() {
+        let found = quotes(at);
+        match text[at] {
+            b'\\' if quote == b'"' => at += 2,
+            // The reader stops here.
+            b'\n' if needed == 1 => return text.len(),
+            _ if needed == 1 && found > 0 => return at + 1,
+            _ if found >= needed => return at + found,
+            _ => at += found.max(1),
+        }
+    }
+    text.len()
+}
+
 /// Where the value of a key stands: after the `=` that follows it, if one does on that line.
 fn value_start(text: &str, key_end: usize) -> usize {
-    let line = text[key_end..].split('\n').next().unwrap_or("");
+    let line = text.get(key_end..).and_then(|rest| rest.split('\n').next()).unwrap_or("");
     match line.split_once('=') {
         Some((before, after)) => key_end + before.len() + 1 + after.len() - after.trim_start().len(),
         None => key_end,
@@ -261,14 +368,19 @@ fn number(value: &Value) -> Option<f64> {
 #[cfg(test)]
 pub mod tests {
     use super::*;
-    use std::fs;
+    use crate::{digest::Digest, engine, explain};
+    use proptest::prelude::*;
+    use std::{
+        fs,
+        time::{Duration, Instant},
+    };
 
     const TARGETS: &str = "name,x,y,z\nA,1,0,0\n";
     const EPHEMERIS: &str = "time,sun_x,sun_y,sun_z,observer_x,observer_y,observer_z\n\
         2026-03-20T00:00:00Z,0,1,0,0,0,0\n2026-03-20T00:01:00Z,0,0,1,0,0,0\n";
 
     /// A plan made of these three texts.
-    pub fn plan(toml: &str, targets: &str, ephemeris: &str) -> Result<Plan, Fault> {
+    pub fn plan(toml: impl AsRef<[u8]>, targets: impl AsRef<[u8]>, ephemeris: impl AsRef<[u8]>) -> Result<Plan, Fault> {
         let folder = tempfile::tempdir().unwrap();
         fs::write(folder.path().join("t.csv"), targets).unwrap();
         fs::write(folder.path().join("e.csv"), ephemeris).unwrap();
@@ -293,10 +405,21 @@ pub mod tests {
         assert_eq!((p.names.len(), p.times.len(), p.cells(), p.chunks()), (1, 2, 2, 1));
         assert_eq!(p.suns, [0.0, 1.0, 0.0, 0.0, 0.0, 1.0]);
         assert!(p.at("tolerance").ends_with("plan.toml, line 4, column 13"));
+        assert!(p.journal().ends_with("plan.journal"));
         let p = with("rolls = 1\ntolerance = nan\nconfigured_roll = -inf\npanel = [[1, 0.5, -0.0]]").unwrap();
         assert!(p.tolerance.is_nan());
         assert_eq!(p.configured_roll, Some(f64::NEG_INFINITY));
         assert_eq!(p.panel, [1.0, 0.5, -0.0]);
+    }
+    #[test]
+    fn a_plan_is_never_its_own_journal() {
+        let folder = tempfile::tempdir().unwrap();
+        let path = folder.path().join("day.journal");
+        let toml = "targets = \"t.csv\"\nephemeris = \"e.csv\"\nrolls = 1\ntolerance = 10\n";
+        for (file, text) in [("day.journal", toml), ("t.csv", TARGETS), ("e.csv", EPHEMERIS)] {
+            fs::write(folder.path().join(file), text).unwrap();
+        }
+        assert!(Plan::read(&path).unwrap().journal().ends_with("day.journal.journal"));
     }
     #[test]
     fn forms_that_come_later_are_told_apart() {
@@ -336,10 +459,206 @@ pub mod tests {
         assert!(says(TARGETS, &bad).contains("e.csv, line 3, column 15: time reads `2026-03-20T00:61:00Z`; allowed: a minute"));
     }
     #[test]
+    fn deep_plans_are_refused_before_they_are_read() {
+        for (deep, at) in [
+            ("panel = ".to_owned() + &"[".repeat(100_000), "line 5, column 25"),
+            ("panel = ".to_owned() + &"{a=".repeat(100_000), "line 5, column 57"),
+            ("panel = [ # ]\n".to_owned() + &"[\n".repeat(100_000), "line 21, column 1"),
+            ("panel".to_owned() + &".a".repeat(20_000) + " = 1", "line 5, column 38"),
+            ("panel".to_owned() + &" . \"]\"".repeat(20_000) + "]", "line 5, column 103"),
+        ] {
+            let text = fault(&format!("rolls = 1\ntolerance = 1\n{}", deep));
+            assert!(text.starts_with("plan.toml, "), "{}", text);
+            assert!(text.contains("values inside values, 17 deep; allowed: at most 16"), "{}", text);
+            assert!(text.contains(at), "{}, not {}", text, at);
+        }
+        let text = fault(&format!("rolls = 1\ntolerance = 1\n \t[panel{}]", ".a".repeat(20_000)));
+        assert!(
+            text.starts_with("plan.toml, line 5, column 3: a table starts here; allowed: keys and their values: targets, "),
+            "{}",
+            text
+        );
+        // Each quote is looked at a few times, not each with all that follow.
+        let begun = Instant::now();
+        assert!(fault(&"\"".repeat(1_000_000)).starts_with("plan.toml, line 3, column "));
+        assert!(begun.elapsed() < Duration::from_secs(10));
+        // Brackets and dots that nest nothing.
+        let many = "[".repeat(100);
+        let dots = "1.5, ".repeat(100);
+        for text in [format!("# {}", many), format!("panel = [1.0, 1.0, \"{}\"]", many), format!("panel = [{}'{}']", dots, many)] {
+            let told = match with(&format!("rolls = 1\ntolerance = 1\n{}", text)) {
+                Ok(_) => String::new(),
+                Err(e) => e.to_string(),
+            };
+            assert!(!told.contains("values inside values"), "{}", told);
+        }
+    }
+    #[test]
+    fn a_message_shows_what_the_plan_reads() {
+        for (value, shown) in [
+            ("{ a = { b = 1 }, c = 2 }", "rolls reads { a = { b = 1 }, c = 2 }; allowed"),
+            ("[{a = 1}, 2]", "rolls reads [{a = 1}, 2]: a table"),
+            ("\"\\u001b[2J\"", "rolls reads \"\\u001b[2J\"; allowed"),
+            ("[1,\n 2]", "rolls reads [1,\\n 2]: a table"),
+        ] {
+            let text = fault(&format!("tolerance = 1\nrolls = {}", value));
+            assert!(text.starts_with("plan.toml, line 4, column 9: ") && text.contains(shown), "{}", text);
+        }
+        let text = fault(&format!("tolerance = 1\nrolls = [{}]", "1, ".repeat(10_000)));
+        assert!(text.len() < 300, "{}", text.len());
+        assert!(fault("tolerance = 1\n\"\\u001b[2J\" = 1").contains("`\\u{1b}[2J` is no key"));
+    }
+    #[test]
+    fn two_targets_of_one_name_are_told() {
+        let toml = "targets = \"t.csv\"\nephemeris = \"e.csv\"\nrolls = 1\ntolerance = 1\n";
+        let warnings = |targets: &str| plan(toml, targets, EPHEMERIS).unwrap().warnings();
+        assert!(warnings("name,x,y,z\nA,1,0,0\na,1,0,0\n").is_empty());
+        let told = warnings("name,x,y,z\nA,1,0,0\n# A\nB,1,0,0\n A ,0,1,0\nA,1,0,0\n");
+        assert_eq!(told.len(), 2, "{:?}", told);
+        assert!(told[0].ends_with("t.csv, line 5, column 2: target `A` has the name of line 2; both are listed under it"), "{}", told[0]);
+        assert!(told[1].contains("line 6, column 1: target `A` has the name of line 2"), "{}", told[1]);
+        let told = warnings(&format!("name,x,y,z\n{}", "A,1,0,0\n".repeat(1000)));
+        assert_eq!(told.len(), 6);
+        assert!(told[5].ends_with("t.csv: the same of 994 more targets"), "{}", told[5]);
+        let told = warnings("name,x,y,z\n\"A,1,0,0\n\"B,1,0,0\n");
+        assert_eq!(told.len(), 1);
+        assert!(told[0].contains("line 2, column 2: target `A,1,0,0\\nB` has a name of 2 lines; is a quote missing"), "{}", told[0]);
+    }
+    #[test]
+    fn only_plain_files_of_a_plan_s_size_are_read() {
+        let says = |file: &str| {
+            let toml = format!("targets = \"{}\"\nephemeris = \"e.csv\"\nrolls = 1\ntolerance = 1\n", file);
+            plan(&toml, TARGETS, EPHEMERIS).unwrap_err().to_string()
+        };
+        assert_eq!(says("/dev/zero"), "/dev/zero: it is a device; allowed: a plain file");
+        assert_eq!(says("/dev"), "/dev: it is a folder; allowed: a plain file");
+        assert!(says("\\u0000.csv").contains("targets reads \"\\u{0}.csv\", and there is no such file"));
+        let folder = tempfile::tempdir().unwrap();
+        let huge = folder.path().join("huge.csv");
+        fs::File::create(&huge).unwrap().set_len(1 << 40).unwrap();
+        let text = says(huge.to_str().unwrap());
+        assert!(text.ends_with("huge.csv: more than 67,108,864 bytes; allowed: at most that many"), "{}", text);
+        let text = Plan::read(&huge).unwrap_err().to_string();
+        assert!(text.ends_with("huge.csv: more than 1,048,576 bytes; allowed: at most that many"), "{}", text);
+    }
+    #[test]
     fn a_missing_file_is_named() {
         let e = plan("targets = \"T.csv\"\nephemeris = \"e.csv\"\nrolls = 1\ntolerance = 1\n", TARGETS, EPHEMERIS).unwrap_err();
         assert!(e.to_string().contains("plan.toml, line 1, column 11: targets reads \"T.csv\", and there is no such file; allowed: "));
         let e = Plan::read(Path::new("/nowhere/plan.toml")).unwrap_err();
         assert_eq!(e.to_string(), "/nowhere/plan.toml: there is no such file or folder");
+    }
+
+    #[test]
+    fn a_refusal_shows_a_cell_that_a_terminal_can_show() {
+        let toml = "targets = \"t.csv\"\nephemeris = \"e.csv\"\nrolls = 1\ntolerance = 1\n";
+        let p = plan(toml, "name,x,y,z\n\u{1b}[2J,1.5,0,0\n", EPHEMERIS).unwrap();
+        let text = explain::plan(&p, engine::check(&p).unwrap_err()).to_string();
+        assert!(text.contains("t.csv, line 2, column 6: x of target `\\u{1b}[2J` reads `1.5`; allowed: -1 to 1"), "{}", text);
+        let rows = "A,1,0,0\n".repeat(70_000);
+        let p = plan(toml, "name,x,y,z\n".to_owned() + &rows, EPHEMERIS).unwrap();
+        let text = explain::plan(&p, engine::check(&p).unwrap_err()).to_string();
+        assert!(
+            text.starts_with("refused with 2: ") && text.contains("has 70,000 targets and") && text.contains("140,000 cells"),
+            "{}",
+            text
+        );
+    }
+
+    /// What a reader may trip over, beside bytes that are no text.
+    const PIECES: &[&str] = &[
+        "[", "[[", "]", "{", "}", "=", ".", ",", "\"", "\"\"\"", "'", "'''", "\\", "\\u0000", "#", "\n", "\r", "\r\n", " ", "\t", "\0",
+        "\u{1b}", "\u{a0}", "\u{3000}", "\u{feff}", "é", "targets", "rolls", "panel", "rolls=", "a.b", "0", "-1", "1.5", "1e999", "0x1f",
+        "1_000", "nan", "-inf", "true", "A,1,0,0", "9e99", ";", "00:00Z", "99:99",
+    ];
+    /// Changes of a text: where, how many bytes are cut there, and what is put in their place.
+    fn changes() -> impl Strategy<Value = Vec<(usize, usize, Vec<u8>)>> {
+        let piece = prop_oneof![
+            4 => prop::sample::select(PIECES).prop_map(|p| p.as_bytes().to_vec()),
+            1 => prop::collection::vec(any::<u8>(), 0..3),
+            1 => "\\PC{1,2}".prop_map(String::into_bytes),
+        ];
+        prop::collection::vec((any::<usize>(), prop_oneof![3 => 0usize..3, 1 => 0usize..200], piece), 0..4)
+    }
+    fn changed(text: &str, changes: &[(usize, usize, Vec<u8>)]) -> Vec<u8> {
+        let mut bytes = text.as_bytes().to_vec();
+        for (at, cut, put) in changes {
+            let at = at % (bytes.len() + 1);
+            let end = bytes.len().min(at + cut);
+            bytes.splice(at..end, put.iter().copied());
+        }
+        bytes
+    }
+    /// Reads the value of every key.
+    fn read_all(source: &Source) -> Result<(), Fault> {
+        let mut values = Values::of(source)?;
+        let faults = [
+            values.file("targets").err(),
+            values.file("ephemeris").err(),
+            values.rolls().err(),
+            values.tolerance().err(),
+            values.panel().err(),
+            values.number("configured_roll").err(),
+        ];
+        faults.into_iter().flatten().next().map_or(Ok(()), Err)
+    }
+    fn depth(value: &Value) -> usize {
+        match value {
+            Value::Array(items) => 1 + items.iter().map(depth).max().unwrap_or(0),
+            Value::Table(items) => 1 + items.values().map(depth).max().unwrap_or(0),
+            _ => 0,
+        }
+    }
+
+    proptest! {
+        #[test]
+        fn a_changed_plan_is_read_or_refused(t in changes(), e in changes(), p in changes()) {
+            let toml = "targets = \"t.csv\"\nephemeris = \"e.csv\"\nrolls = 1\ntolerance = 10\npanel = [[0, 1, 0.5]]\n# ..\n";
+            let told = match plan(changed(toml, &p), changed(TARGETS, &t), changed(EPHEMERIS, &e)) {
+                Ok(plan) => {
+                    Digest::of(&plan);
+                    plan.warnings();
+                    engine::check(&plan).map_err(|refusal| explain::plan(&plan, refusal)).err()
+                }
+                Err(e) => Some(e),
+            };
+            if let Some(fault) = told {
+                prop_assert!(!fault.to_string().contains(|c: char| c.is_control()), "{}", fault);
+            }
+        }
+        #[test]
+        fn any_toml_is_read_or_refused(pieces in prop::collection::vec(prop::sample::select(PIECES), 0..40)) {
+            let source = Source::of(Path::new("p"), pieces.concat().into()).unwrap();
+            if let Err(fault) = read_all(&source) {
+                prop_assert!(!fault.to_string().contains(|c: char| c.is_control()), "{}", fault);
+            }
+        }
+        #[test]
+        fn what_the_toml_reader_follows_is_shallow(wraps in prop::collection::vec(0usize..10, 0..24)) {
+            const WRAPS: [(&str, &str); 10] = [
+                ("[", "]"),
+                ("[\n#]\n", ",]"),
+                ("{a=", "}"),
+                ("{ a.\"b]\".c = ", "}"),
+                ("[\"]\\\"]\", ", "]"),
+                ("['\\', ", "]"),
+                ("['''\n]'']''', ", ", 1.5]"),
+                ("[\"\"\"]\\\"\"\"]\"\"\"\"\", ", "]"),
+                ("['''[''''', \"\"\"]\"\"\"\", ", "]"),
+                ("[\"\", '', ", "]"),
+            ];
+            let mut text = "1".to_owned();
+            for (before, after) in wraps.iter().map(|&i| WRAPS[i]) {
+                text = before.to_owned() + &text + after;
+            }
+            let source = Source::of(Path::new("p"), format!("panel = {}", text).into()).unwrap();
+            let read: Value = toml::from_str(&source.text).unwrap();
+            // The dots of a key are counted only until its value starts.
+            let brackets = wraps.len();
+            match shallow(&source) {
+                Ok(()) => prop_assert!(brackets <= MOST_DEPTH, "{}", depth(&read)),
+                Err(_) => prop_assert!(brackets + 2 > MOST_DEPTH),
+            }
+        }
     }
 }

@@ -9,6 +9,19 @@ macro_rules! tell {
     }};
 }
 
+/// A name or a cell as a terminal may show it: what would steer the terminal, or turn the direction of the text, is escaped.
+pub fn printable(text: &str) -> String {
+    let mut safe = String::with_capacity(text.len());
+    for c in text.chars() {
+        match c {
+            '\u{61c}' | '\u{200e}' | '\u{200f}' | '\u{2028}'..='\u{202e}' | '\u{2066}'..='\u{2069}' => safe.extend(c.escape_default()),
+            c if c.is_control() => safe.extend(c.escape_default()),
+            c => safe.push(c),
+        }
+    }
+    safe
+}
+
 /// A number with commas between thousands.
 pub fn grouped(n: impl ToString) -> String {
     let digits = n.to_string();
@@ -20,6 +33,23 @@ pub fn grouped(n: impl ToString) -> String {
         text.push(d);
     }
     text
+}
+
+/// What a message shows of a text that could not be read: its start, and escapes for characters that show nothing.
+pub fn excerpt(text: &str) -> String {
+    const MOST: usize = 80;
+    let mut shown = String::new();
+    for c in text.chars().take(MOST + 1) {
+        match c {
+            '\u{ad}' | '\u{200b}'..='\u{200d}' | '\u{2060}'..='\u{2065}' | '\u{feff}' => shown.extend(c.escape_default()),
+            c => shown.push(c),
+        }
+    }
+    shown = printable(&shown);
+    match shown.char_indices().nth(MOST) {
+        Some((end, _)) => format!("{} ..", &shown[..end]),
+        None => shown,
+    }
 }
 
 /// Which of these are as asked, as ranges: 0..3, 7.
@@ -56,6 +86,14 @@ mod tests {
         assert_eq!(grouped(999), "999");
         assert_eq!(grouped(1000), "1,000");
         assert_eq!(grouped(1048576), "1,048,576");
+    }
+    #[test]
+    fn what_a_terminal_shows() {
+        assert_eq!(printable("α Cen, 4\u{a0}ly"), "α Cen, 4\u{a0}ly");
+        assert_eq!(printable("a\n\u{1b}[2J\0\u{9b}b\r\t"), "a\\n\\u{1b}[2J\\u{0}\\u{9b}b\\r\\t");
+        assert_eq!(excerpt("\u{202e}\u{feff}1\n"), "\\u{202e}\\u{feff}1\\n");
+        assert_eq!(excerpt(&"ä".repeat(80)), "ä".repeat(80));
+        assert_eq!(excerpt(&"ä".repeat(81)), "ä".repeat(80) + " ..");
     }
     #[test]
     fn runs() {

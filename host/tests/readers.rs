@@ -1,0 +1,59 @@
+//! Whole commands on files that no reader should trip over: each ends with a sentence and a status, and soon.
+use std::{
+    fs,
+    path::Path,
+    process::{Command, Output, Stdio},
+};
+
+const PLAN: &str = "targets = \"t.csv\"\nephemeris = \"e.csv\"\nrolls = 4\ntolerance = 5\n";
+const TARGETS: &str = "name,x,y,z\nA,1,0,0\nB,0,1,0\n";
+const EPHEMERIS: &str = "time,sun_x,sun_y,sun_z,observer_x,observer_y,observer_z\n\
+    2026-03-20T00:00:00Z,0,1,0,0,0,0\n2026-03-20T00:01:00Z,0,0,1,0,0,0\n";
+
+fn check(plan: &Path) -> Output {
+    Command::new(env!("CARGO_BIN_EXE_wilfnusk")).arg("check").arg(plan).stdin(Stdio::null()).output().unwrap()
+}
+
+/// Status and messages of `check` on these three files.
+fn checked(plan: &str, targets: &str, ephemeris: &str) -> (Option<i32>, String) {
+    let folder = tempfile::tempdir().unwrap();
+    for (name, text) in [("plan.toml", plan), ("t.csv", targets), ("e.csv", ephemeris)] {
+        fs::write(folder.path().join(name), text).unwrap();
+    }
+    let output = check(&folder.path().join("plan.toml"));
+    let told = String::from_utf8(output.stderr).unwrap();
+    (output.status.code(), told.replace(folder.path().to_str().unwrap(), ""))
+}
+
+#[test]
+fn a_faulty_time_after_a_no_break_space() {
+    let (status, told) = checked(PLAN, TARGETS, &EPHEMERIS.replace("2026-03-20T00:00", "\u{a0}2x26-03-20T00:00"));
+    assert_eq!(status, Some(3), "{}", told);
+    assert!(told.starts_with("wilfnusk: /e.csv, line 2, column 2: time reads `2x26-03-20T00:00:00Z`; allowed: RFC 3339"), "{}", told);
+}
+
+#[test]
+fn a_plan_of_brackets() {
+    let (status, told) = checked(&format!("{}panel = {}", PLAN, "[".repeat(100_000)), TARGETS, EPHEMERIS);
+    assert_eq!(status, Some(3), "{}", told);
+    assert_eq!(told, "wilfnusk: /plan.toml, line 5, column 25: values inside values, 17 deep; allowed: at most 16\n");
+}
+
+#[test]
+fn two_targets_of_one_name() {
+    let (status, told) = checked(PLAN, &TARGETS.replace('B', "# B\nA"), EPHEMERIS);
+    assert_eq!(status, Some(0), "{}", told);
+    assert_eq!(told, "warning: /t.csv, line 4, column 1: target `A` has the name of line 2; both are listed under it\n");
+}
+
+#[test]
+fn a_device_and_a_pipe_that_nobody_writes() {
+    let (status, told) = checked(&PLAN.replace("t.csv", "/dev/zero"), TARGETS, EPHEMERIS);
+    assert_eq!((status, told.as_str()), (Some(3), "wilfnusk: /dev/zero: it is a device; allowed: a plain file\n"));
+    let folder = tempfile::tempdir().unwrap();
+    let pipe = folder.path().join("plan.toml");
+    assert!(Command::new("mkfifo").arg(&pipe).status().unwrap().success());
+    let output = check(&pipe);
+    assert_eq!(output.status.code(), Some(3));
+    assert!(String::from_utf8(output.stderr).unwrap().ends_with("plan.toml: it is a pipe; allowed: a plain file\n"));
+}
