@@ -24,6 +24,7 @@ mod source;
 mod stop;
 mod svg;
 mod sweep;
+mod tolerance;
 
 use clap::{Args, Parser, Subcommand};
 use fault::Fault;
@@ -40,7 +41,7 @@ use std::{
     version,
     about = "Sweeps a plan of targets over rolls and lists when each may be looked at. The sweep is kept in a journal: \
         a power cut costs at most the line being written, and the same command goes on.",
-    after_help = "Start with:\n  wilfnusk example day\n  wilfnusk sweep day/plan.toml --svg windows.svg\n\n\
+    after_help = "Start with:\n  wilfnusk example season\n  wilfnusk sweep season/plan.toml --svg windows.svg\n\n\
         Exit status: 0 done, 1 refused (the message has the number of the reason),\n  \
         2 wrong command line, 3 files, 130 stopped by Ctrl-C."
 )]
@@ -65,7 +66,7 @@ enum Command {
     Regard(look::Regard),
     /// Put the lines of several journals of one plan into a new one
     Merge(merge::Merge),
-    /// Write a plan to start from: a day of a telescope in low orbit
+    /// Write a plan to start from: ninety days of a telescope in low orbit
     Example {
         /// Folder for plan.toml, targets.csv and ephemeris.csv
         folder: PathBuf,
