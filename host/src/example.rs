@@ -9,14 +9,15 @@ use std::{fmt::Write, fs, path::Path};
 const PLAN: &str = "\
 # Ninety days of a telescope in low orbit. Sweep it with: wilfnusk sweep plan.toml
 
+# One equatorial frame for all: X toward the equinox, Z toward celestial north.
 targets = \"targets.csv\"        # name and direction x, y, z (unit vectors)
-ephemeris = \"ephemeris.csv\"    # time, Sun x, y, z and observer x, y, z (here km)
+ephemeris = \"ephemeris.csv\"    # time, Sun x, y, z and observer x, y, z (here km from the Earth's centre)
 
 # The bus settles at 24 rolls, 15 degrees apart. A target may be looked at while one of
 # them is within 5 degrees of the roll that faces the panel to the Sun.
 rolls = 24                     # tried at every cell: 0, 15, 30, .. 345 degrees
 tolerance = 5                  # degrees
-panel = [0, 1, 0]              # panel normal in the body frame; x is the boresight
+panel = [0, 1, 0]              # panel normal in the body's axes: x boresight; at roll 0 y east, z north
 
 # With a configured roll every sample is that roll, and `windows --evaluate`
 # lists how many degrees it lies beyond the tolerance.
