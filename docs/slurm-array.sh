@@ -1,8 +1,14 @@
 #!/bin/bash
-# A sweep as a Slurm job array, an array task a part. A task that is killed or requeued goes on where it was.
+# A sweep as a Slurm job array, an array task a part. A task that is killed or requeued goes on where it was; so does one that is
+# submitted again.
 #
 #   sbatch --array=1-20 slurm-array.sh plan.toml
-#   wilfnusk merge plan.part*.journal -o plan.journal && wilfnusk sweep plan.toml --svg windows.svg
+#
+# Once all tasks have ended, where their journals are, or where plan.toml, the CSV files, each plan.partK.journal and the
+# plan.partK.journal.plan beside it were copied to:
+#
+#   wilfnusk merge plan.toml plan.part*.journal -o plan.journal
+#   wilfnusk sweep plan.toml --svg windows.svg
 #
 #SBATCH --job-name=roll-sweep
 #SBATCH --ntasks=1

@@ -4,9 +4,9 @@
  * Which targets a satellite may look at, at which times, and how far it may roll before its solar panel turns from the Sun; a roll sweep
  * that can be cut off at any byte of its journal and taken up again; and the windows that follow from it.
  *
- * Link libwilfnusk.a, for x86-64 (`rt staticlib wilfnusk` writes it to target/staticlib/), and the C library's mathematics (-lm). It
- * allocates nothing, has no global state, reads and writes nothing but what it is lent, and always returns; a call needs up to 448 KiB of
- * stack. Any number of threads may call it at the same time.
+ * Link libwilfnusk.a, for x86-64 (`rt staticlib wilfnusk` writes it to target/staticlib/), and the C library's mathematics (-lm); once
+ * installed, `pkg-config --cflags --libs wilfnusk` says how. It allocates nothing, has no global state, reads and writes nothing but what it
+ * is lent, and always returns; a call needs up to 448 KiB of stack. Any number of threads may call it at the same time.
  *
  *
  * ANSWERS
@@ -48,17 +48,38 @@
  *
  * Calls about a plan begin with the same parameters, in the same order:
  *
- *    targets        directions, three numbers each: unit vectors, in the frame of the positions
+ *    targets        directions from the satellite, three numbers each: unit vectors, in the frame of the positions
  *    suns           the Sun's position at each time, three numbers each
- *    observers      the satellite's position at each time, three numbers each, in the unit of suns
+ *    observers      the satellite's position at each time, three numbers each, in the unit and from the origin of suns
  *    tolerance_deg  how far, in degrees, a roll may be from the optimal one; any double. NaN: no cell is violated. Below 0: every cell
  *                   that is not Free is violated, at a finite roll
  *    has_roll       0: no configured roll, and roll_deg is ignored. Anything else: roll_deg is the configured roll
  *    roll_deg       in degrees; any double. NaN violates nothing
- *    panel_x, panel_y, panel_z   the panel's normal in the body's frame, x along the boresight. Need not have length 1. The usual: 0, 1, 0
+ *    panel_x, panel_y, panel_z   the panel's normal in the body's axes, see FRAME. Need not have length 1. The usual: 0, 1, 0
  *
  * A cell is a target i and a time j; its number is i * times + j. A mask has one byte a cell, in this order: 1 marked (violated), 0 clear.
- * A cell is Free if no roll is better than another: the Sun is on the boresight, or the panel's normal has no part across it.
+ * A cell is Free if no roll is better than another: the Sun is on the boresight's line, or the panel's normal has no part across it.
+ *
+ *
+ * FRAME
+ *
+ * targets, suns and observers are in one equatorial frame, such as GCRS: X toward the equinox, Z toward celestial north. suns and observers
+ * have one origin, such as the Earth's centre; the Sun's direction is that of sun - observer. Of a target only that each number is within
+ * -1 to 1 is checked: another length than 1 can give another roll.
+ *
+ * The body's x is the boresight, the target. At roll 0 its z is celestial north, as far as that lies across x, and its y = z cross x, which
+ * is east. (Where x is a pole, and north has no part across it, the frame's Y takes north's place.) A positive roll turns the body about +x
+ * by the right hand: clockwise for who looks along the boresight from the satellite, counterclockwise for who looks at the satellite. At
+ * roll R
+ *
+ *    y = cos R * east + sin R * north        z = cos R * north - sin R * east
+ *
+ * so z's position angle, from north through east, is -R. The panel's normal is given in these axes and turns with them. The optimal roll is
+ * the Sun's angle in the y-z plane at roll 0, from y toward z, less the normal's: at it the normal, across the boresight, points where the
+ * Sun is. A configured roll is such a roll, and the tolerance an arc between two of them. docs/HOST.md has a drawing.
+ *
+ * For the target 1, 0, 0 and the normal 0, 1, 0: a Sun at 0, 1, 0 (east) has the optimal roll 0; at 0, 0, 1 (north) 90; at 0, -1, 0
+ * (west) 180.
  */
 #ifndef WILFNUSK_H
 #define WILFNUSK_H

@@ -1,4 +1,4 @@
-//! A plan to start from: a day of a telescope in low orbit, a minute a step. The same numbers on every machine.
+//! A plan to start from: ninety days of a telescope in low orbit, 90 minutes a step. The same numbers on every machine.
 use crate::{
     fault::Fault,
     files, instant,
@@ -7,14 +7,17 @@ use crate::{
 use std::{fmt::Write, fs, path::Path};
 
 const PLAN: &str = "\
-# A day of a telescope in low orbit. Sweep it with: wilfnusk sweep plan.toml
+# Ninety days of a telescope in low orbit. Sweep it with: wilfnusk sweep plan.toml
 
+# One equatorial frame for all: X toward the equinox, Z toward celestial north.
 targets = \"targets.csv\"        # name and direction x, y, z (unit vectors)
-ephemeris = \"ephemeris.csv\"    # time, Sun x, y, z and observer x, y, z (here km)
+ephemeris = \"ephemeris.csv\"    # time, Sun x, y, z and observer x, y, z (here km from the Earth's centre)
 
-rolls = 360                    # tried at every cell: 0, 1, 2, .. 359 degrees
-tolerance = 0.4                # degrees from the roll that faces the panel to the Sun
-panel = [0, 1, 0]              # panel normal in the body frame; x is the boresight
+# The bus settles at 24 rolls, 15 degrees apart. A target may be looked at while one of
+# them is within 5 degrees of the roll that faces the panel to the Sun.
+rolls = 24                     # tried at every cell: 0, 15, 30, .. 345 degrees
+tolerance = 5                  # degrees
+panel = [0, 1, 0]              # panel normal in the body's axes: x boresight; at roll 0 y east, z north
 
 # With a configured roll every sample is that roll, and `windows --evaluate`
 # lists how many degrees it lies beyond the tolerance.
@@ -42,7 +45,9 @@ const TARGETS: [(&str, f64, f64); 16] = [
 ];
 
 const START: &str = "2026-03-20T00:00:00Z";
-const MINUTES: usize = 1440;
+const TIMES: usize = 1440;
+const STEP_MINUTES: usize = 90;
+const DAY_MINUTES: f64 = 1440.0;
 const ASTRONOMICAL_UNIT_KM: f64 = 149_597_870.7;
 const OBLIQUITY_DEG: f64 = 23.439;
 const ORBIT_KM: f64 = 6928.0;
@@ -80,8 +85,8 @@ fn ephemeris() -> String {
     let (so, co) = OBLIQUITY_DEG.to_radians().sin_cos();
     let (si, ci) = INCLINATION_DEG.to_radians().sin_cos();
     let mut text = EPHEMERIS_COLUMNS.join(",") + "\n";
-    for minute in 0..MINUTES {
-        let (sl, cl) = (359.4 + minute as f64 / MINUTES as f64 * 360.0 / 365.25).to_radians().sin_cos();
+    for minute in (0..TIMES).map(|j| j * STEP_MINUTES) {
+        let (sl, cl) = (359.4 + minute as f64 / DAY_MINUTES * 360.0 / 365.25).to_radians().sin_cos();
         let (su, cu) = (minute as f64 / ORBIT_MINUTES * 360.0).to_radians().sin_cos();
         let _ = writeln!(
             text,
@@ -101,15 +106,57 @@ fn ephemeris() -> String {
 #[cfg(test)]
 mod tests {
     use super::*;
-    use crate::plan::Plan;
+    use crate::{engine, plan::Plan};
+
+    fn read() -> Plan {
+        let folder = tempfile::tempdir().unwrap();
+        write(folder.path()).unwrap();
+        assert!(write(folder.path()).is_err());
+        Plan::read(&folder.path().join("plan.toml")).unwrap()
+    }
 
     #[test]
     fn is_a_plan() {
-        let folder = tempfile::tempdir().unwrap();
-        write(folder.path()).unwrap();
-        let plan = Plan::read(&folder.path().join("plan.toml")).unwrap();
+        let plan = read();
         assert_eq!((plan.names.len(), plan.times.len(), plan.chunks()), (16, 1440, 360));
-        assert!(plan.tolerance < 180.0 / plan.rolls as f64);
-        assert!(write(folder.path()).is_err());
+        assert_eq!(crate::tolerance::nothing_violated(&plan), None);
+    }
+    /// A cell is clear while the optimal roll, which turns slowly, is within 5 degrees of a multiple of 15: two thirds of the cells, in windows
+    /// of many samples. Near the ecliptic's pole the roll turns a degree a day: ten days clear, five violated.
+    #[test]
+    fn its_windows_follow_the_sun() {
+        let plan = read();
+        let mut journal = vec![0; 107 + 33 * plan.chunks()];
+        let mut used = engine::begin(&plan, &mut journal).unwrap();
+        while used < journal.len() {
+            let next = (used - 107) as u64 / 33;
+            used = engine::work(&plan, next..plan.chunks() as u64, &mut journal, used).unwrap();
+        }
+        let (mask, _) = engine::collect(&plan, &journal).unwrap();
+        for (cell, &mark) in mask.iter().enumerate() {
+            let (i, j) = (cell / TIMES, cell % TIMES);
+            let at = |list: &[f64], k: usize| [list[3 * k], list[3 * k + 1], list[3 * k + 2]];
+            let roll = match wilfnusk::cell(at(&plan.targets, i), at(&plan.suns, j), at(&plan.observers, j), plan.panel) {
+                Ok(wilfnusk::OptimalRoll::At(roll)) => roll,
+                other => panic!("{:?}", other),
+            };
+            assert_eq!(mark == 1, (roll / 15.0 - (roll / 15.0).round()).abs() * 15.0 > 5.0, "cell {}, roll {}", cell, roll);
+        }
+        let clear = mask.iter().filter(|&&mark| mark == 0).count() as f64 / mask.len() as f64;
+        assert!((0.6..0.75).contains(&clear), "{}", clear);
+
+        let mut violated = 0;
+        for (i, name) in plan.names.iter().enumerate() {
+            let row = &mask[i * TIMES..(i + 1) * TIMES];
+            let windows = engine::violations(row, &plan.times, &[0.0; TIMES]).unwrap();
+            violated += windows.len();
+            if ["Cat's Eye Nebula", "SN 1987A"].contains(&name.as_str()) {
+                for w in windows.iter().filter(|w| w.first > 0 && w.is_last == 0) {
+                    let days = (w.last + 1 - w.first) as f64 * STEP_MINUTES as f64 / DAY_MINUTES;
+                    assert!((4.5..5.5).contains(&days), "{}: {} days", name, days);
+                }
+            }
+        }
+        assert!(violated < 160, "{} windows", violated);
     }
 }

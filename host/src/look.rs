@@ -10,6 +10,7 @@ use crate::{
     plan::Plan,
     say,
     text::{grouped, ranges},
+    tolerance::nothing_violated,
     Files, Outputs,
 };
 use clap::{Args, ValueEnum};
@@ -105,6 +106,9 @@ impl Status {
     pub fn check(&self) -> Result<(), Fault> {
         let (plan, path) = self.files.read()?;
         say(about(&plan))?;
+        if let Some(text) = nothing_violated(&plan) {
+            say(text)?;
+        }
         if !path.exists() {
             return say(format_args!("accepted; {} is not begun", path.display()));
         }

@@ -24,8 +24,9 @@ mod source;
 mod stop;
 mod svg;
 mod sweep;
+mod tolerance;
 
-use clap::{Args, Parser, Subcommand};
+use clap::{Args, CommandFactory, Parser, Subcommand};
 use fault::Fault;
 use std::{
     fs::File,
@@ -40,9 +41,16 @@ use std::{
     version,
     about = "Sweeps a plan of targets over rolls and lists when each may be looked at. The sweep is kept in a journal: \
         a power cut costs at most the line being written, and the same command goes on.",
-    after_help = "Start with:\n  wilfnusk example day\n  wilfnusk sweep day/plan.toml --svg windows.svg\n\n\
-        Exit status: 0 done, 1 refused (the message has the number of the reason),\n  \
-        2 wrong command line, 3 files, 130 stopped by Ctrl-C."
+    // help2man makes sections of the manual page of the two.
+    after_help = "Examples:\n  \
+        wilfnusk example season                            a plan to start from\n  \
+        wilfnusk sweep season/plan.toml --svg windows.svg  its windows, and a picture of them\n\n\
+        Exit status:\n  \
+        0    done\n  \
+        1    refused; the message has the number of the reason\n  \
+        2    wrong command line\n  \
+        3    files\n  \
+        130  stopped by Ctrl-C or a signal"
 )]
 struct Cli {
     #[command(subcommand)]
@@ -65,11 +73,13 @@ enum Command {
     Regard(look::Regard),
     /// Put the lines of several journals of one plan into a new one
     Merge(merge::Merge),
-    /// Write a plan to start from: a day of a telescope in low orbit
+    /// Write a plan to start from: ninety days of a telescope in low orbit
     Example {
         /// Folder for plan.toml, targets.csv and ephemeris.csv
         folder: PathBuf,
     },
+    /// Print what completes this program's command lines in a shell
+    Completions { shell: clap_complete::Shell },
 }
 
 /// A plan and its journal.
@@ -157,7 +167,15 @@ fn run(command: Command) -> Result<(), Fault> {
             let plan = folder.join("plan.toml");
             say(format_args!("wrote {}, targets.csv and ephemeris.csv\nnext: wilfnusk sweep {}", plan.display(), plan.display()))
         }
+        Command::Completions { shell } => io::stdout().write_all(&completions(shell)).map_err(Fault::output),
     }
+}
+
+/// What a shell reads to complete our command lines. In memory first, as clap's crate panics where it cannot write.
+fn completions(shell: clap_complete::Shell) -> Vec<u8> {
+    let mut text = Vec::new();
+    clap_complete::generate(shell, &mut Cli::command(), "wilfnusk", &mut text);
+    text
 }
 
 /// Prints a line.
@@ -172,5 +190,25 @@ fn main() {
             tell!("wilfnusk: {}", text);
         }
         exit(fault.status());
+    }
+}
+
+#[cfg(test)]
+mod tests {
+    use super::*;
+    use clap::ValueEnum;
+
+    #[test]
+    fn the_command_line_is_well_formed() {
+        Cli::command().debug_assert();
+    }
+    #[test]
+    fn each_shell_completes_each_command() {
+        for &shell in clap_complete::Shell::value_variants() {
+            let text = String::from_utf8(completions(shell)).unwrap();
+            for command in Cli::command().get_subcommands() {
+                assert!(text.contains(command.get_name()), "{}: {}", shell, command.get_name());
+            }
+        }
     }
 }

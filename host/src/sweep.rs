@@ -10,6 +10,7 @@ use crate::{
     progress::Progress,
     stop,
     text::{grouped, ranges},
+    tolerance::nothing_violated,
     Files, Outputs,
 };
 use clap::Args;
@@ -82,6 +83,9 @@ impl Sweep {
     pub fn run(&self) -> Result<(), Fault> {
         let (plan, path) = self.files.read()?;
         let asked = self.asked(&plan)?;
+        if let Some(text) = nothing_violated(&plan) {
+            tell!("{}", text);
+        }
         stop::listen();
         let mut journal = Journal::open(&path, &plan, self.wait, self.sync)?;
         start(&plan, &mut journal)?;

@@ -1,0 +1,90 @@
+//! Where roll 0 is and which way a roll turns, as docs/HOST.md and include/wilfnusk.h say it: by right ascension and declination, not by the
+//! library's own axes.
+use proptest::prelude::*;
+use std::{fs, process::Command};
+use wilfnusk::{cell, circular_diff_deg, OptimalRoll};
+
+type Vector = [f64; 3];
+
+fn dot(a: Vector, b: Vector) -> f64 {
+    (0..3).map(|k| a[k] * b[k]).sum()
+}
+/// a·u + b·v
+fn mix(a: f64, u: Vector, b: f64, v: Vector) -> Vector {
+    [0, 1, 2].map(|k| a * u[k] + b * v[k])
+}
+/// The direction of a right ascension and declination, and there the directions east and north.
+fn sky(ra: f64, dec: f64) -> [Vector; 3] {
+    let ((sr, cr), (sd, cd)) = (ra.to_radians().sin_cos(), dec.to_radians().sin_cos());
+    [[cd * cr, cd * sr, sd], [-sr, cr, 0.0], [-sd * cr, -sd * sr, cd]]
+}
+fn roll(target: Vector, sun: Vector, panel: Vector) -> f64 {
+    match cell(target, sun, [0.0; 3], panel) {
+        Ok(OptimalRoll::At(roll)) => roll,
+        other => panic!("{:?}", other),
+    }
+}
+
+#[test]
+fn the_numbers_of_the_document() {
+    let (x, y, z) = ([1.0, 0.0, 0.0], [0.0, 1.0, 0.0], [0.0, 0.0, 1.0]);
+    let minus = |v: Vector| v.map(|k| -k);
+    let sun_30 = [0.0, 0.75f64.sqrt(), 0.5];
+    for (target, sun, panel, expected) in [
+        (x, y, y, 0.0),
+        (x, sun_30, y, 30.0),
+        (x, z, y, 90.0),
+        (x, minus(y), y, 180.0),
+        (x, minus(z), y, -90.0),
+        (x, sun_30, z, -60.0),
+        (x, sun_30, [5.0, 0.0, 2.0], -60.0),
+        (y, minus(x), y, 0.0),
+        // At the poles Y takes north's place.
+        (z, x, y, 0.0),
+        (z, y, y, 90.0),
+        (minus(z), minus(x), y, 0.0),
+        (minus(z), y, y, 90.0),
+    ] {
+        let found = roll(target, sun, panel);
+        assert!(circular_diff_deg(found, expected) < 1e-9, "{:?} {:?} {:?}: {}", target, sun, panel, found);
+    }
+}
+
+#[test]
+fn the_program_turns_so() {
+    let folder = tempfile::tempdir().unwrap();
+    let put = |name: &str, text: &str| fs::write(folder.path().join(name), text).unwrap();
+    put("t.csv", "name,x,y,z\nA,1,0,0\n");
+    put("e.csv", "time,sun_x,sun_y,sun_z,observer_x,observer_y,observer_z\n2026-03-20T00:00:00Z,7000,866025403.784,500000000,7000,0,0\n");
+    put("plan.toml", "targets = \"t.csv\"\nephemeris = \"e.csv\"\nrolls = 24\ntolerance = 0.001\n");
+    for (roll, mask) in [("30", "0 A\n"), ("29", "1 A\n"), ("31", "1 A\n"), ("-30", "1 A\n"), ("390", "0 A\n")] {
+        let out = Command::new(env!("CARGO_BIN_EXE_wilfnusk"))
+            .args(["mask", "--fixed-roll", roll])
+            .arg(folder.path().join("plan.toml"))
+            .output()
+            .unwrap();
+        assert_eq!(String::from_utf8(out.stdout).unwrap(), mask, "{}", roll);
+    }
+}
+
+proptest! {
+    /// At the optimal roll the panel's normal, across the boresight, points where the Sun is, if roll 0 has y east and z north and a roll
+    /// turns y toward z.
+    #[test]
+    fn the_panel_faces_the_sun(
+        (ra, dec) in (0.0..360.0, -89.0..89.0),
+        (sun_ra, sun_dec) in (0.0..360.0, -89.0..89.0),
+        panel in [-1.0..1.0f64, -1.0..1.0, -1.0..1.0],
+    ) {
+        let ([target, east, north], [sun, ..]) = (sky(ra, dec), sky(sun_ra, sun_dec));
+        prop_assume!(dot(target, sun).abs() < 0.9999 && panel[1].hypot(panel[2]) > 0.01);
+        let (s, c) = roll(target, sun, panel).to_radians().sin_cos();
+        let (y, z) = (mix(c, east, s, north), mix(c, north, -s, east));
+        let normal = mix(panel[1], y, panel[2], z);
+        let angle = |v: Vector| dot(v, north).atan2(dot(v, east)).to_degrees();
+        prop_assert!(circular_diff_deg(angle(normal), angle(sun)) < 1e-6);
+        // The position angle of z, from north through east, is minus the roll.
+        let position_angle = dot(z, east).atan2(dot(z, north)).to_degrees();
+        prop_assert!(circular_diff_deg(position_angle, -roll(target, sun, panel)) < 1e-6);
+    }
+}
