@@ -4,11 +4,20 @@ use crate::{
     engine::{self, Refusal, CHUNK_CELLS, HEADER_BYTES, LINE_BYTES},
     fault::Fault,
     instant,
-    journal::{chunk_of, hex},
+    journal::{chunk_of, hex, lines},
     plan::Plan,
-    text::grouped,
+    text::{grouped, quoted},
 };
-use std::path::Path;
+use std::path::{Path, PathBuf};
+
+/// A command on a plan and its journal, as a shell takes it.
+pub fn command(verb: &str, plan: &Plan, journal: &Path) -> String {
+    let mut words = format!("wilfnusk {} {}", verb, quoted(plan.path()));
+    if journal != plan.journal() {
+        words += &format!(" --journal {}", quoted(journal));
+    }
+    words
+}
 
 /// A refusal of the plan, or of a call that found nothing wrong with the journal.
 pub fn plan(plan: &Plan, refusal: Refusal) -> Fault {
@@ -61,11 +70,11 @@ pub fn journal(p: &Plan, path: &Path, bytes: &[u8], refusal: Refusal) -> Fault {
         15 => Fault::Refused(
             15,
             format!(
-                "{}: {} of {} chunks have a line; `wilfnusk sweep {}` works out the rest",
+                "{}: {} of {} chunks have a line; `{}` works out the rest",
                 path.display(),
                 grouped(done()),
                 grouped(p.chunks()),
-                p.path().display()
+                command("sweep", p, path)
             ),
         ),
         _ => plan(p, refusal),
@@ -82,15 +91,13 @@ fn damage(plan: &Plan, path: &Path, bytes: &[u8]) -> String {
         return format!("{}: the header is not this plan's; nothing was changed\n{}", path.display(), header_faults(&header, bytes));
     }
     let mut seen = vec![None; plan.chunks()];
-    let faults: Vec<_> = crate::journal::lines(bytes)
-        .enumerate()
-        .filter_map(|(i, line)| line_fault(plan, line, i, &mut seen).map(|fault| (i, fault)))
-        .collect();
-    let right = faults.first().map_or(0, |(i, _)| *i);
+    let faults: Vec<_> =
+        lines(bytes).enumerate().filter_map(|(i, line)| line_fault(plan, line, i, &mut seen).map(|fault| (i, fault))).collect();
     let mut text = format!(
-        "{}: {} of its lines {} not right; nothing was changed",
+        "{}: {} of its {} lines {} not right; nothing was changed",
         path.display(),
         grouped(faults.len()),
+        grouped(lines(bytes).count()),
         if faults.len() == 1 { "is" } else { "are" }
     );
     for (i, (column, fault)) in faults.iter().take(TOLD) {
@@ -99,13 +106,42 @@ fn damage(plan: &Plan, path: &Path, bytes: &[u8]) -> String {
     if faults.len() > TOLD {
         text += &format!("\n  and {} more", grouped(faults.len() - TOLD));
     }
-    text + &format!(
-        "\nAll before line {} is right. To go on from there, keep a copy and shorten:\n  \
-         cp {path} {path}.damaged && truncate -s {keep} {path}",
-        right + 2,
-        path = path.display(),
-        keep = HEADER_BYTES as usize + right * LINE_BYTES as usize,
-    )
+    if faults.len() == lines(bytes).count() {
+        return text + "\nTo go on, sweep into another journal with --journal";
+    }
+    text += "\nThe other lines are right and need not be lost: a salvage that keeps them is to come.";
+    match left_out(bytes, &faults) {
+        Some(script) => {
+            let (path, copy) = (quoted(path), quoted(&with_suffix(path, ".damaged")));
+            text + &format!(" By hand, with a copy:\n  cp {path} {copy} && sed '{script}' {copy} > {path}")
+        }
+        None => text + " Until then, sweep into another journal with --journal",
+    }
+}
+
+/// How many runs of wrong lines are left out by hand.
+const BY_HAND: usize = 20;
+
+/// The script that makes sed leave out the wrong lines, where the ends of the lines are right, so that sed sees the lines that we do.
+fn left_out(bytes: &[u8], faults: &[(usize, (usize, String))]) -> Option<String> {
+    if lines(bytes).any(|line| line.iter().position(|&b| b == b'\n') != Some(line.len() - 1)) {
+        return None;
+    }
+    let mut runs: Vec<(usize, usize)> = Vec::new();
+    for number in faults.iter().map(|(i, _)| i + 2) {
+        match runs.last_mut() {
+            Some((_, last)) if *last + 1 == number => *last = number,
+            _ => runs.push((number, number)),
+        }
+    }
+    let script: Vec<_> = runs.iter().map(|(a, b)| if a == b { format!("{}d", a) } else { format!("{},{}d", a, b) }).collect();
+    Some(script.join(";")).filter(|_| runs.len() <= BY_HAND)
+}
+
+fn with_suffix(path: &Path, suffix: &str) -> PathBuf {
+    let mut name = path.as_os_str().to_owned();
+    name.push(suffix);
+    name.into()
 }
 
 /// The header's fields and their widths, in digits.

@@ -6,6 +6,7 @@
 #[macro_use]
 mod text;
 
+mod check;
 mod digest;
 mod engine;
 mod example;
@@ -39,9 +40,9 @@ use std::{
     name = "wilfnusk",
     version,
     about = "Sweeps a plan of targets over rolls and lists when each may be looked at. The sweep is kept in a journal: \
-        a power cut costs at most the line being written, and the same command goes on.",
+        the same command goes on after a power cut, which costs at most the lines being written, those of up to 64 chunks.",
     after_help = "Start with:\n  wilfnusk example day\n  wilfnusk sweep day/plan.toml --svg windows.svg\n\n\
-        Exit status: 0 done, 1 refused (the message has the number of the reason),\n  \
+        Exit status: 0 done, 1 refused (the message has the number of the reason) or a line that differs,\n  \
         2 wrong command line, 3 files, 130 stopped by Ctrl-C."
 )]
 struct Cli {
@@ -58,7 +59,7 @@ enum Command {
     /// Show how far a sweep is
     Status(look::Status),
     /// Check a plan and its journal, and explain what is refused
-    Check(look::Status),
+    Check(check::Check),
     /// Print the sweep's mask, or the mask at one roll
     Mask(look::Mask),
     /// Print each target's mark at one time
@@ -145,14 +146,14 @@ fn run(command: Command) -> Result<(), Fault> {
         Command::Sweep(c) => c.run(),
         Command::Windows(c) => c.run(),
         Command::Status(c) => c.status(),
-        Command::Check(c) => c.check(),
+        Command::Check(c) => c.run(),
         Command::Mask(c) => c.run(),
         Command::Regard(c) => c.run(),
         Command::Merge(c) => c.run(),
         Command::Example { folder } => {
             example::write(&folder)?;
             let plan = folder.join("plan.toml");
-            say(format_args!("wrote {}, targets.csv and ephemeris.csv\nnext: wilfnusk sweep {}", plan.display(), plan.display()))
+            say(format_args!("wrote {}, targets.csv and ephemeris.csv\nnext: wilfnusk sweep {}", plan.display(), text::quoted(&plan)))
         }
     }
 }
