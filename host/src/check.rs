@@ -147,3 +147,48 @@ fn worked_out(plan: &Plan, chunks: &[u64]) -> Result<Vec<u8>, engine::Refusal> {
     }
     Ok(journal)
 }
+
+#[cfg(test)]
+mod tests {
+    use super::*;
+    use crate::plan::tests::small;
+    use proptest::prelude::*;
+
+    fn again(sample: Option<usize>, seed: Option<u32>) -> Again {
+        Again { recompute: true, sample, seed }
+    }
+
+    proptest! {
+        #![proptest_config(ProptestConfig::with_cases(32))]
+        #[test]
+        fn any_lines_in_any_order_are_worked_out_again(order in Just((0..5u64).collect::<Vec<_>>()).prop_shuffle(), count in 0usize..=5, wrong in 0usize..5) {
+            let plan = small();
+            let mut journal = engine::header(&plan).unwrap();
+            for &chunk in &order[..count] {
+                let used = journal.len();
+                journal.resize(used + LINE_BYTES as usize, 0);
+                engine::work(&plan, chunk..chunk + 1, &mut journal, used).unwrap();
+            }
+            let held = again(None, None).hold(&plan, Path::new("j"), &journal).unwrap();
+            prop_assert_eq!(same(&held).unwrap(), vec![format!("j: {} lines worked out again: each is the same", count)]);
+            if wrong < count {
+                let at = HEADER_BYTES as usize + wrong * LINE_BYTES as usize + 31;
+                journal[at] = if journal[at] == b'0' { b'1' } else { b'0' };
+                let fault = same(&again(None, None).hold(&plan, Path::new("j"), &journal).unwrap()).unwrap_err();
+                let named = format!("and 1 is not the same; nothing was changed\n  line {}, chunk {}: ", wrong + 2, order[wrong]);
+                prop_assert!(fault.status() == 1 && fault.to_string().contains(&named), "{}", fault);
+            }
+        }
+    }
+    #[test]
+    fn a_sample_is_drawn_once_a_line_and_again_by_its_seed() {
+        let plan = small();
+        let mut journal = worked_out(&plan, &[0, 1, 2, 3, 4]).unwrap();
+        let lasts = (0..5).map(|i| HEADER_BYTES as usize + i * LINE_BYTES as usize + 31);
+        lasts.for_each(|at| journal[at] = if journal[at] == b'0' { b'1' } else { b'0' });
+        let drawn = |seed| again(Some(3), Some(seed)).hold(&plan, Path::new("j"), &journal).unwrap().remove(0).differ;
+        assert!((0..20).all(|seed| drawn(seed).len() == 3 && drawn(seed) == drawn(seed)));
+        assert!((1..20).any(|seed| drawn(seed) != drawn(0)));
+        assert_eq!(again(Some(9), None).hold(&plan, Path::new("j"), &journal).unwrap()[0].differ.len(), 5);
+    }
+}

@@ -219,3 +219,70 @@ fn line_fault(plan: &Plan, line: &[u8], number: usize, seen: &mut [Option<usize>
     }
     None
 }
+
+#[cfg(test)]
+mod tests {
+    use super::*;
+    use crate::plan::tests::small;
+
+    /// What is said of the plan's whole journal after this change.
+    fn said(change: impl Fn(&mut Vec<u8>)) -> String {
+        let plan = small();
+        let mut bytes = engine::header(&plan).unwrap();
+        let header = bytes.len();
+        bytes.resize(header + LINE_BYTES as usize * plan.chunks(), 0);
+        engine::work(&plan, 0..plan.chunks() as u64, &mut bytes, header).unwrap();
+        change(&mut bytes);
+        let refusal = engine::recover(&plan, &bytes).unwrap_err();
+        let fault = journal(&plan, Path::new("a b"), &bytes, refusal);
+        assert_eq!(fault.status(), 1);
+        fault.to_string()
+    }
+    fn at(line: usize) -> usize {
+        HEADER_BYTES as usize + (line - 2) * LINE_BYTES as usize
+    }
+
+    #[test]
+    fn a_wrong_header_is_told_by_field() {
+        assert!(said(|j| j[23] ^= 1).contains("line 1, column 17: rolls reads 00000009 (9); this plan's is 00000008 (8)"));
+        assert!(said(|j| j[30] = b'G').contains("line 1, column 31: byte 0x47; allowed: 0 to 9 and a to f"));
+        assert!(said(|j| j[106] = b' ').contains("line 1, column 107: byte 0x20; allowed: 0x0a"));
+        assert!(!said(|j| j[23] ^= 1).contains("salvage"));
+    }
+    #[test]
+    fn wrong_lines_are_told_and_left_out_by_hand() {
+        let one = said(|j| j[at(4)] = b'f');
+        assert!(one.contains("'a b'") && !one.contains(" a b "), "{}", one);
+        assert!(
+            one.contains("1 of its 5 lines is not right") && one.contains("\n  line 4, column 1: chunk 4026531842; allowed: below 5"),
+            "{}",
+            one
+        );
+        assert!(one.ends_with("cp 'a b' 'a b.damaged' && sed '4d' 'a b.damaged' > 'a b'"), "{}", one);
+        let several = said(|j| [2, 3, 5, 6].into_iter().for_each(|line| j[at(line) + 31] = b'-'));
+        assert!(several.contains("4 of its 5 lines are") && several.ends_with("sed '2,3d;5,6d' 'a b.damaged' > 'a b'"), "{}", several);
+        // The last line's spare bits, and more probes than rolls.
+        assert!(said(|j| j[at(6) + 8] = b'1').contains("line 6, column 9: mask 1"));
+        assert!(said(|j| j[at(2) + 24] = b'1').contains("line 2, column 25: 2684"));
+        assert!(said(|j| j.extend_from_within(at(2)..at(3))).contains("line 7, column 1: chunk 0 again, which line 2 has"));
+    }
+    #[test]
+    fn no_advice_that_would_lose_or_keep_a_wrong_line() {
+        let removed = said(|j| {
+            j.remove(at(4) - 1);
+        });
+        for lost_end in [removed, said(|j| j[at(3) - 1] = b' '), said(|j| j[at(3) + 4] = b'\n')] {
+            assert!(lost_end.contains("salvage") && !lost_end.contains("sed '") && lost_end.contains("--journal"), "{}", lost_end);
+        }
+        let all = said(|j| (2..7).for_each(|line| j[at(line)] = b'f'));
+        assert!(all.contains("5 of its 5 lines are") && !all.contains("salvage") && all.contains("--journal"), "{}", all);
+        assert!(said(|j| j[at(2)..].fill(0)).contains("33 zero bytes"));
+    }
+    #[test]
+    fn commands_as_a_shell_takes_them() {
+        let plan = small();
+        let own = plan.journal();
+        assert_eq!(command("sweep", &plan, &own), format!("wilfnusk sweep {}", plan.path().display()));
+        assert!(command("check", &plan, Path::new("it's")).ends_with(r"plan.toml --journal 'it'\''s'"));
+    }
+}

@@ -224,3 +224,103 @@ pub fn done(journal: &[u8], chunks: usize) -> Vec<bool> {
     }
     done
 }
+
+#[cfg(test)]
+mod tests {
+    use super::*;
+    use crate::{engine, plan::tests::small};
+
+    fn begun(folder: &Path) -> Journal {
+        let plan = small();
+        let mut journal = Journal::open(&folder.join("j"), &plan, false).unwrap();
+        let upto = engine::begin(&plan, &mut journal.bytes).unwrap();
+        journal.append(upto).unwrap();
+        journal
+    }
+    fn fault_after(change: impl Fn(&Path)) -> String {
+        let folder = tempfile::tempdir().unwrap();
+        let mut journal = begun(folder.path());
+        let used = journal.used;
+        let upto = engine::work(&small(), 0..2, &mut journal.bytes, used).unwrap();
+        change(&journal.path);
+        let fault = journal.append(upto).unwrap_err();
+        assert_eq!((fault.status(), journal.used), (3, used));
+        fault.to_string()
+    }
+
+    #[test]
+    fn a_range_is_written_at_the_end_and_read_again() {
+        let folder = tempfile::tempdir().unwrap();
+        let mut journal = begun(folder.path());
+        for range in [0..2, 3..4, 2..3] {
+            let used = journal.used;
+            let upto = engine::work(&small(), range, &mut journal.bytes, used).unwrap();
+            journal.append(upto).unwrap();
+        }
+        journal.as_left().unwrap();
+        let (path, bytes) = (journal.path.clone(), journal.used().to_vec());
+        drop(journal);
+        assert_eq!(look(&path).unwrap(), bytes);
+        let mut journal = Journal::open(&path, &small(), false).unwrap();
+        assert_eq!((journal.used(), journal.bytes.len()), (&bytes[..], HEADER_BYTES as usize + LINE_BYTES as usize * small().chunks()));
+        assert_eq!(done(journal.used(), 5), [true, true, true, true, false]);
+        journal.shorten(HEADER_BYTES as usize).unwrap();
+        assert_eq!(look(&path).unwrap(), &bytes[..HEADER_BYTES as usize]);
+    }
+    #[test]
+    fn what_others_do_to_the_file_is_noticed() {
+        let away = |path: &Path| path.with_extension("away");
+        assert!(fault_after(|j| fs::remove_file(j).unwrap()).contains("was removed"));
+        assert!(fault_after(|j| fs::rename(j, away(j)).unwrap()).contains("was renamed or replaced"));
+        let replace = |j: &Path| {
+            fs::copy(j, away(j)).unwrap();
+            fs::rename(away(j), j).unwrap();
+        };
+        // A second name keeps the file, as a rename does.
+        let replaced_by_copy = fault_after(|j| {
+            fs::hard_link(j, j.with_extension("second")).unwrap();
+            replace(j);
+        });
+        assert!(replaced_by_copy.contains("was renamed or replaced"));
+        assert!(fault_after(|j| OpenOptions::new().append(true).open(j).unwrap().write_all(b"x").unwrap())
+            .contains("another program writes it"));
+        assert!(fault_after(|j| OpenOptions::new().write(true).open(j).unwrap().set_len(7).unwrap()).contains("has 7 bytes"));
+    }
+    #[test]
+    fn one_process_at_a_time() {
+        let folder = tempfile::tempdir().unwrap();
+        let journal = begun(folder.path());
+        assert!(is_locked(&journal.path));
+        let second = Journal::open(&journal.path, &small(), false).err().unwrap();
+        assert!(second.to_string().contains("another process sweeps into it"));
+        let path = journal.path.clone();
+        drop(journal);
+        assert!(!is_locked(&path));
+    }
+    #[test]
+    fn through_a_link_that_leads_nowhere_yet() {
+        let folder = tempfile::tempdir().unwrap();
+        fs::create_dir(folder.path().join("disk")).unwrap();
+        std::os::unix::fs::symlink("disk/real", folder.path().join("j")).unwrap();
+        begun(folder.path());
+        assert_eq!(fs::read(folder.path().join("disk/real")).unwrap().len() as u64, HEADER_BYTES);
+    }
+    #[test]
+    fn what_is_no_plain_file() {
+        let folder = tempfile::tempdir().unwrap();
+        for (path, says) in [(folder.path(), "a folder"), (Path::new("/dev/zero"), "a device")] {
+            assert!(look(path).unwrap_err().to_string().contains(says));
+            assert!(Journal::open(path, &small(), false).err().unwrap().to_string().contains(says));
+        }
+        let path = folder.path().join("large");
+        File::create(&path).unwrap().set_len(MOST + 1).unwrap();
+        assert!(look(&path).unwrap_err().to_string().contains("16777217 bytes; allowed: at most 16777216"));
+    }
+    #[test]
+    fn fields() {
+        assert_eq!((hex(b"0fa9"), hex(b""), hex(b"0F"), hex(b"g")), (Some(0xfa9), Some(0), None, None));
+        assert_eq!((chunk_of(b"0000001f.."), chunk_of(b"0000001")), (Some(31), None));
+        assert_eq!(lines(&[0; 106]).count(), 0);
+        assert_eq!(lines(&[0; 107 + 2 * 33 + 32]).count(), 2);
+    }
+}

@@ -113,3 +113,51 @@ fn united(plan: &Plan, parts: &[(&Path, Vec<u8>)], told: &mut Vec<String>) -> Re
     }
     Ok(merged)
 }
+
+#[cfg(test)]
+mod tests {
+    use super::*;
+    use crate::{engine::LINE_BYTES, plan::tests::small};
+
+    fn journal(chunks: &[u64]) -> Vec<u8> {
+        let plan = small();
+        let mut journal = engine::header(&plan).unwrap();
+        for &chunk in chunks {
+            let used = journal.len();
+            journal.resize(used + LINE_BYTES as usize, 0);
+            engine::work(&plan, chunk..chunk + 1, &mut journal, used).unwrap();
+        }
+        journal
+    }
+    fn merge(parts: &[&[u64]]) -> (Vec<u8>, Vec<String>) {
+        let parts: Vec<_> = parts.iter().map(|chunks| (Path::new("j"), journal(chunks))).collect();
+        let mut told = Vec::new();
+        (united(&small(), &parts, &mut told).unwrap(), told)
+    }
+
+    #[test]
+    fn each_line_once_in_the_order_in_which_they_come() {
+        let (merged, told) = merge(&[&[3, 1], &[], &[1, 0, 3], &[4, 2]]);
+        assert_eq!(merged, journal(&[3, 1, 0, 4, 2]));
+        assert_eq!(
+            told,
+            ["j: 2 lines, 2 of them new", "j: 0 lines, 0 of them new", "j: 3 lines, 1 of them new", "j: 2 lines, 2 of them new"]
+        );
+        assert_eq!(merge(&[]).0, journal(&[]));
+        // A journal that was not even begun adds nothing.
+        assert_eq!(united(&small(), &[(Path::new("j"), Vec::new())], &mut Vec::new()).unwrap(), journal(&[]));
+    }
+    #[test]
+    fn two_lines_of_a_chunk_name_both_journals() {
+        let mut other = journal(&[2, 1]);
+        let last = other.len() - 2;
+        other[last] = b'x';
+        let parts = [(Path::new("a"), journal(&[0, 1])), (Path::new("b"), other)];
+        let fault = united(&small(), &parts, &mut Vec::new()).unwrap_err().to_string();
+        assert!(
+            fault.starts_with("chunk 1 has two different lines") && fault.contains(" in a, line 3\n") && fault.ends_with("x in b, line 3"),
+            "{}",
+            fault
+        );
+    }
+}
