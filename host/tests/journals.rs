@@ -140,6 +140,7 @@ fn equal_digests_are_kept() {
     // Journals without a line, with another digest, with none, and not even begun.
     folder.done("sweep other.toml -q --journal bare.journal --chunks 0..0");
     assert_eq!(folder.read("bare.journal").len(), HEADER);
+    assert!(!folder.done("check plan.toml --journal bare.journal").stdout.contains("are those it was begun with"));
     folder.write("cut.journal", &folder.read("part1.journal")[..HEADER + LINE - 1]);
     folder.write("empty.journal", "");
     folder.write("all.journal.plan", folder.read("bare.journal.plan"));
