@@ -2,7 +2,7 @@
 # A sweep as a Slurm job array, an array task a part. A task that is killed or requeued goes on where it was.
 #
 #   sbatch --array=1-20 slurm-array.sh plan.toml
-#   wilfnusk merge plan.part*.journal -o plan.journal && wilfnusk sweep plan.toml --svg windows.svg
+#   wilfnusk merge plan.toml plan.part*.journal -o plan.journal && wilfnusk sweep plan.toml --svg windows.svg
 #
 #SBATCH --job-name=roll-sweep
 #SBATCH --ntasks=1

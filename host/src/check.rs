@@ -44,7 +44,11 @@ pub struct Again {
 impl Check {
     pub fn run(&self) -> Result<(), Fault> {
         let (plan, path) = self.files.read()?;
-        say(about(&plan))?;
+        // The digest is written though nobody reads what is said.
+        let said = say(about(&plan));
+        if !self.write_digest {
+            said?;
+        }
         if !path.exists() {
             return say(format_args!("accepted; {} is not begun", path.display()));
         }
@@ -56,15 +60,16 @@ impl Check {
         };
         let keep = engine::recover(&plan, &bytes).map_err(|r| explain::journal(&plan, &path, &bytes, r))?;
         let has_lines = keep > HEADER_BYTES as usize;
-        // A digest that is missing is told, unless it is about to be written.
-        let known = has_lines && if self.write_digest { is_known(&plan, &path)? } else { same_plan(&plan, &path)? };
-        for sentence in same(&self.again.hold(&plan, &path, &bytes)?)? {
-            say(sentence)?;
-        }
-        if self.write_digest && has_lines && !known {
+        let known = has_lines && if self.again.recompute { is_known(&plan, &path)? } else { same_plan(&plan, &path)? };
+        let sentences = same(&self.again.hold(&plan, &path, &bytes)?)?;
+        let digest = Digest::path(&path);
+        if has_lines && !known && self.write_digest {
             Digest::of(&plan).write(&path)?;
-            tell!("wrote {}", Digest::path(&path).display());
+            tell!("wrote {}", digest.display());
+        } else if has_lines && !known && self.again.recompute {
+            tell!("warning: {} is missing; --recompute --write-digest writes it if every line is the same", digest.display());
         }
+        sentences.into_iter().try_for_each(say)?;
         let known = if known { ", and the files are those it was begun with" } else { "" };
         say(format_args!("accepted; {} is right{}", path.display(), known))
     }

@@ -235,6 +235,12 @@ fn a_digest_is_written_when_asked_for_and_every_line_is_the_same() {
     let checked = folder.done("check plan.toml --recompute --write-digest");
     assert_eq!(checked.stderr, "wrote plan.journal.plan\n");
     assert_eq!(folder.read("plan.journal.plan"), digest);
+    // Nobody reads what it says.
+    folder.remove("plan.journal.plan");
+    let mut child = folder.command("check plan.toml --recompute --write-digest").spawn().unwrap();
+    drop(child.stdout.take());
+    assert_eq!(ended(child).status, Some(0));
+    assert_eq!(folder.read("plan.journal.plan"), digest);
 }
 
 #[test]
