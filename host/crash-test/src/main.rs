@@ -110,6 +110,9 @@ fn run(folder: &Path, seconds: u64, seed: u64) -> Tally {
     done("every byte of the digest".into());
     cuts::every_call(&fixed, &at("calls"), &mut seeded, &mut tally);
     done(format!("every system call: {} of them; {} cuts took bytes that were not synced", tally.calls, tally.unsynced));
+    let before = tally.calls;
+    split::every_call_of_merge(&four, &at("merge"), &mut tally);
+    done(format!("every system call of a merge: {} of them", tally.calls - before));
     damage::all(&four, &at("damage"), &mut seeded, &mut tally);
     done(format!("damage: {} journals", tally.damaged));
     for what in trouble::all(&four, &at("trouble")) {

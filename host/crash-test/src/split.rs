@@ -3,6 +3,7 @@ use crate::{
     case::Case,
     cuts::{pause, whole},
     machine::{ended, program, sweep_words, Machine},
+    trace::{run_to, Stop},
     Tally,
 };
 use cases::Seeded;
@@ -96,6 +97,46 @@ fn merged(case: &Case, folder: &Path, all: &[Machine], tally: &mut Tally) {
     assert!(ended.status == 1 && ended.stderr.contains(&says) && ended.stderr.contains(&line), "{}", ended.stderr);
     assert!(!target.folder.join("never.journal").exists());
     tally.splits += 1;
+}
+
+/// The power fails on entry to each system call of a merge: the new journal is there whole or not at all, and a digest stands beside it only
+/// if every part had one, though another stood there before.
+pub fn every_call_of_merge(case: &Case, folder: &Path, tally: &mut Tally) {
+    let machine = Machine::new(case, folder);
+    let file = |name: &str| machine.folder.join(name);
+    for part in ["1", "2"] {
+        let journal = format!("part{}.journal", part);
+        let ended = machine.run(&["sweep", "plan.toml", "--quiet", "--journal", &journal, "--part", &format!("{}/2", part)]);
+        assert_eq!(ended.status, 0, "{}", ended.stderr);
+    }
+    let digest = fs::read_to_string(file("part1.journal.plan")).unwrap();
+    // Another plan's digest: the first digit of the settings' is another.
+    let at = digest.find("settings ").unwrap() + "settings ".len();
+    let other = [&digest[..at], if &digest[at..=at] == "0" { "1" } else { "0" }, &digest[at + 1..]].concat();
+    let whole = [&case.sweep.header[..], &case.sweep.lines.concat()].concat();
+    for all_known in [true, false] {
+        if !all_known {
+            fs::remove_file(file("part2.journal.plan")).unwrap();
+        }
+        for number in 1.. {
+            let _ = fs::remove_file(file("all.journal"));
+            fs::write(file("all.journal.plan"), if all_known { &other } else { &digest }).unwrap();
+            let words = ["merge", "plan.toml", "part1.journal", "part2.journal", "-o", "all.journal"];
+            let killed = run_to(&machine, &words, Stop::Call(number), 0).killed;
+            if file("all.journal").exists() {
+                assert!(fs::read(file("all.journal")).unwrap() == whole, "a part of the merged journal");
+                let beside = fs::read_to_string(file("all.journal.plan")).ok();
+                assert!(beside.as_ref() == Some(&digest).filter(|_| all_known), "a digest that speaks for other lines");
+            } else {
+                assert!(killed, "no merged journal");
+            }
+            tally.cuts += killed as u64;
+            if !killed {
+                break;
+            }
+            tally.calls += 1;
+        }
+    }
 }
 
 /// The journal with one line that is another and still right: as many of its cells are marked.

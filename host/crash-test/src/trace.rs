@@ -172,8 +172,9 @@ struct Watch {
     known: BTreeSet<PathBuf>,
     /// Files with bytes that were not synced.
     unsynced: BTreeSet<PathBuf>,
-    /// Whether names were made, changed or taken away since the folder was synced.
-    names: bool,
+    /// Whether names were made, and whether names were changed or taken away, since the folder was synced.
+    made: bool,
+    changed: bool,
     /// Whether the write before was cut short, so that the next one goes on with it.
     short: bool,
     durable: usize,
@@ -190,7 +191,19 @@ impl Watch {
         // The program cannot know whether what it finds was ever synced.
         let found = known.contains(&journal);
         let unsynced = Some(journal.clone()).filter(|_| found && !machine.journal().is_empty()).into_iter().collect();
-        Watch { folder, journal, known, unsynced, names: found, short: false, durable, writes: 0, syncs: 0, faults: Vec::new() }
+        Watch {
+            folder,
+            journal,
+            known,
+            unsynced,
+            made: found,
+            changed: false,
+            short: false,
+            durable,
+            writes: 0,
+            syncs: 0,
+            faults: Vec::new(),
+        }
     }
     fn ours(&self, file: &Path) -> bool {
         file.parent() == Some(&self.folder)
@@ -199,7 +212,7 @@ impl Watch {
     fn lasts(&mut self, when: &str) {
         let mut left: Vec<_> =
             self.unsynced.iter().map(|file| format!("{}", file.file_name().unwrap_or_default().to_string_lossy())).collect();
-        left.extend(Some("the names in its folder".to_owned()).filter(|_| self.names));
+        left.extend(Some("the names in its folder".to_owned()).filter(|_| self.made || self.changed));
         if !left.is_empty() {
             self.faults.push(format!("{}, and not synced: {}", when, left.join(", ")));
         }
@@ -214,11 +227,11 @@ impl Watch {
         }
         self.syncs += syncs(call.kind) as u64;
         match call.kind {
-            // A file that gets its name has its bytes.
+            // A file that gets its name has its bytes, and the names before it last; only the name that it had may be new.
             libc::SYS_rename | libc::SYS_renameat | libc::SYS_renameat2 | libc::SYS_link | libc::SYS_linkat => {
-                let names = std::mem::replace(&mut self.names, false);
+                let made = std::mem::replace(&mut self.made, false);
                 self.lasts("a file is renamed");
-                self.names = names;
+                self.made = made;
             }
             libc::SYS_exit_group | libc::SYS_exit if call.arguments[0] == 0 => self.lasts("the program ends with status 0"),
             libc::SYS_clone | libc::SYS_clone3 | libc::SYS_fork | libc::SYS_vfork => {
@@ -240,7 +253,9 @@ impl Watch {
         }
         match call.kind {
             libc::SYS_fsync | libc::SYS_fdatasync => {
-                self.names &= call.file != self.folder;
+                if call.file == self.folder {
+                    (self.made, self.changed) = (false, false);
+                }
                 self.unsynced.remove(&call.file);
                 if call.file == self.journal {
                     self.durable = self.length();
@@ -249,11 +264,11 @@ impl Watch {
             libc::SYS_open | libc::SYS_openat | libc::SYS_openat2 | libc::SYS_creat => {
                 let file = linked(pid, answer as i32);
                 if self.ours(&file) {
-                    self.names |= self.known.insert(file);
+                    self.made |= self.known.insert(file);
                 }
             }
             kind if names(kind) => {
-                self.names = true;
+                self.changed = true;
                 self.known = fs::read_dir(&self.folder).unwrap().map(|entry| entry.unwrap().path()).collect();
             }
             _ => {}
