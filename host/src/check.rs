@@ -14,7 +14,7 @@ use crate::{
 };
 use clap::Args;
 use rand::{rngs::StdRng, seq::index, SeedableRng};
-use std::path::Path;
+use std::{num::NonZeroUsize, path::Path};
 
 #[derive(Args)]
 pub struct Check {
@@ -35,7 +35,7 @@ pub struct Again {
     recompute: bool,
     /// Only this many lines of a journal, drawn at random
     #[arg(long, value_name = "N", requires = "recompute")]
-    sample: Option<usize>,
+    sample: Option<NonZeroUsize>,
     /// Draw the lines that were drawn with this seed
     #[arg(long, requires = "sample")]
     seed: Option<u32>,
@@ -90,9 +90,9 @@ impl Again {
         }
         let count = lines(journal).count();
         let (mut numbers, how) = match self.sample {
-            Some(n) if n < count => {
+            Some(n) if n.get() < count => {
                 let seed = self.seed.unwrap_or_else(rand::random);
-                let drawn = index::sample(&mut StdRng::seed_from_u64(seed.into()), count, n).into_vec();
+                let drawn = index::sample(&mut StdRng::seed_from_u64(seed.into()), count, n.get()).into_vec();
                 (drawn, format!("{} of {} lines, drawn with --seed {},", grouped(n), grouped(count), seed))
             }
             _ => ((0..count).collect(), format!("{} lines", grouped(count))),
@@ -160,7 +160,7 @@ mod tests {
     use proptest::prelude::*;
 
     fn again(sample: Option<usize>, seed: Option<u32>) -> Again {
-        Again { recompute: true, sample, seed }
+        Again { recompute: true, sample: sample.and_then(NonZeroUsize::new), seed }
     }
 
     proptest! {

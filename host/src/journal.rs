@@ -103,9 +103,8 @@ fn is_named(path: &Path, file: &Metadata) -> bool {
 
 /// Makes the file's name last; where it is a link, also the name that it leads to.
 fn sync_name(path: &Path) -> io::Result<()> {
-    let real = fs::canonicalize(path)?;
     if fs::symlink_metadata(path)?.is_symlink() {
-        sync_folder(&real)?;
+        sync_folder(&fs::canonicalize(path)?)?;
     }
     sync_folder(path)
 }

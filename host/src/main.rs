@@ -42,8 +42,8 @@ use std::{
     about = "Sweeps a plan of targets over rolls and lists when each may be looked at. The sweep is kept in a journal: \
         the same command goes on after a power cut, which costs at most the lines being written, those of up to 64 chunks.",
     after_help = "Start with:\n  wilfnusk example day\n  wilfnusk sweep day/plan.toml --svg windows.svg\n\n\
-        Exit status: 0 done, 1 refused (the message has the number of the reason) or a line that differs,\n  \
-        2 wrong command line, 3 files, 130 stopped by Ctrl-C."
+        Exit status: 0 done, 1 refused (the message has the number of the reason)\n  \
+        or a line that differs, 2 wrong command line, 3 files, 130 stopped by Ctrl-C."
 )]
 struct Cli {
     #[command(subcommand)]

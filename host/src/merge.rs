@@ -63,6 +63,7 @@ impl Merge {
         }
         let mut told = same(&held)?;
         let merged = united(&plan, &parts, &mut told)?;
+        engine::recover(&plan, &merged).map_err(|r| explain::journal(&plan, &self.output, &merged, r))?;
         // The digest first, or its absence: the new journal never stands beside one that speaks for lines of unknown origin.
         if all_known {
             Digest::of(&plan).write(&self.output)?;

@@ -216,6 +216,7 @@ fn a_line_that_still_reads_as_right_is_found() {
         checked.stdout
     );
     folder.refused(2, "check plan.toml --sample 3", &["--recompute"]);
+    folder.refused(2, "check plan.toml --recompute --sample 0", &["--sample"]);
     folder.refused(2, "check plan.toml --recompute --sample 3 --write-digest", &["--write-digest"]);
 }
 
