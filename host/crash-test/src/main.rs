@@ -96,7 +96,7 @@ fn run(folder: &Path, seconds: u64, seed: u64) -> Tally {
         if chunks > 2 {
             orders.push(cuts::shuffled(&mut seeded, chunks));
         }
-        let (writes, syncs) = syncs::watched(case, &orders, &at("watched"));
+        let (writes, syncs) = syncs::watched(case, &orders, &syncs::LEFT, &at("watched"));
         done(format!("watched: {}, {} writes, {} syncs", case.name, writes, syncs));
         let before = tally.cuts;
         for order in &orders {
@@ -120,7 +120,7 @@ fn run(folder: &Path, seconds: u64, seed: u64) -> Tally {
     }
 
     let large = Case::drawn("40 targets, 1,000 times, 3,600 rolls", 5, 40, 1000, 3600, 0.03, None);
-    let (writes, syncs) = syncs::watched(&large, &[(0..large.chunks()).collect()], &at("watched"));
+    let (writes, syncs) = syncs::watched(&large, &[(0..large.chunks()).collect()], &[None], &at("watched"));
     done(format!("watched: {}, {} writes, {} syncs", large.name, writes, syncs));
     let until = Instant::now() + Duration::from_secs(seconds);
     let half = Instant::now() + Duration::from_secs(seconds) / 2;

@@ -8,14 +8,17 @@ use crate::{
 use model::journal::{HEADER, LINE};
 use std::{fs, path::Path};
 
-/// Sweeps to the end in these orders, watched: from nothing, and from what a cut may leave. How often the journals were written and synced.
-pub fn watched(case: &Case, orders: &[Vec<usize>], folder: &Path) -> (u64, u64) {
+/// What a cut may leave of a journal: no file, or this many bytes.
+pub const LEFT: [Option<usize>; 5] = [None, Some(0), Some(HEADER / 2), Some(HEADER), Some(HEADER + LINE - 1)];
+
+/// Sweeps to the end in these orders from what is left, watched. How often the journals were written and synced.
+pub fn watched(case: &Case, orders: &[Vec<usize>], left: &[Option<usize>], folder: &Path) -> (u64, u64) {
     let (mut writes, mut syncs) = (0, 0);
     for order in orders {
         let machine = Machine::new(case, folder);
         let said = words(order);
         let said = if order.is_empty() { None } else { Some(said.as_str()) };
-        for left in [None, Some(0), Some(HEADER / 2), Some(HEADER), Some(HEADER + LINE - 1)] {
+        for &left in left {
             let journal = machine.journal();
             match left {
                 None => machine.without_journal(),
