@@ -323,8 +323,8 @@ fn the_advice_on_a_damaged_journal_keeps_the_right_lines() {
     assert!(Command::new("sh").args(["-c", advice]).current_dir(folder.0.path()).status().unwrap().success(), "{}", advice);
     assert_eq!(fs::read(&path).unwrap(), [&good[..HEADER + LINE], &good[HEADER + 3 * LINE..]].concat());
     assert_eq!(fs::read(inner.join("plan.journal.damaged")).unwrap(), journal);
+    assert_eq!(run("check").status, Some(0));
     let status = run("status");
-    assert_eq!(status.status, Some(0), "{}", status.stderr);
     assert!(status.stdout.ends_with("next     wilfnusk sweep 'a day'\\''s work/plan.toml'\n"), "{}", status.stdout);
     // Where a line lost its end, sed would see other lines.
     journal.remove(HEADER + 2 * LINE - 1);
@@ -337,7 +337,7 @@ fn the_advice_on_a_damaged_journal_keeps_the_right_lines() {
 fn advice_names_the_journal_that_was_asked_for() {
     let folder = Folder::new();
     folder.done("sweep plan.toml -q --journal half.journal --part 1/2");
-    let status = folder.done("status plan.toml --journal half.journal");
+    let status = folder.run("status plan.toml --journal half.journal");
     assert!(status.stdout.ends_with("next     wilfnusk sweep plan.toml --journal half.journal\n"), "{}", status.stdout);
     folder.refused(
         1,
