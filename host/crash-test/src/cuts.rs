@@ -22,9 +22,9 @@ pub fn words(order: &[usize]) -> String {
     order.iter().map(usize::to_string).collect::<Vec<_>>().join(",")
 }
 
-/// An order in which runs of chunks, of one or more, are shuffled: a run of up to 64 is one write.
+/// An order in which runs of chunks are shuffled, mostly runs of one: up to 64 chunks that follow each other are one write.
 pub fn shuffled(seeded: &mut Seeded, n: usize) -> Vec<usize> {
-    let longest = [1, 8, 100][seeded.index(3)];
+    let longest = [1, 1, 1, 1, 1, 1, 4, 100][seeded.index(8)];
     let mut runs = Vec::new();
     let mut from = 0;
     while from < n {
