@@ -1,8 +1,10 @@
 //! The digest that stands beside a journal. Targets and positions are not in its header, so an edited file of equal
 //! size would resume into wrong windows: J.plan has a digest of every number of the plan, and tells which file changed.
 use crate::{
+    explain,
     fault::Fault,
-    files::{self, write_whole},
+    files::{self, sync_folder, write_whole},
+    journal::{opened, read},
     plan::Plan,
     source::Source,
 };
@@ -31,8 +33,8 @@ impl Digest {
         );
         let targets = hash([].iter().copied(), plan.targets.iter());
         let ephemeris = hash(plan.times.iter().map(|&t| t as u64), plan.suns.iter().chain(&plan.observers));
-        let name = plan.path().file_name().unwrap_or_default().to_string_lossy().into_owned();
-        Digest { digests: [settings, targets, ephemeris], files: [name, plan.targets_file.clone(), plan.ephemeris_file.clone()] }
+        let name = plan.path().file_name().unwrap_or_default().to_string_lossy();
+        Digest { digests: [settings, targets, ephemeris], files: [&name, &*plan.targets_file, &plan.ephemeris_file].map(one_line) }
     }
     /// Where the digest of a journal stands.
     pub fn path(journal: &Path) -> PathBuf {
@@ -47,8 +49,8 @@ impl Digest {
     /// The digest beside a journal, if there is one.
     pub fn beside(journal: &Path) -> Result<Option<Digest>, Fault> {
         let path = Digest::path(journal);
-        match fs::read(&path) {
-            Ok(bytes) => Digest::parse(&Source::of(&path, bytes)?).map(Some),
+        match opened(&path) {
+            Ok(file) => Digest::parse(&Source::of(&path, read(&path, &file)?)?).map(Some),
             Err(e) if e.kind() == io::ErrorKind::NotFound => Ok(None),
             Err(e) => Err(files::fault(&path, &e)),
         }
@@ -75,38 +77,63 @@ impl Digest {
     pub fn changed<'a>(&'a self, other: &Digest) -> Vec<&'a str> {
         (0..3).filter(|&i| self.digests[i] != other.digests[i]).map(|i| self.files[i].as_str()).collect()
     }
-    /// Writes it beside a journal, whole or not at all.
+    /// Writes it beside a journal, whole or not at all. Only a digest is overwritten: another file of that name is a fault.
     pub fn write(&self, journal: &Path) -> Result<(), Fault> {
-        write_whole(&Digest::path(journal), self.text().as_bytes())
+        match Digest::beside(journal)? {
+            Some(there) if there == *self => Ok(()),
+            _ => write_whole(&Digest::path(journal), self.text().as_bytes()),
+        }
+    }
+    /// Takes away the digest of a journal that is gone, which would speak for lines that it does not know. Whether there was one.
+    pub fn remove(journal: &Path) -> Result<bool, Fault> {
+        let path = Digest::path(journal);
+        match Digest::beside(journal)? {
+            None => Ok(false),
+            Some(_) => {
+                let removed = fs::remove_file(&path).and_then(|()| sync_folder(&path));
+                removed.map(|()| true).map_err(|e| files::fault(&path, &e))
+            }
+        }
     }
 }
 
-/// Holds the plan against the digest beside a journal; says on standard error if there is none.
-pub fn same_plan(plan: &Plan, journal: &Path) -> Result<(), Fault> {
-    let path = Digest::path(journal);
+/// A file's name on one line of the digest.
+fn one_line(name: &str) -> String {
+    name.chars().map(|c| if c.is_control() { c.escape_default().to_string() } else { c.to_string() }).collect()
+}
+
+/// Holds the plan against the digest beside a journal. Whether there is one.
+pub fn is_known(plan: &Plan, journal: &Path) -> Result<bool, Fault> {
     let then = match Digest::beside(journal)? {
         Some(then) => then,
-        None => {
-            tell!(
-                "warning: {} is missing: nothing tells whether {} was made from these targets and positions",
-                path.display(),
-                journal.display()
-            );
-            return Ok(());
-        }
+        None => return Ok(false),
     };
     let now = Digest::of(plan);
     let changed = now.changed(&then);
     if changed.is_empty() {
-        return Ok(());
+        return Ok(true);
     }
     Err(Fault::Files(format!(
         "{}: its numbers are not those that {} was begun with, as {} shows; put the old file back, or sweep the new one \
          into a journal of its own with --journal",
         changed.join(", "),
         journal.display(),
-        path.display()
+        Digest::path(journal).display()
     )))
+}
+
+/// The same for a journal that has lines; says on standard error if there is none.
+pub fn same_plan(plan: &Plan, journal: &Path) -> Result<bool, Fault> {
+    let known = is_known(plan, journal)?;
+    if !known {
+        tell!(
+            "warning: {} is missing: nothing tells whether {} was made from these targets and positions. To work every line out again: {} --recompute",
+            Digest::path(journal).display(),
+            journal.display(),
+            explain::command("check", plan, journal)
+        );
+    }
+    Ok(known)
 }
 
 fn hash<'a>(wholes: impl Iterator<Item = u64>, floats: impl Iterator<Item = &'a f64>) -> String {
@@ -164,5 +191,29 @@ mod tests {
             fs::write(&path, &text[..cut]).unwrap();
             assert!(Digest::beside(&journal).is_err());
         }
+    }
+    #[test]
+    fn a_name_of_two_lines_is_written_on_one() {
+        let folder = tempfile::tempdir().unwrap();
+        let journal = folder.path().join("j");
+        let mut d = digest(TOML, TARGETS, EPHEMERIS);
+        d.files = ["a\nb", " c\r", "\u{85}\té"].map(one_line);
+        d.write(&journal).unwrap();
+        assert_eq!(Digest::beside(&journal).unwrap(), Some(d));
+        assert_eq!(fs::read_to_string(Digest::path(&journal)).unwrap().lines().count(), 4);
+    }
+    #[test]
+    fn only_a_digest_is_overwritten_or_removed() {
+        let folder = tempfile::tempdir().unwrap();
+        let journal = folder.path().join("j");
+        let (d, other) = (digest(TOML, TARGETS, EPHEMERIS), digest(&TOML.replace("10", "11"), TARGETS, EPHEMERIS));
+        other.write(&journal).unwrap();
+        d.write(&journal).unwrap();
+        assert_eq!(Digest::beside(&journal).unwrap(), Some(d.clone()));
+        assert!(Digest::remove(&journal).unwrap() && !Digest::remove(&journal).unwrap());
+        let path = Digest::path(&journal);
+        fs::write(&path, TOML).unwrap();
+        assert!(d.write(&journal).is_err() && Digest::remove(&journal).is_err());
+        assert_eq!(fs::read_to_string(&path).unwrap(), TOML);
     }
 }

@@ -116,3 +116,34 @@ pub fn seconds(windows: &[Window]) -> Result<f64, Refusal> {
     let (first, last): (Vec<_>, Vec<_>) = windows.iter().map(|w| (w.first_time, w.last_time)).unzip();
     wilfnusk::total_violation_duration(&first, &last)
 }
+
+#[cfg(test)]
+mod tests {
+    use super::*;
+    use crate::plan::tests::plan;
+
+    #[test]
+    fn the_journal_of_document_01() {
+        let toml = "targets = \"t.csv\"\nephemeris = \"e.csv\"\nrolls = 1\ntolerance = 10\n";
+        let ephemeris = "time,sun_x,sun_y,sun_z,observer_x,observer_y,observer_z\n\
+            2026-03-20T00:00:00Z,0,1,0,0,0,0\n2026-03-20T00:01:00Z,0,0,1,0,0,0\n";
+        let plan = plan(toml, "name,x,y,z\nA,1,0,0\n", ephemeris).unwrap();
+        check(&plan).unwrap();
+        let mut journal = header(&plan).unwrap();
+        let fields = ["00000001", "00000002", "00000001", "4024000000000000", "00", "0000000000000000"];
+        let panel = ["0000000000000000", "3ff0000000000000", "0000000000000000", "\n"];
+        assert_eq!(String::from_utf8(journal.clone()).unwrap(), fields.concat() + &panel.concat());
+        assert_eq!(collect(&plan, &journal).unwrap_err().number(), 15);
+        journal.resize(journal.len() + LINE_BYTES as usize, 0);
+        assert_eq!(work(&plan, 0..1, &mut journal, HEADER_BYTES as usize), Ok(journal.len()));
+        assert_eq!(&journal[HEADER_BYTES as usize..], b"00000000000000000000000200000002\n");
+        assert_eq!(recover(&plan, &journal[..journal.len() - 1]), Ok(HEADER_BYTES as usize));
+        assert_eq!(collect(&plan, &journal), Ok((vec![0, 1], 2)));
+        assert_eq!(mask_at(&plan, Roll::Sweep(0.0)), Ok(vec![0, 1]));
+        assert_eq!((regard(&plan, 0, None), regard(&plan, 1, Some(90.0))), (Ok(vec![0]), Ok(vec![0])));
+        let windows = violations(&[0, 1], &plan.times, &[0.0, 0.5]).unwrap();
+        assert_eq!((windows.len(), windows[0].first, windows[0].severity, windows[0].is_last), (1, 1, 0.5, 1));
+        assert_eq!(visibility(&[0, 1], &plan.times).unwrap().len(), 0);
+        assert_eq!(seconds(&visibility(&[0, 0], &plan.times).unwrap()), Ok(60.0));
+    }
+}

@@ -4,11 +4,20 @@ use crate::{
     engine::{self, Refusal, CHUNK_CELLS, HEADER_BYTES, LINE_BYTES},
     fault::Fault,
     instant,
-    journal::{chunk_of, hex},
+    journal::{chunk_of, hex, lines},
     plan::Plan,
-    text::grouped,
+    text::{grouped, quoted},
 };
-use std::path::Path;
+use std::path::{Path, PathBuf};
+
+/// A command on a plan and its journal, as a shell takes it.
+pub fn command(verb: &str, plan: &Plan, journal: &Path) -> String {
+    let mut words = format!("wilfnusk {} {}", verb, quoted(plan.path()));
+    if journal != plan.journal() {
+        words += &format!(" --journal {}", quoted(journal));
+    }
+    words
+}
 
 /// A refusal of the plan, or of a call that found nothing wrong with the journal.
 pub fn plan(plan: &Plan, refusal: Refusal) -> Fault {
@@ -65,11 +74,11 @@ pub fn journal(p: &Plan, path: &Path, bytes: &[u8], refusal: Refusal) -> Fault {
         15 => Fault::Refused(
             15,
             format!(
-                "{}: {} of {} chunks have a line; `wilfnusk sweep {}` works out the rest",
+                "{}: {} of {} chunks have a line; `{}` works out the rest",
                 path.display(),
                 grouped(done()),
                 grouped(p.chunks()),
-                p.path().display()
+                command("sweep", p, path)
             ),
         ),
         _ => plan(p, refusal),
@@ -86,15 +95,13 @@ fn damage(plan: &Plan, path: &Path, bytes: &[u8]) -> String {
         return format!("{}: the header is not this plan's; nothing was changed\n{}", path.display(), header_faults(&header, bytes));
     }
     let mut seen = vec![None; plan.chunks()];
-    let faults: Vec<_> = crate::journal::lines(bytes)
-        .enumerate()
-        .filter_map(|(i, line)| line_fault(plan, line, i, &mut seen).map(|fault| (i, fault)))
-        .collect();
-    let right = faults.first().map_or(0, |(i, _)| *i);
+    let faults: Vec<_> =
+        lines(bytes).enumerate().filter_map(|(i, line)| line_fault(plan, line, i, &mut seen).map(|fault| (i, fault))).collect();
     let mut text = format!(
-        "{}: {} of its lines {} not right; nothing was changed",
+        "{}: {} of its {} lines {} not right; nothing was changed",
         path.display(),
         grouped(faults.len()),
+        grouped(lines(bytes).count()),
         if faults.len() == 1 { "is" } else { "are" }
     );
     for (i, (column, fault)) in faults.iter().take(TOLD) {
@@ -103,13 +110,42 @@ fn damage(plan: &Plan, path: &Path, bytes: &[u8]) -> String {
     if faults.len() > TOLD {
         text += &format!("\n  and {} more", grouped(faults.len() - TOLD));
     }
-    text + &format!(
-        "\nAll before line {} is right. To go on from there, keep a copy and shorten:\n  \
-         cp {path} {path}.damaged && truncate -s {keep} {path}",
-        right + 2,
-        path = path.display(),
-        keep = HEADER_BYTES as usize + right * LINE_BYTES as usize,
-    )
+    if faults.len() == lines(bytes).count() {
+        return text + "\nTo go on, sweep into another journal with --journal";
+    }
+    text += "\nThe other lines are right and need not be lost: a salvage that keeps them is to come.";
+    match left_out(bytes, &faults) {
+        Some(script) => {
+            let (path, copy) = (quoted(path), quoted(&with_suffix(path, ".damaged")));
+            text + &format!(" By hand, with a copy:\n  cp {path} {copy} && sed '{script}' {copy} > {path}")
+        }
+        None => text + " Until then, sweep into another journal with --journal",
+    }
+}
+
+/// How many runs of wrong lines are left out by hand.
+const BY_HAND: usize = 20;
+
+/// The script that makes sed leave out the wrong lines, where the ends of the lines are right, so that sed sees the lines that we do.
+fn left_out(bytes: &[u8], faults: &[(usize, (usize, String))]) -> Option<String> {
+    if lines(bytes).any(|line| line.iter().position(|&b| b == b'\n') != Some(line.len() - 1)) {
+        return None;
+    }
+    let mut runs: Vec<(usize, usize)> = Vec::new();
+    for number in faults.iter().map(|(i, _)| i + 2) {
+        match runs.last_mut() {
+            Some((_, last)) if *last + 1 == number => *last = number,
+            _ => runs.push((number, number)),
+        }
+    }
+    let script: Vec<_> = runs.iter().map(|(a, b)| if a == b { format!("{}d", a) } else { format!("{},{}d", a, b) }).collect();
+    Some(script.join(";")).filter(|_| runs.len() <= BY_HAND)
+}
+
+fn with_suffix(path: &Path, suffix: &str) -> PathBuf {
+    let mut name = path.as_os_str().to_owned();
+    name.push(suffix);
+    name.into()
 }
 
 /// The header's fields and their widths, in digits.
@@ -186,4 +222,71 @@ fn line_fault(plan: &Plan, line: &[u8], number: usize, seen: &mut [Option<usize>
         return Some((25, format!("{} probes; allowed for that mask: {} to {}", probes, fewest, most)));
     }
     None
+}
+
+#[cfg(test)]
+mod tests {
+    use super::*;
+    use crate::plan::tests::small;
+
+    /// What is said of the plan's whole journal after this change.
+    fn said(change: impl Fn(&mut Vec<u8>)) -> String {
+        let plan = small();
+        let mut bytes = engine::header(&plan).unwrap();
+        let header = bytes.len();
+        bytes.resize(header + LINE_BYTES as usize * plan.chunks(), 0);
+        engine::work(&plan, 0..plan.chunks() as u64, &mut bytes, header).unwrap();
+        change(&mut bytes);
+        let refusal = engine::recover(&plan, &bytes).unwrap_err();
+        let fault = journal(&plan, Path::new("a b"), &bytes, refusal);
+        assert_eq!(fault.status(), 1);
+        fault.to_string()
+    }
+    fn at(line: usize) -> usize {
+        HEADER_BYTES as usize + (line - 2) * LINE_BYTES as usize
+    }
+
+    #[test]
+    fn a_wrong_header_is_told_by_field() {
+        assert!(said(|j| j[23] ^= 1).contains("line 1, column 17: rolls reads 00000009 (9); this plan's is 00000008 (8)"));
+        assert!(said(|j| j[30] = b'G').contains("line 1, column 31: byte 0x47; allowed: 0 to 9 and a to f"));
+        assert!(said(|j| j[106] = b' ').contains("line 1, column 107: byte 0x20; allowed: 0x0a"));
+        assert!(!said(|j| j[23] ^= 1).contains("salvage"));
+    }
+    #[test]
+    fn wrong_lines_are_told_and_left_out_by_hand() {
+        let one = said(|j| j[at(4)] = b'f');
+        assert!(one.contains("'a b'") && !one.contains(" a b "), "{}", one);
+        assert!(
+            one.contains("1 of its 5 lines is not right") && one.contains("\n  line 4, column 1: chunk 4026531842; allowed: below 5"),
+            "{}",
+            one
+        );
+        assert!(one.ends_with("cp 'a b' 'a b.damaged' && sed '4d' 'a b.damaged' > 'a b'"), "{}", one);
+        let several = said(|j| [2, 3, 5, 6].into_iter().for_each(|line| j[at(line) + 31] = b'-'));
+        assert!(several.contains("4 of its 5 lines are") && several.ends_with("sed '2,3d;5,6d' 'a b.damaged' > 'a b'"), "{}", several);
+        // The last line's spare bits, and more probes than rolls.
+        assert!(said(|j| j[at(6) + 8] = b'1').contains("line 6, column 9: mask 1"));
+        assert!(said(|j| j[at(2) + 24] = b'1').contains("line 2, column 25: 2684"));
+        assert!(said(|j| j.extend_from_within(at(2)..at(3))).contains("line 7, column 1: chunk 0 again, which line 2 has"));
+    }
+    #[test]
+    fn no_advice_that_would_lose_or_keep_a_wrong_line() {
+        let removed = said(|j| {
+            j.remove(at(4) - 1);
+        });
+        for lost_end in [removed, said(|j| j[at(3) - 1] = b' '), said(|j| j[at(3) + 4] = b'\n')] {
+            assert!(lost_end.contains("salvage") && !lost_end.contains("sed '") && lost_end.contains("--journal"), "{}", lost_end);
+        }
+        let all = said(|j| (2..7).for_each(|line| j[at(line)] = b'f'));
+        assert!(all.contains("5 of its 5 lines are") && !all.contains("salvage") && all.contains("--journal"), "{}", all);
+        assert!(said(|j| j[at(2)..].fill(0)).contains("33 zero bytes"));
+    }
+    #[test]
+    fn commands_as_a_shell_takes_them() {
+        let plan = small();
+        let own = plan.journal();
+        assert_eq!(command("sweep", &plan, &own), format!("wilfnusk sweep {}", plan.path().display()));
+        assert!(command("check", &plan, Path::new("it's")).ends_with(r"plan.toml --journal 'it'\''s'"));
+    }
 }

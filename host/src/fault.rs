@@ -5,6 +5,8 @@ use std::{fmt, io};
 pub enum Fault {
     /// The library said no, with document 01's number.
     Refused(u8, String),
+    /// Lines that are not what the plan gives.
+    Differs(String),
     /// The command line asks for what cannot be.
     Usage(String),
     /// A file: it cannot be opened or written, or what it says cannot be read.
@@ -18,7 +20,7 @@ pub enum Fault {
 impl Fault {
     pub fn status(&self) -> i32 {
         match self {
-            Fault::Refused(..) => 1,
+            Fault::Refused(..) | Fault::Differs(_) => 1,
             Fault::Usage(_) => 2,
             Fault::Files(_) => 3,
             Fault::Stopped(_) => 130,
@@ -46,7 +48,7 @@ impl fmt::Display for Fault {
     fn fmt(&self, f: &mut fmt::Formatter) -> fmt::Result {
         match self {
             Fault::Refused(number, text) => write!(f, "refused with {}: {}", number, text),
-            Fault::Usage(text) | Fault::Files(text) | Fault::Stopped(text) => f.write_str(text),
+            Fault::Differs(text) | Fault::Usage(text) | Fault::Files(text) | Fault::Stopped(text) => f.write_str(text),
             Fault::Unread => Ok(()),
         }
     }

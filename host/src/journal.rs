@@ -6,23 +6,15 @@ use crate::{
     plan::Plan,
     stop,
 };
-use clap::ValueEnum;
 use fs2::FileExt;
 use std::{
-    fs::{self, File, OpenOptions},
+    fs::{self, File, Metadata, OpenOptions},
     io::{self, Read, Write},
-    os::unix::fs::MetadataExt,
+    os::unix::fs::{FileTypeExt, MetadataExt, OpenOptionsExt},
     path::{Path, PathBuf},
     thread::sleep,
     time::{Duration, Instant},
 };
-
-/// When what was written is made to last.
-#[derive(Clone, Copy, Debug, PartialEq, Eq, ValueEnum)]
-pub enum Sync {
-    Line,
-    Second,
-}
 
 /// A journal that this process has locked.
 pub struct Journal {
@@ -31,9 +23,6 @@ pub struct Journal {
     /// A buffer with room for the whole journal; the first `used` bytes are those of the file.
     pub bytes: Vec<u8>,
     pub used: usize,
-    sync: Sync,
-    synced: Instant,
-    unsynced: bool,
 }
 
 /// No journal of any plan is longer; a larger file is something else.
@@ -41,13 +30,11 @@ const MOST: u64 = 1 << 24;
 
 impl Journal {
     /// Opens the plan's journal, or makes an empty one, locks it and reads it.
-    pub fn open(path: &Path, plan: &Plan, wait: bool, sync: Sync) -> Result<Journal, Fault> {
-        let (file, made) = locked(path, wait)?;
-        if made {
-            sync_folder(path).map_err(|e| fault(path, &e))?;
-        }
-        let mut journal =
-            Journal { path: path.to_owned(), bytes: read(path, &file)?, file, used: 0, sync, synced: Instant::now(), unsynced: false };
+    pub fn open(path: &Path, plan: &Plan, wait: bool) -> Result<Journal, Fault> {
+        let file = locked(path, wait)?;
+        // What a killed process left may never have been synced: it lasts before a line follows it or a window is listed from it.
+        file.sync_all().and_then(|()| sync_name(path)).map_err(|e| fault(path, &e))?;
+        let mut journal = Journal { path: path.to_owned(), bytes: read(path, &file)?, file, used: 0 };
         journal.used = journal.bytes.len();
         let room = HEADER_BYTES as usize + LINE_BYTES as usize * plan.chunks();
         if journal.used < room {
@@ -67,42 +54,27 @@ impl Journal {
         }
         Ok(())
     }
-    /// Writes the frames that the buffer holds beyond the used length, up to this one: each with one write at the end of
-    /// the file. A short write is gone on with; nothing written is ever taken back.
+    /// Writes the frames that the buffer holds beyond the used length, up to this one, with one write at the end of the file, and makes them
+    /// last. A short write is gone on with; nothing written is ever taken back.
     pub fn append(&mut self, upto: usize) -> Result<(), Fault> {
-        while self.used < upto {
-            let frame = if self.used == 0 { HEADER_BYTES } else { LINE_BYTES } as usize;
-            self.as_left()?;
-            let end = self.used + frame;
-            self.file.write_all(&self.bytes[self.used..end]).map_err(|e| self.fault(&e))?;
-            self.used = end;
-            self.unsynced = true;
-            if self.sync == Sync::Line || self.synced.elapsed() >= Duration::from_secs(1) {
-                self.sync()?;
-            }
-        }
+        self.as_left()?;
+        self.file.write_all(&self.bytes[self.used..upto]).and_then(|()| self.file.sync_data()).map_err(|e| self.fault(&e))?;
+        self.used = upto;
         Ok(())
     }
-    /// Makes all that was written last.
-    fn sync(&mut self) -> Result<(), Fault> {
-        if self.unsynced {
-            self.file.sync_data().map_err(|e| self.fault(&e))?;
-            self.unsynced = false;
-        }
-        self.synced = Instant::now();
-        Ok(())
-    }
-    /// After the last line: all that was written lasts, and nobody else wrote between two lines.
-    pub fn end(&mut self) -> Result<(), Fault> {
-        self.sync()?;
-        self.as_left()
-    }
-    /// The file is as this process left it: nobody else wrote, shortened or removed it.
-    fn as_left(&self) -> Result<(), Fault> {
+    /// The file is as this process left it: nobody else wrote, shortened, removed or renamed it.
+    pub fn as_left(&self) -> Result<(), Fault> {
         let now = self.file.metadata().map_err(|e| self.fault(&e))?;
         let path = self.path.display();
         if now.nlink() == 0 {
             return Err(Fault::Files(format!("{}: the file was removed while this sweep wrote it", path)));
+        }
+        if !is_named(&self.path, &now) {
+            return Err(Fault::Files(format!(
+                "{}: the file was renamed or replaced while this sweep wrote it; every whole line stays in it. \
+                 Give it its name back, then sweep again",
+                path
+            )));
         }
         if now.len() != self.used as u64 {
             return Err(Fault::Files(format!(
@@ -124,22 +96,35 @@ impl Journal {
     }
 }
 
-/// Opens the file for this process alone. Whether it was made.
-fn locked(path: &Path, wait: bool) -> Result<(File, bool), Fault> {
+/// Whether this file is the one that has this name.
+fn is_named(path: &Path, file: &Metadata) -> bool {
+    fs::metadata(path).map_or(false, |named| named.ino() == file.ino() && named.dev() == file.dev())
+}
+
+/// Makes the file's name last; where it is a link, also the name that it leads to.
+fn sync_name(path: &Path) -> io::Result<()> {
+    if fs::symlink_metadata(path)?.is_symlink() {
+        sync_folder(&fs::canonicalize(path)?)?;
+    }
+    sync_folder(path)
+}
+
+/// Opens the file for this process alone, and makes an empty one if there is none.
+fn locked(path: &Path, wait: bool) -> Result<File, Fault> {
     let asked = Instant::now();
     let mut told = false;
     loop {
-        let made = !path.exists();
         if path.is_dir() {
             return Err(Fault::Files(format!("{}: this is a folder; allowed: a journal's file", path.display())));
         }
-        let file = OpenOptions::new().read(true).append(true).create(true).open(path).map_err(|e| fault(path, &e))?;
+        let mut open = OpenOptions::new();
+        let file = open.read(true).append(true).create(true).custom_flags(libc::O_NONBLOCK).open(path).map_err(|e| fault(path, &e))?;
+        plain(path, &file)?;
         match file.try_lock_exclusive() {
             Ok(()) => {
                 // The name may have been given to another file before the lock was ours.
-                let ours = file.metadata().map_err(|e| fault(path, &e))?;
-                if fs::metadata(path).map_or(false, |named| named.ino() == ours.ino() && named.dev() == ours.dev()) {
-                    return Ok((file, made));
+                if is_named(path, &file.metadata().map_err(|e| fault(path, &e))?) {
+                    return Ok(file);
                 }
             }
             Err(e) if e.kind() == io::ErrorKind::WouldBlock => {
@@ -166,14 +151,34 @@ fn locked(path: &Path, wait: bool) -> Result<(File, bool), Fault> {
 
 /// Whether a sweep has the journal locked.
 pub fn is_locked(path: &Path) -> bool {
-    File::open(path).map_or(false, |file| file.try_lock_shared().is_err())
+    opened(path).map_or(false, |file| file.try_lock_shared().is_err())
 }
 
-fn read(path: &Path, mut file: &File) -> Result<Vec<u8>, Fault> {
+/// Opens a file to be looked at, and waits for nobody who would write into a pipe.
+pub fn opened(path: &Path) -> io::Result<File> {
+    OpenOptions::new().read(true).custom_flags(libc::O_NONBLOCK).open(path)
+}
+
+/// Refuses what is no plain file, and so cannot keep what is written.
+fn plain(path: &Path, file: &File) -> Result<Metadata, Fault> {
     let about = file.metadata().map_err(|e| fault(path, &e))?;
-    if !about.is_file() || about.len() > MOST {
+    let kind = about.file_type();
+    let what = match () {
+        () if kind.is_file() => return Ok(about),
+        () if kind.is_dir() => "a folder",
+        () if kind.is_fifo() => "a pipe",
+        () if kind.is_char_device() || kind.is_block_device() => "a device",
+        () => "no file that keeps what is written",
+    };
+    Err(Fault::Files(format!("{}: this is {}; allowed: a plain file", path.display(), what)))
+}
+
+/// The bytes of a journal, or of what stands beside it.
+pub fn read(path: &Path, mut file: &File) -> Result<Vec<u8>, Fault> {
+    let about = plain(path, file)?;
+    if about.len() > MOST {
         return Err(Fault::Files(format!(
-            "{}: {} bytes; allowed: a plain file of at most {} bytes, which no journal exceeds",
+            "{}: {} bytes; allowed: at most {}, which no journal exceeds",
             path.display(),
             about.len(),
             MOST
@@ -186,7 +191,7 @@ fn read(path: &Path, mut file: &File) -> Result<Vec<u8>, Fault> {
 
 /// The bytes of a journal that is only looked at.
 pub fn look(path: &Path) -> Result<Vec<u8>, Fault> {
-    read(path, &File::open(path).map_err(|e| fault(path, &e))?)
+    read(path, &opened(path).map_err(|e| fault(path, &e))?)
 }
 
 /// The whole lines after the header.
@@ -217,4 +222,104 @@ pub fn done(journal: &[u8], chunks: usize) -> Vec<bool> {
         }
     }
     done
+}
+
+#[cfg(test)]
+mod tests {
+    use super::*;
+    use crate::{engine, plan::tests::small};
+
+    fn begun(folder: &Path) -> Journal {
+        let plan = small();
+        let mut journal = Journal::open(&folder.join("j"), &plan, false).unwrap();
+        let upto = engine::begin(&plan, &mut journal.bytes).unwrap();
+        journal.append(upto).unwrap();
+        journal
+    }
+    fn fault_after(change: impl Fn(&Path)) -> String {
+        let folder = tempfile::tempdir().unwrap();
+        let mut journal = begun(folder.path());
+        let used = journal.used;
+        let upto = engine::work(&small(), 0..2, &mut journal.bytes, used).unwrap();
+        change(&journal.path);
+        let fault = journal.append(upto).unwrap_err();
+        assert_eq!((fault.status(), journal.used), (3, used));
+        fault.to_string()
+    }
+
+    #[test]
+    fn a_range_is_written_at_the_end_and_read_again() {
+        let folder = tempfile::tempdir().unwrap();
+        let mut journal = begun(folder.path());
+        for range in [0..2, 3..4, 2..3] {
+            let used = journal.used;
+            let upto = engine::work(&small(), range, &mut journal.bytes, used).unwrap();
+            journal.append(upto).unwrap();
+        }
+        journal.as_left().unwrap();
+        let (path, bytes) = (journal.path.clone(), journal.used().to_vec());
+        drop(journal);
+        assert_eq!(look(&path).unwrap(), bytes);
+        let mut journal = Journal::open(&path, &small(), false).unwrap();
+        assert_eq!((journal.used(), journal.bytes.len()), (&bytes[..], HEADER_BYTES as usize + LINE_BYTES as usize * small().chunks()));
+        assert_eq!(done(journal.used(), 5), [true, true, true, true, false]);
+        journal.shorten(HEADER_BYTES as usize).unwrap();
+        assert_eq!(look(&path).unwrap(), &bytes[..HEADER_BYTES as usize]);
+    }
+    #[test]
+    fn what_others_do_to_the_file_is_noticed() {
+        let away = |path: &Path| path.with_extension("away");
+        assert!(fault_after(|j| fs::remove_file(j).unwrap()).contains("was removed"));
+        assert!(fault_after(|j| fs::rename(j, away(j)).unwrap()).contains("was renamed or replaced"));
+        let replace = |j: &Path| {
+            fs::copy(j, away(j)).unwrap();
+            fs::rename(away(j), j).unwrap();
+        };
+        // A second name keeps the file, as a rename does.
+        let replaced_by_copy = fault_after(|j| {
+            fs::hard_link(j, j.with_extension("second")).unwrap();
+            replace(j);
+        });
+        assert!(replaced_by_copy.contains("was renamed or replaced"));
+        assert!(fault_after(|j| OpenOptions::new().append(true).open(j).unwrap().write_all(b"x").unwrap())
+            .contains("another program writes it"));
+        assert!(fault_after(|j| OpenOptions::new().write(true).open(j).unwrap().set_len(7).unwrap()).contains("has 7 bytes"));
+    }
+    #[test]
+    fn one_process_at_a_time() {
+        let folder = tempfile::tempdir().unwrap();
+        let journal = begun(folder.path());
+        assert!(is_locked(&journal.path));
+        let second = Journal::open(&journal.path, &small(), false).err().unwrap();
+        assert!(second.to_string().contains("another process sweeps into it"));
+        let path = journal.path.clone();
+        drop(journal);
+        assert!(!is_locked(&path));
+    }
+    #[test]
+    fn through_a_link_that_leads_nowhere_yet() {
+        let folder = tempfile::tempdir().unwrap();
+        fs::create_dir(folder.path().join("disk")).unwrap();
+        std::os::unix::fs::symlink("disk/real", folder.path().join("j")).unwrap();
+        begun(folder.path());
+        assert_eq!(fs::read(folder.path().join("disk/real")).unwrap().len() as u64, HEADER_BYTES);
+    }
+    #[test]
+    fn what_is_no_plain_file() {
+        let folder = tempfile::tempdir().unwrap();
+        for (path, says) in [(folder.path(), "a folder"), (Path::new("/dev/zero"), "a device")] {
+            assert!(look(path).unwrap_err().to_string().contains(says));
+            assert!(Journal::open(path, &small(), false).err().unwrap().to_string().contains(says));
+        }
+        let path = folder.path().join("large");
+        File::create(&path).unwrap().set_len(MOST + 1).unwrap();
+        assert!(look(&path).unwrap_err().to_string().contains("16777217 bytes; allowed: at most 16777216"));
+    }
+    #[test]
+    fn fields() {
+        assert_eq!((hex(b"0fa9"), hex(b""), hex(b"0F"), hex(b"g")), (Some(0xfa9), Some(0), None, None));
+        assert_eq!((chunk_of(b"0000001f.."), chunk_of(b"0000001")), (Some(31), None));
+        assert_eq!(lines(&[0; 106]).count(), 0);
+        assert_eq!(lines(&[0; 107 + 2 * 33 + 32]).count(), 2);
+    }
 }

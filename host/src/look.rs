@@ -1,6 +1,6 @@
-//! The commands that only look: windows, status, check, mask, regard. They take no lock and change no file.
+//! The commands that only look: windows, status, mask, regard. They take no lock and change no file.
 use crate::{
-    digest::{same_plan, Digest},
+    digest::same_plan,
     engine::{self, Roll, HEADER_BYTES},
     explain,
     fault::{csv_error, Fault},
@@ -10,7 +10,6 @@ use crate::{
     plan::Plan,
     say,
     text::{grouped, ranges},
-    tolerance::nothing_violated,
     Files, Outputs,
 };
 use clap::{Args, ValueEnum};
@@ -50,9 +49,9 @@ impl Windows {
 fn swept(plan: &Plan, path: &Path) -> Result<(Vec<u8>, u64), Fault> {
     if !path.exists() {
         return Err(Fault::Files(format!(
-            "{}: there is no such journal; `wilfnusk sweep {}` makes one",
+            "{}: there is no such journal; `{}` makes one",
             path.display(),
-            plan.path().display()
+            explain::command("sweep", plan, path)
         )));
     }
     let bytes = look(path)?;
@@ -77,7 +76,7 @@ impl Status {
         say(about(&plan))?;
         if !path.exists() {
             say(format_args!("journal  {}: not begun", path.display()))?;
-            return say(format_args!("next     wilfnusk sweep {}", plan.path().display()));
+            return say(format_args!("next     {}", explain::command("sweep", &plan, &path)));
         }
         let bytes = look(&path)?;
         let keep = engine::recover(&plan, &bytes).map_err(|r| explain::journal(&plan, &path, &bytes, r))?;
@@ -101,28 +100,11 @@ impl Status {
             same_plan(&plan, &path)?;
         }
         let next = if keep == 0 || count < plan.chunks() { "sweep" } else { "windows" };
-        say(format_args!("next     wilfnusk {} {}", next, plan.path().display()))
-    }
-    pub fn check(&self) -> Result<(), Fault> {
-        let (plan, path) = self.files.read()?;
-        say(about(&plan))?;
-        if let Some(text) = nothing_violated(&plan) {
-            say(text)?;
-        }
-        if !path.exists() {
-            return say(format_args!("accepted; {} is not begun", path.display()));
-        }
-        let bytes = look(&path)?;
-        let keep = engine::recover(&plan, &bytes).map_err(|r| explain::journal(&plan, &path, &bytes, r))?;
-        if keep > HEADER_BYTES as usize {
-            same_plan(&plan, &path)?;
-        }
-        let known = if matches!(Digest::beside(&path), Ok(Some(_))) { ", and the files are those it was begun with" } else { "" };
-        say(format_args!("accepted; {} is right{}", path.display(), known))
+        say(format_args!("next     {}", explain::command(next, &plan, &path)))
     }
 }
 
-fn about(plan: &Plan) -> String {
+pub fn about(plan: &Plan) -> String {
     format!(
         "plan     {}: {} targets, {} times, {} cells in {} chunks\nsettings {} rolls, tolerance {}, panel {:?}, configured roll {}",
         plan.path().display(),

@@ -6,6 +6,7 @@
 #[macro_use]
 mod text;
 
+mod check;
 mod digest;
 mod engine;
 mod example;
@@ -40,14 +41,14 @@ use std::{
     name = "wilfnusk",
     version,
     about = "Sweeps a plan of targets over rolls and lists when each may be looked at. The sweep is kept in a journal: \
-        a power cut costs at most the line being written, and the same command goes on.",
+        the same command goes on after a power cut, which costs at most the lines being written, those of up to 64 chunks.",
     // help2man makes sections of the manual page of the two.
     after_help = "Examples:\n  \
         wilfnusk example season                            a plan to start from\n  \
         wilfnusk sweep season/plan.toml --svg windows.svg  its windows, and a picture of them\n\n\
         Exit status:\n  \
         0    done\n  \
-        1    refused; the message has the number of the reason\n  \
+        1    refused, with the number of the reason; or a line is not what the plan gives\n  \
         2    wrong command line\n  \
         3    files\n  \
         130  stopped by Ctrl-C or a signal"
@@ -66,7 +67,7 @@ enum Command {
     /// Show how far a sweep is
     Status(look::Status),
     /// Check a plan and its journal, and explain what is refused
-    Check(look::Status),
+    Check(check::Check),
     /// Print the sweep's mask, or the mask at one roll
     Mask(look::Mask),
     /// Print each target's mark at one time
@@ -158,14 +159,14 @@ fn run(command: Command) -> Result<(), Fault> {
         Command::Sweep(c) => c.run(),
         Command::Windows(c) => c.run(),
         Command::Status(c) => c.status(),
-        Command::Check(c) => c.check(),
+        Command::Check(c) => c.run(),
         Command::Mask(c) => c.run(),
         Command::Regard(c) => c.run(),
         Command::Merge(c) => c.run(),
         Command::Example { folder } => {
             example::write(&folder)?;
             let plan = folder.join("plan.toml");
-            say(format_args!("wrote {}, targets.csv and ephemeris.csv\nnext: wilfnusk sweep {}", plan.display(), plan.display()))
+            say(format_args!("wrote {}, targets.csv and ephemeris.csv\nnext: wilfnusk sweep {}", plan.display(), text::quoted(&plan)))
         }
         Command::Completions { shell } => io::stdout().write_all(&completions(shell)).map_err(Fault::output),
     }

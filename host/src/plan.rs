@@ -388,6 +388,16 @@ pub mod tests {
         fs::write(&path, toml).unwrap();
         Plan::read(&path)
     }
+    /// A plan of 5 chunks, 300 cells, whose masks have both kinds.
+    pub fn small() -> Plan {
+        let mut ephemeris = String::from("time,sun_x,sun_y,sun_z,observer_x,observer_y,observer_z\n");
+        for j in 0..100 {
+            let ((s, c), z) = ((j as f64 * 0.3).sin_cos(), (j as f64 * 0.7).cos());
+            ephemeris += &format!("2026-03-20T{:02}:{:02}:00Z,{},{},{},0,0,0\n", j / 60, j % 60, c, s, 0.4 * z);
+        }
+        let settings = "targets = \"t.csv\"\nephemeris = \"e.csv\"\nrolls = 8\ntolerance = 15\n";
+        plan(settings, "name,x,y,z\nA,1,0,0\nB,0,0.6,0.8\nC,0,-1,0\n", &ephemeris).unwrap()
+    }
     fn with(settings: &str) -> Result<Plan, Fault> {
         plan(&format!("targets = \"t.csv\"\nephemeris = \"e.csv\"\n{}", settings), TARGETS, EPHEMERIS)
     }

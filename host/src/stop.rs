@@ -1,20 +1,60 @@
-//! Ctrl-C and the signals that ask a process to end: the sweep ends after the line it is writing.
-use std::sync::atomic::{AtomicBool, Ordering};
+//! Ctrl-C and the signals that ask a process to end: the sweep ends after the lines it is writing.
+use signal_hook::{
+    consts::{SIGHUP, SIGINT, SIGTERM},
+    flag,
+};
+use std::{
+    fs,
+    sync::{
+        atomic::{AtomicBool, Ordering},
+        Arc, OnceLock,
+    },
+};
 
-static ASKED: AtomicBool = AtomicBool::new(false);
+static ASKED: OnceLock<Arc<AtomicBool>> = OnceLock::new();
 
-/// Listens for the signals. The second one ends the process at once.
+fn flag() -> &'static Arc<AtomicBool> {
+    ASKED.get_or_init(Arc::default)
+}
+
+/// Listens for the signals. The second one ends the process at once. One that was ignored when the program was started stays so: that is
+/// how `nohup` protects what it runs.
 pub fn listen() {
-    let handler = || {
-        if ASKED.swap(true, Ordering::SeqCst) {
-            std::process::exit(130);
+    let status = fs::read_to_string("/proc/self/status").unwrap_or_default();
+    for signal in [SIGHUP, SIGINT, SIGTERM] {
+        if is_ignored(&status, signal) {
+            continue;
         }
-    };
-    if let Err(e) = ctrlc::set_handler(handler) {
-        tell!("warning: Ctrl-C will end the program at once ({})", e);
+        // In this order: the first signal finds the flag not yet set.
+        let set = flag::register_conditional_shutdown(signal, 130, flag().clone()).and_then(|_| flag::register(signal, flag().clone()));
+        if let Err(e) = set {
+            tell!("warning: signal {} will end the program at once ({})", signal, e);
+        }
     }
 }
 
 pub fn asked() -> bool {
-    ASKED.load(Ordering::SeqCst)
+    flag().load(Ordering::SeqCst)
+}
+
+/// Whether a process of this /proc status ignores a signal.
+fn is_ignored(status: &str, signal: i32) -> bool {
+    let digits = status.lines().find_map(|line| line.strip_prefix("SigIgn:")).unwrap_or("0").trim();
+    u64::from_str_radix(digits, 16).map_or(false, |signals| signals >> (signal - 1) & 1 == 1)
+}
+
+#[cfg(test)]
+mod tests {
+    use super::*;
+
+    #[test]
+    fn ignored_signals() {
+        let status = "Name:\tx\nSigBlk:\tffffffffffffffff\nSigIgn:\t0000000000001001\nSigCgt:\tffffffffffffffff\n";
+        assert!(is_ignored(status, SIGHUP));
+        assert!(!is_ignored(status, SIGINT) && !is_ignored(status, SIGTERM));
+        assert!(is_ignored("SigIgn:\t0000000000004000\n", SIGTERM));
+        for unreadable in ["", "SigIgn:\n", "SigIgn:\tx\n"] {
+            assert!(!is_ignored(unreadable, SIGHUP));
+        }
+    }
 }

@@ -4,7 +4,7 @@ use crate::{
     engine::{self, HEADER_BYTES, LINE_BYTES},
     explain,
     fault::Fault,
-    journal::{done, Journal, Sync},
+    journal::{done, Journal},
     listing::Listing,
     plan::Plan,
     progress::Progress,
@@ -26,9 +26,6 @@ pub struct Sweep {
     /// Work out these chunks in this order, such as 40..80 or 7,0..5
     #[arg(long, value_name = "A..B", value_delimiter = ',')]
     chunks: Option<Vec<Chunks>>,
-    /// Sync each line, or once a second (a power cut may then take several lines)
-    #[arg(long, value_name = "WHEN", value_enum, default_value_t = Sync::Line)]
-    sync: Sync,
     /// Wait while another process sweeps into the journal
     #[arg(long)]
     wait: bool,
@@ -87,7 +84,7 @@ impl Sweep {
             tell!("{}", text);
         }
         stop::listen();
-        let mut journal = Journal::open(&path, &plan, self.wait, self.sync)?;
+        let mut journal = Journal::open(&path, &plan, self.wait)?;
         start(&plan, &mut journal)?;
 
         let has_line = done(journal.used(), plan.chunks());
@@ -100,17 +97,12 @@ impl Sweep {
         while !left.is_empty() && !stop::asked() {
             let (used, run) = (journal.used, first_run(left));
             let upto = engine::work(&plan, run, &mut journal.bytes, used).map_err(|r| explain::plan(&plan, r))?;
-            // What is not written yet when a signal comes is worked out again by the next sweep.
-            for end in (used..=upto).step_by(LINE_BYTES as usize).skip(1) {
-                journal.append(end)?;
-                progress.add(1);
-                left = &left[1..];
-                if stop::asked() {
-                    break;
-                }
-            }
+            journal.append(upto)?;
+            let lines = (upto - used) / LINE_BYTES as usize;
+            progress.add(lines);
+            left = &left[lines..];
         }
-        journal.end()?;
+        journal.as_left()?;
         progress.end();
         self.end(&plan, &journal)
     }
@@ -148,11 +140,11 @@ impl Sweep {
     }
 }
 
-/// As many chunks as are worked out before their lines are written: the journal is checked once for all of them.
+/// As many chunks as are worked out before their lines are written: the journal is checked once, and synced once, for all of them.
 const AT_ONCE: u64 = 64;
 
 /// The chunks at the front of the list, as far as each follows the one before.
-fn first_run(chunks: &[u64]) -> Range<u64> {
+pub fn first_run(chunks: &[u64]) -> Range<u64> {
     let from = chunks[0];
     let run = (from..from + AT_ONCE).zip(chunks).take_while(|(next, chunk)| next == *chunk);
     from..from + run.count() as u64
@@ -171,10 +163,7 @@ fn start(plan: &Plan, journal: &mut Journal) -> Result<(), Fault> {
     }
     // Without a line nothing depends on the digest: it is made this plan's, before the first line can follow.
     if keep <= HEADER_BYTES as usize {
-        let digest = Digest::of(plan);
-        if Digest::beside(&journal.path).ok().flatten().as_ref() != Some(&digest) {
-            digest.write(&journal.path)?;
-        }
+        Digest::of(plan).write(&journal.path)?;
     }
     if keep == 0 {
         let upto = engine::begin(plan, &mut journal.bytes).map_err(|r| explain::plan(plan, r))?;

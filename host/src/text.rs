@@ -1,4 +1,5 @@
 //! Small things of output.
+use std::{os::unix::ffi::OsStrExt, path::Path};
 
 /// Says something on standard error; a sweep goes on though nobody listens there.
 #[macro_export]
@@ -76,9 +77,35 @@ pub fn ranges(flags: &[bool], wanted: bool) -> String {
     parts.join(", ")
 }
 
+/// A file's name as a shell takes it for one word.
+pub fn quoted(path: &Path) -> String {
+    let mut bytes = path.as_os_str().as_bytes().to_vec();
+    if bytes.starts_with(b"-") {
+        bytes.splice(..0, *b"./");
+    }
+    match std::str::from_utf8(&bytes) {
+        Ok(name) if !name.chars().any(char::is_control) => {
+            let plain = |c: char| c.is_alphanumeric() || "_./,:=@%+-".contains(c);
+            match !name.is_empty() && name.chars().all(plain) {
+                true => name.to_owned(),
+                false => format!("'{}'", name.replace('\'', r"'\''")),
+            }
+        }
+        _ => {
+            let escaped = |&b: &u8| match b {
+                b'\'' | b'\\' => format!("\\{}", char::from(b)),
+                b' '..=b'~' => char::from(b).to_string(),
+                _ => format!("\\x{:02x}", b),
+            };
+            format!("$'{}'", bytes.iter().map(escaped).collect::<String>())
+        }
+    }
+}
+
 #[cfg(test)]
 mod tests {
     use super::*;
+    use std::{ffi::OsStr, process::Command};
 
     #[test]
     fn thousands() {
@@ -101,5 +128,17 @@ mod tests {
         assert_eq!(ranges(&[true, true, false, true], true), "0..2, 3");
         assert_eq!(ranges(&[true, true, false, true], false), "2");
         assert_eq!(ranges(&[false; 5], false), "0..5");
+    }
+    #[test]
+    fn words_of_a_shell() {
+        let names: [&[u8]; 10] =
+            [b"a/plan.toml", b"two words", b"it's", b"$HOME `x` \"y\" \\", b"-o", b"", b"*?", b"1\n2\t'\\", b"\x1b[31m", b"latin-1 \xe9"];
+        for name in names {
+            let word = quoted(Path::new(OsStr::from_bytes(name)));
+            let said = Command::new("bash").args(["-c", &format!("printf %s {}", word)]).output().unwrap().stdout;
+            assert_eq!(said.strip_prefix(b"./").unwrap_or(&said), name, "{}", word);
+            assert!(!word.chars().any(char::is_control));
+        }
+        assert_eq!(quoted(Path::new("a/plan-é.toml")), "a/plan-é.toml");
     }
 }

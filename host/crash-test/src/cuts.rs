@@ -1,7 +1,8 @@
 //! Power cuts: at every byte of the journal, at every system call, at any moment.
 use crate::{
     case::Case,
-    machine::{run_to_call, sweep_words, Ended, Machine, Stop},
+    machine::{sweep_words, Ended, Machine},
+    trace::{run_to, Stop},
     Tally,
 };
 use cases::Seeded;
@@ -10,6 +11,7 @@ use model::{
     ledger::{Entry, Ledger},
 };
 use std::{
+    collections::BTreeSet,
     fs,
     path::Path,
     time::{Duration, Instant},
@@ -20,12 +22,20 @@ pub fn words(order: &[usize]) -> String {
     order.iter().map(usize::to_string).collect::<Vec<_>>().join(",")
 }
 
+/// An order in which runs of chunks are shuffled, mostly runs of one: up to 64 chunks that follow each other are one write.
 pub fn shuffled(seeded: &mut Seeded, n: usize) -> Vec<usize> {
-    let mut all: Vec<_> = (0..n).collect();
-    for i in (1..n).rev() {
-        all.swap(i, seeded.index(i + 1));
+    let longest = [1, 1, 1, 1, 1, 1, 4, 100][seeded.index(8)];
+    let mut runs = Vec::new();
+    let mut from = 0;
+    while from < n {
+        let to = n.min(from + 1 + seeded.index(longest));
+        runs.push(from..to);
+        from = to;
     }
-    all
+    for i in (1..runs.len()).rev() {
+        runs.swap(i, seeded.index(i + 1));
+    }
+    runs.into_iter().flatten().collect()
 }
 
 /// The entries of a sweep in this order, whose power fails when the journal has this many bytes.
@@ -87,7 +97,7 @@ pub fn every_byte(case: &Case, order: &[usize], folder: &Path, tally: &mut Tally
         tally.cuts += (byte < length) as u64;
         looked_at(&machine, &ledger);
 
-        let again = || machine.command(&sweep_words(said));
+        let again = |stop| run_to(&machine, &sweep_words(said), stop, 0).killed;
         let to_shorten = {
             let mut recovered = Ledger::new(&case.sweep);
             swept(&mut recovered, order, byte);
@@ -95,9 +105,9 @@ pub fn every_byte(case: &Case, order: &[usize], folder: &Path, tally: &mut Tally
             recovered.length() < byte
         };
         if to_shorten {
-            assert!(run_to_call(again(), Stop::First(libc::SYS_ftruncate)));
+            assert!(again(Stop::Of(libc::SYS_ftruncate, 1)));
             assert!(machine.journal() == ledger.journal(), "a recovery that lost power changed the journal");
-            assert!(run_to_call(again(), Stop::After(libc::SYS_ftruncate)));
+            assert!(again(Stop::After(libc::SYS_ftruncate)));
             ledger.enter(Entry::Recover).unwrap();
             assert!(machine.journal() == ledger.journal(), "recovery left other bytes than the ledger's");
             tally.cuts += 2;
@@ -128,26 +138,38 @@ pub fn every_byte_of_the_digest(case: &Case, folder: &Path, tally: &mut Tally) {
     }
 }
 
-/// The power fails on entry to each system call of a sweep, the first to the last; then on entry to another of the run after it.
+/// The power fails on entry to each system call of a sweep, the first to the last; then on entry to another of the run after it. Of bytes
+/// that were not synced when it failed, it may have taken any number from the end: each is tried.
 pub fn every_call(case: &Case, folder: &Path, seeded: &mut Seeded, tally: &mut Tally) {
     let machine = Machine::new(case, folder);
     let all: Vec<_> = (0..case.chunks()).collect();
+    let mut tried = BTreeSet::new();
     let mut number = 0;
     loop {
         number += 1;
         let _ = fs::remove_file(machine.folder.join("plan.journal.plan"));
         machine.without_journal();
-        let killed = run_to_call(machine.command(&sweep_words(None)), Stop::Call(number));
-        tally.cuts += killed as u64;
+        let first = run_to(&machine, &sweep_words(None), Stop::Call(number), 0);
+        tally.cuts += first.killed as u64;
         between_entries(&machine, &all);
         let before = machine.journal();
-        if run_to_call(machine.command(&sweep_words(None)), Stop::Call(1 + seeded.below(number + 1))) {
-            tally.cuts += 1;
-        }
+        let second = run_to(&machine, &sweep_words(None), Stop::Call(1 + seeded.below(number + 1)), first.durable);
+        tally.cuts += second.killed as u64;
         between_entries(&machine, &all);
-        assert!(machine.journal().starts_with(&before), "a whole line was lost");
+        let after = machine.journal();
+        assert!(after.starts_with(&before), "a whole line was lost");
         whole(&machine, &machine.sweep(None));
-        if !killed {
+        for (journal, durable) in [(before, first.durable), (after, second.durable)] {
+            for bytes in (durable..journal.len()).filter(|&bytes| tried.insert(bytes)) {
+                fs::write(machine.path(), &journal[..bytes]).unwrap();
+                let mut ledger = Ledger::new(&case.sweep);
+                swept(&mut ledger, &all, bytes);
+                assert!(machine.journal() == ledger.journal(), "the journal is not the ledger's");
+                whole(&machine, &machine.sweep(None));
+                tally.unsynced += 1;
+            }
+        }
+        if !first.killed {
             break;
         }
     }
@@ -181,13 +203,24 @@ pub fn any_moment(case: &Case, folder: &Path, seeded: &mut Seeded, until: Instan
         let order = shuffled(seeded, case.chunks());
         let said = words(&order);
         let before = ledger.journal();
-        match seeded.below(4) {
-            0 => machine.sweep_to_byte(Some(&said), before.len() + seeded.index(4 * LINE)),
-            1 => machine.sweep_for(Some(&said), start.mul_f64(1.2 * seeded.unit())),
-            _ => machine.sweep_beyond(Some(&said), before.len() + seeded.index(2 * LINE), Duration::from_micros(seeded.below(500))),
+        let mut durable = usize::MAX;
+        match seeded.below(5) {
+            0 => drop(machine.sweep_to_byte(Some(&said), before.len() + seeded.index(4 * LINE))),
+            1 => drop(machine.sweep_for(Some(&said), start.mul_f64(1.2 * seeded.unit()))),
+            2 => {
+                durable =
+                    run_to(&machine, &sweep_words(Some(&said)), Stop::Of(libc::SYS_fdatasync, 1 + seeded.below(3)), before.len()).durable
+            }
+            _ => drop(machine.sweep_beyond(Some(&said), before.len() + seeded.index(2 * LINE), Duration::from_micros(seeded.below(500)))),
         };
         kills += 1;
-        let now = machine.journal();
+        let mut now = machine.journal();
+        if durable < now.len() {
+            // The power takes some of what was not synced.
+            now.truncate(durable + seeded.index(now.len() - durable));
+            fs::write(machine.path(), &now).unwrap();
+            tally.unsynced += 1;
+        }
         // A process that ended before it shortened has left the tail; else the tail is gone and whole lines may follow.
         if now != before {
             swept(&mut ledger, &order, now.len());

@@ -1,12 +1,14 @@
 //! Pulls the plug of `wilfnusk sweep` on purpose, and often, and holds what is left against document 01's ledger.
 //!
 //! `crash-test [SECONDS]`: every byte and every system call of small sweeps, damage and trouble always; random moments and splits for
-//! as many seconds. What a journal, a mask and a window must be comes from the model of document 01, never from the program itself.
+//! as many seconds. `crash-test --without-syncs` lets the syncs of every traced run do nothing, and must fail. What a journal, a mask and a window must be comes from the model of document 01, never from the program itself.
 mod case;
 mod cuts;
 mod damage;
 mod machine;
 mod split;
+mod syncs;
+mod trace;
 mod trouble;
 
 use case::Case;
@@ -15,6 +17,7 @@ use std::{
     env, fs,
     path::{Path, PathBuf},
     process,
+    sync::atomic::Ordering,
     time::{Duration, Instant},
 };
 
@@ -27,6 +30,8 @@ pub struct Tally {
     pub bytes: u64,
     /// System calls at which it was cut.
     pub calls: u64,
+    /// Cuts that took bytes which were written and not synced.
+    pub unsynced: u64,
     /// The most cuts in a row on one journal.
     pub longest: u64,
     /// Sweeps that were split over machines and merged.
@@ -37,14 +42,20 @@ pub struct Tally {
 }
 
 fn main() {
-    let seconds: u64 = match env::args().nth(1).map(|text| text.parse()) {
-        None => 20,
-        Some(Ok(seconds)) => seconds,
-        Some(Err(_)) => {
-            eprintln!("usage: crash-test [SECONDS]");
-            process::exit(2);
+    let words: Vec<_> = env::args().skip(1).collect();
+    let seconds = match words.iter().map(String::as_str).collect::<Vec<_>>()[..] {
+        [] => Ok(20),
+        ["--without-syncs"] => {
+            trace::WITHOUT_SYNCS.store(true, Ordering::Relaxed);
+            Ok(0)
         }
+        [text] => text.parse(),
+        _ => "".parse(),
     };
+    let seconds: u64 = seconds.unwrap_or_else(|_| {
+        eprintln!("usage: crash-test [SECONDS | --without-syncs]");
+        process::exit(2);
+    });
     let seed = env::var("SEED").ok().and_then(|text| text.parse().ok()).unwrap_or(1);
     // Memory, if there is a folder for it: a cut is the kernel's doing and the same there, and syncing costs nothing.
     let memory = Path::new("/dev/shm");
@@ -54,8 +65,14 @@ fn main() {
     let tally = run(&folder, seconds, seed);
     fs::remove_dir_all(&folder).unwrap();
     println!(
-        "{} power cuts, up to {} in a row on one journal, {} split sweeps, {} damaged journals ({} refused, the rest still right): nothing was lost",
-        tally.cuts, tally.longest, tally.splits, tally.damaged, tally.told
+        "{} power cuts ({} of them took bytes that were not synced), up to {} in a row on one journal, {} split sweeps, {} damaged journals \
+         ({} refused, the rest still right): nothing was lost",
+        tally.cuts + tally.unsynced,
+        tally.unsynced,
+        tally.longest,
+        tally.splits,
+        tally.damaged,
+        tally.told
     );
 }
 
@@ -79,16 +96,23 @@ fn run(folder: &Path, seconds: u64, seed: u64) -> Tally {
         if chunks > 2 {
             orders.push(cuts::shuffled(&mut seeded, chunks));
         }
+        let (writes, syncs) = syncs::watched(case, &orders, &syncs::LEFT, &at("watched"));
+        done(format!("watched: {}, {} writes, {} syncs", case.name, writes, syncs));
         let before = tally.cuts;
         for order in &orders {
             cuts::every_byte(case, order, &at("bytes"), &mut tally);
         }
         done(format!("every byte: {}, orders of chunks: {}, cuts: {}", case.name, orders.len(), tally.cuts - before));
     }
+    let missed = syncs::missed(&four, &at("missed"));
+    done(format!("a sync that is missing: {} of {} told", missed, missed));
     cuts::every_byte_of_the_digest(&example, &at("digest"), &mut tally);
     done("every byte of the digest".into());
     cuts::every_call(&fixed, &at("calls"), &mut seeded, &mut tally);
-    done(format!("every system call: {} of them", tally.calls));
+    done(format!("every system call: {} of them; {} cuts took bytes that were not synced", tally.calls, tally.unsynced));
+    let before = tally.calls;
+    split::every_call_of_merge(&four, &at("merge"), &mut tally);
+    done(format!("every system call of a merge: {} of them", tally.calls - before));
     damage::all(&four, &at("damage"), &mut seeded, &mut tally);
     done(format!("damage: {} journals", tally.damaged));
     for what in trouble::all(&four, &at("trouble")) {
@@ -96,6 +120,8 @@ fn run(folder: &Path, seconds: u64, seed: u64) -> Tally {
     }
 
     let large = Case::drawn("40 targets, 1,000 times, 3,600 rolls", 5, 40, 1000, 3600, 0.03, None);
+    let (writes, syncs) = syncs::watched(&large, &[(0..large.chunks()).collect()], &[None], &at("watched"));
+    done(format!("watched: {}, {} writes, {} syncs", large.name, writes, syncs));
     let until = Instant::now() + Duration::from_secs(seconds);
     let half = Instant::now() + Duration::from_secs(seconds) / 2;
     let before = tally.cuts;

@@ -3,10 +3,11 @@ use crate::{
     case::Case,
     cuts::{pause, whole},
     machine::{ended, program, sweep_words, Machine},
+    trace::{run_to, Stop},
     Tally,
 };
 use cases::Seeded;
-use model::journal::LINE;
+use model::journal::{HEADER, LINE};
 use std::{
     fs,
     path::Path,
@@ -61,7 +62,7 @@ pub fn with_parallel(case: &Case, machines: usize, folder: &Path, seeded: &mut S
 fn merged(case: &Case, folder: &Path, all: &[Machine], tally: &mut Tally) {
     let target = Machine::new(case, &folder.join("merged"));
     let journals: Vec<_> = all.iter().map(|m| m.path().display().to_string()).collect();
-    let mut words = vec!["merge", "-o", "plan.journal"];
+    let mut words = vec!["merge", "plan.toml", "-o", "plan.journal"];
     words.extend(journals.iter().map(String::as_str));
     let ended = target.run(&words);
     assert_eq!(ended.status, 0, "{}", ended.stderr);
@@ -69,15 +70,81 @@ fn merged(case: &Case, folder: &Path, all: &[Machine], tally: &mut Tally) {
     assert!(target.windows_csv() == case.windows_csv(), "the windows are not those of one machine");
 
     // Once more, with the merged journal and a part of it: nothing is new. A line that differs stops it.
-    let words = ["merge", "-o", "again.journal", "plan.journal", &journals[0]];
+    let words = ["merge", "plan.toml", "-o", "again.journal", "plan.journal", &journals[0]];
     assert_eq!(target.run(&words).status, 0);
     assert!(fs::read(target.folder.join("again.journal")).unwrap() == target.journal());
-    let mut other = target.journal();
-    let at = other.len() - LINE + 8;
-    other[at] = if other[at] == b'0' { b'1' } else { b'0' };
-    fs::write(target.folder.join("other.journal"), other).unwrap();
-    let ended = target.run(&["merge", "-o", "never.journal", "plan.journal", "other.journal"]);
+    let good = target.journal();
+    let other = still_right(&good);
+    fs::write(target.folder.join("other.journal"), &other).unwrap();
+    fs::copy(target.folder.join("plan.journal.plan"), target.folder.join("other.journal.plan")).unwrap();
+    let words = ["merge", "plan.toml", "-o", "never.journal", "plan.journal", "other.journal"];
+    let ended = target.run(&words);
     assert!(ended.status == 3 && ended.stderr.contains("has two different lines"), "{}", ended.stderr);
+    // Worked out again, every line of the split sweep is the same, and the one that differs is named.
+    let ended = target.run(&["check", "plan.toml", "--recompute"]);
+    let says = format!("plan.journal: {} lines worked out again: each is the same", case.chunks());
+    let said = String::from_utf8(ended.stdout).unwrap();
+    assert!(
+        ended.status == 0 && said.contains(&says) && said.contains("the files are those it was begun with"),
+        "{}{}",
+        said,
+        ended.stderr
+    );
+    let at = good.iter().zip(&other).position(|(a, b)| a != b).unwrap();
+    let ended = target.run(&[&words[..], &["--recompute"]].concat());
+    let says = format!("other.journal: {} lines worked out again, and 1 is not the same", case.chunks());
+    let line = format!("\n  line {}, chunk ", (at - HEADER) / LINE + 2);
+    assert!(ended.status == 1 && ended.stderr.contains(&says) && ended.stderr.contains(&line), "{}", ended.stderr);
     assert!(!target.folder.join("never.journal").exists());
     tally.splits += 1;
+}
+
+/// The power fails on entry to each system call of a merge: the new journal is there whole or not at all, and a digest stands beside it only
+/// if every part had one, though another stood there before.
+pub fn every_call_of_merge(case: &Case, folder: &Path, tally: &mut Tally) {
+    let machine = Machine::new(case, folder);
+    let file = |name: &str| machine.folder.join(name);
+    for part in ["1", "2"] {
+        let journal = format!("part{}.journal", part);
+        let ended = machine.run(&["sweep", "plan.toml", "--quiet", "--journal", &journal, "--part", &format!("{}/2", part)]);
+        assert_eq!(ended.status, 0, "{}", ended.stderr);
+    }
+    let digest = fs::read_to_string(file("part1.journal.plan")).unwrap();
+    // Another plan's digest: the first digit of the settings' is another.
+    let at = digest.find("settings ").unwrap() + "settings ".len();
+    let other = [&digest[..at], if &digest[at..=at] == "0" { "1" } else { "0" }, &digest[at + 1..]].concat();
+    let whole = [&case.sweep.header[..], &case.sweep.lines.concat()].concat();
+    for all_known in [true, false] {
+        if !all_known {
+            fs::remove_file(file("part2.journal.plan")).unwrap();
+        }
+        for number in 1.. {
+            let _ = fs::remove_file(file("all.journal"));
+            fs::write(file("all.journal.plan"), if all_known { &other } else { &digest }).unwrap();
+            let words = ["merge", "plan.toml", "part1.journal", "part2.journal", "-o", "all.journal"];
+            let killed = run_to(&machine, &words, Stop::Call(number), 0).killed;
+            if file("all.journal").exists() {
+                assert!(fs::read(file("all.journal")).unwrap() == whole, "a part of the merged journal");
+                let beside = fs::read_to_string(file("all.journal.plan")).ok();
+                assert!(beside.as_ref() == Some(&digest).filter(|_| all_known), "a digest that speaks for other lines");
+            } else {
+                assert!(killed, "no merged journal");
+            }
+            tally.cuts += killed as u64;
+            if !killed {
+                break;
+            }
+            tally.calls += 1;
+        }
+    }
+}
+
+/// The journal with one line that is another and still right: as many of its cells are marked.
+fn still_right(journal: &[u8]) -> Vec<u8> {
+    let mut journal = journal.to_vec();
+    let digit = |at: usize| char::from(journal[at]).to_digit(16).unwrap();
+    let masks = (HEADER..journal.len()).filter(|at| (8..24).contains(&((at - HEADER) % LINE)));
+    let at = masks.into_iter().find(|&at| ![0, 15].contains(&digit(at))).expect("a mask of some cells");
+    journal[at] = char::from_digit((digit(at) << 1 | digit(at) >> 3) & 15, 16).unwrap() as u8;
+    journal
 }

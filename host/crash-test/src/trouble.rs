@@ -2,7 +2,7 @@
 //! A clear sentence each time, and every whole line stays.
 use crate::{
     case::Case,
-    cuts::{pause, whole},
+    cuts::{pause, whole, words},
     machine::{ended, sweep_words, Ended, Machine},
 };
 use model::journal::{HEADER, LINE};
@@ -26,6 +26,8 @@ pub fn all(case: &Case, folder: &Path) -> Vec<String> {
     done.push("a second process on one journal".into());
     grown(&machine);
     done.push("a journal that another program writes".into());
+    renamed(&machine);
+    done.push("a journal that is renamed, and one that is replaced".into());
     edited(&machine);
     done.push("edited targets and positions, a lost digest".into());
     done
@@ -39,6 +41,12 @@ fn says(ended: &Ended, status: i32, words: &[&str]) {
 /// Whether these are the header, lines and a beginning of a line of the unbroken run.
 fn unbroken(machine: &Machine, journal: &[u8]) -> bool {
     [&machine.case.sweep.header[..], &machine.case.sweep.lines.concat()].concat().starts_with(journal)
+}
+
+/// The same of a run from the last chunk to the first.
+fn unbroken_backwards(machine: &Machine, journal: &[u8]) -> bool {
+    let lines: Vec<_> = machine.case.sweep.lines.iter().rev().cloned().collect();
+    [&machine.case.sweep.header[..], &lines.concat()].concat().starts_with(journal)
 }
 
 fn full(machine: &Machine) {
@@ -97,9 +105,9 @@ fn read_only(machine: &Machine) -> String {
 fn stopped(machine: &Machine) -> Child {
     loop {
         machine.without_journal();
-        let mut command = machine.command(&sweep_words(None));
-        command.args(["--sync", "line"]);
-        let child = command.spawn().unwrap();
+        // One write a line, as no chunk follows the one before it.
+        let backwards: Vec<_> = (0..machine.case.chunks()).rev().collect();
+        let child = machine.command(&sweep_words(Some(&words(&backwards)))).spawn().unwrap();
         let begun = Instant::now();
         while machine.journal().len() <= HEADER && begun.elapsed() < Duration::from_secs(5) {}
         signal(&child, libc::SIGSTOP);
@@ -139,6 +147,24 @@ fn grown(machine: &Machine) {
     assert!(machine.journal().starts_with(&[&journal[..], b"other"].concat()));
     fs::write(machine.path(), &journal).unwrap();
     whole(machine, &machine.sweep(None));
+}
+
+fn renamed(machine: &Machine) {
+    let other = machine.folder.join("other.journal");
+    for replaced in [false, true] {
+        let first = stopped(machine);
+        let journal = machine.journal();
+        fs::rename(machine.path(), &other).unwrap();
+        if replaced {
+            fs::write(machine.path(), &journal).unwrap();
+        }
+        signal(&first, libc::SIGCONT);
+        says(&ended(first), 3, &["plan.journal: the file was renamed or replaced", "every whole line stays in it"]);
+        assert!(unbroken_backwards(machine, &fs::read(&other).unwrap()));
+        assert!(!replaced || machine.journal() == journal);
+        fs::rename(&other, machine.path()).unwrap();
+        whole(machine, &machine.sweep(None));
+    }
 }
 
 fn edited(machine: &Machine) {
