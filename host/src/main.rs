@@ -17,8 +17,10 @@ mod journal;
 mod listing;
 mod look;
 mod merge;
+mod outputs;
 mod plan;
 mod progress;
+mod selection;
 mod sheet;
 mod source;
 mod stop;
@@ -28,9 +30,8 @@ mod sweep;
 use clap::{Args, Parser, Subcommand};
 use fault::Fault;
 use std::{
-    fs::File,
-    io::{self, BufWriter, Write},
-    path::{Path, PathBuf},
+    io::{self, Write},
+    path::PathBuf,
     process::exit,
 };
 
@@ -42,7 +43,7 @@ use std::{
         a power cut costs at most the line being written, and the same command goes on.",
     after_help = "Start with:\n  wilfnusk example day\n  wilfnusk sweep day/plan.toml --svg windows.svg\n\n\
         Exit status: 0 done, 1 refused (the message has the number of the reason),\n  \
-        2 wrong command line, 3 files, 130 stopped by Ctrl-C."
+        2 wrong command line, 3 files, 4 the sweep is not finished (status, windows, mask),\n  130 stopped by Ctrl-C."
 )]
 struct Cli {
     #[command(subcommand)]
@@ -58,7 +59,7 @@ enum Command {
     /// Show how far a sweep is
     Status(look::Status),
     /// Check a plan and its journal, and explain what is refused
-    Check(look::Status),
+    Check(look::Check),
     /// Print the sweep's mask, or the mask at one roll
     Mask(look::Mask),
     /// Print each target's mark at one time
@@ -83,23 +84,6 @@ struct Files {
     journal: Option<PathBuf>,
 }
 
-/// Where windows are listed.
-#[derive(Args)]
-struct Outputs {
-    /// Write the windows as CSV ("-" for standard output, in place of the table)
-    #[arg(long, value_name = "FILE")]
-    csv: Option<PathBuf>,
-    /// Write the windows as JSON
-    #[arg(long, value_name = "FILE")]
-    json: Option<PathBuf>,
-    /// Write a timeline as SVG
-    #[arg(long, value_name = "FILE")]
-    svg: Option<PathBuf>,
-    /// Leave the table out
-    #[arg(long, short)]
-    quiet: bool,
-}
-
 impl Files {
     /// The plan, as far as the library takes it, and the journal's place.
     fn read(&self) -> Result<(plan::Plan, PathBuf), Fault> {
@@ -110,42 +94,12 @@ impl Files {
     }
 }
 
-impl Outputs {
-    /// Writes the windows wherever they are asked for.
-    fn write(&self, listing: &listing::Listing) -> Result<(), Fault> {
-        let dash = Path::new("-");
-        let files = [&self.csv, &self.json, &self.svg];
-        let on_stdout = files.iter().filter(|f| f.as_deref() == Some(dash)).count();
-        if on_stdout > 1 {
-            return Err(Fault::Usage("only one of --csv, --json and --svg can go to standard output".into()));
-        }
-        if !self.quiet && on_stdout == 0 {
-            listing.table(&mut io::stdout().lock()).map_err(Fault::output)?;
-        }
-        type Write<'a> = Box<dyn Fn(&mut dyn io::Write) -> io::Result<()> + 'a>;
-        let writes: [Write; 3] =
-            [Box::new(|out| listing.csv(out)), Box::new(|out| listing.json(out)), Box::new(|out| svg::write(listing, out))];
-        for (file, write) in files.iter().zip(writes) {
-            match file {
-                None => {}
-                Some(path) if path == dash => write(&mut io::stdout().lock()).map_err(Fault::output)?,
-                Some(path) => {
-                    let written = File::create(path).and_then(|f| write(&mut BufWriter::new(f)));
-                    written.map_err(|e| files::fault(path, &e))?;
-                    tell!("wrote {}", path.display());
-                }
-            }
-        }
-        Ok(())
-    }
-}
-
 fn run(command: Command) -> Result<(), Fault> {
     match command {
         Command::Sweep(c) => c.run(),
         Command::Windows(c) => c.run(),
-        Command::Status(c) => c.status(),
-        Command::Check(c) => c.check(),
+        Command::Status(c) => c.run(),
+        Command::Check(c) => c.run(),
         Command::Mask(c) => c.run(),
         Command::Regard(c) => c.run(),
         Command::Merge(c) => c.run(),
@@ -159,7 +113,7 @@ fn run(command: Command) -> Result<(), Fault> {
 
 /// Prints a line.
 fn say(text: impl std::fmt::Display) -> Result<(), Fault> {
-    writeln!(io::stdout(), "{}", text).map_err(Fault::output)
+    writeln!(io::stdout(), "{}", text::printable_lines(&text.to_string())).map_err(Fault::output)
 }
 
 fn main() {

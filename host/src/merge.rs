@@ -8,7 +8,7 @@ use crate::{
     journal::{chunk_of, hex, lines, look},
     plan::Plan,
     say,
-    text::grouped,
+    text::{counted, grouped},
 };
 use clap::Args;
 use std::{
@@ -38,6 +38,7 @@ impl Merge {
         let mut merged: Vec<u8> = Vec::new();
         let mut from: HashMap<u64, (&Path, Vec<u8>)> = HashMap::new();
         let mut digest: Option<(Digest, &Path)> = None;
+        let mut found = Vec::new();
         for path in &self.journals {
             let bytes = look(path)?;
             if let Some(plan) = &plan {
@@ -92,7 +93,7 @@ impl Merge {
                     }
                 }
             }
-            say(format_args!("{}: {} lines, {} of them new", path.display(), grouped(lines(&bytes).count()), grouped(new)))?;
+            found.push(format!("{}: {}, {} of them new\n", path.display(), counted(lines(&bytes).count(), "line"), grouped(new)));
         }
         if let Some(plan) = &plan {
             engine::recover(plan, &merged).map_err(|r| explain::journal(plan, &self.output, &merged, r))?;
@@ -102,7 +103,8 @@ impl Merge {
             digest.write(&self.output)?;
         }
         write_whole(&self.output, &merged)?;
-        say(format_args!("{}: {} lines", self.output.display(), grouped(from.len())))
+        // Last, as nobody need read it.
+        say(format_args!("{}{}: {}", found.concat(), self.output.display(), counted(from.len(), "line")))
     }
 }
 
