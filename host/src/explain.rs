@@ -6,7 +6,7 @@ use crate::{
     instant,
     journal::{chunk_of, hex},
     plan::Plan,
-    text::{grouped, printable},
+    text::grouped,
 };
 use std::path::Path;
 
@@ -25,13 +25,7 @@ pub fn plan(plan: &Plan, refusal: Refusal) -> Fault {
         4 => position(plan),
         5 => plan.targets.iter().position(|x| !(-1.0..=1.0).contains(x)).map(|i| {
             let field = plan.targets_sheet.field(i / 3, 1 + i % 3);
-            format!(
-                "{}: {} of target `{}` reads `{}`; allowed: -1 to 1",
-                field.at(),
-                field.name(),
-                printable(&plan.names[i / 3]),
-                printable(field.text())
-            )
+            format!("{}: {} of target `{}` reads `{}`; allowed: -1 to 1", field.at(), field.name(), plan.names[i / 3], field.text())
         }),
         6 => Some(format!("{}: panel reads {:?}; allowed: three finite numbers of at most 1e100 in size", plan.at("panel"), plan.panel)),
         8 => {
@@ -39,7 +33,7 @@ pub fn plan(plan: &Plan, refusal: Refusal) -> Fault {
             plan.times.iter().position(|t| !(-most..=most).contains(t)).map(|i| {
                 let field = plan.ephemeris_sheet.field(i, 0);
                 let (first, last) = (instant::format(-most, 0), instant::format(most, 0));
-                format!("{}: time reads `{}`; allowed: {} to {}", field.at(), printable(field.text()), first, last)
+                format!("{}: time reads `{}`; allowed: {} to {}", field.at(), field.text(), first, last)
             })
         }
         // A severity is the difference less the tolerance, and may not be infinite.
@@ -59,12 +53,9 @@ fn position(plan: &Plan) -> Option<String> {
         let field = plan.ephemeris_sheet.field(j, c);
         match field.number() {
             Ok(x) if x.abs() <= 1e100 => None,
-            _ => Some(format!(
-                "{}: {} reads `{}`; allowed: finite numbers of at most 1e100 in size",
-                field.at(),
-                field.name(),
-                printable(field.text())
-            )),
+            _ => {
+                Some(format!("{}: {} reads `{}`; allowed: finite numbers of at most 1e100 in size", field.at(), field.name(), field.text()))
+            }
         }
     })
 }

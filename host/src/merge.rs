@@ -8,7 +8,7 @@ use crate::{
     journal::{chunk_of, hex, lines, look},
     plan::Plan,
     say,
-    text::{counted, grouped},
+    text::grouped,
 };
 use clap::Args;
 use std::{
@@ -38,7 +38,6 @@ impl Merge {
         let mut merged: Vec<u8> = Vec::new();
         let mut from: HashMap<u64, (&Path, Vec<u8>)> = HashMap::new();
         let mut digest: Option<(Digest, &Path)> = None;
-        let mut found = Vec::new();
         for path in &self.journals {
             let bytes = look(path)?;
             if let Some(plan) = &plan {
@@ -93,7 +92,7 @@ impl Merge {
                     }
                 }
             }
-            found.push(format!("{}: {}, {} of them new\n", path.display(), counted(lines(&bytes).count(), "line"), grouped(new)));
+            say(format_args!("{}: {} lines, {} of them new", path.display(), grouped(lines(&bytes).count()), grouped(new)))?;
         }
         if let Some(plan) = &plan {
             engine::recover(plan, &merged).map_err(|r| explain::journal(plan, &self.output, &merged, r))?;
@@ -103,8 +102,7 @@ impl Merge {
             digest.write(&self.output)?;
         }
         write_whole(&self.output, &merged)?;
-        // Last, as nobody need read it.
-        say(format_args!("{}{}: {}", found.concat(), self.output.display(), counted(from.len(), "line")))
+        say(format_args!("{}: {} lines", self.output.display(), grouped(from.len())))
     }
 }
 

@@ -1,5 +1,5 @@
 //! A plan as its files say it: a TOML file that names a CSV file of targets and one of positions.
-use crate::{fault::Fault, sheet::Sheet, source::Source, text::printable};
+use crate::{fault::Fault, sheet::Sheet, source::Source};
 use serde::de::{Deserialize, Deserializer, MapAccess, Visitor};
 use std::{
     collections::BTreeMap,
@@ -71,7 +71,7 @@ impl Plan {
                 return Err(Fault::Files(format!(
                     "{}: time reads `{}`, which is not after the time before it; allowed: times that increase",
                     fields[0].at(),
-                    printable(fields[0].text())
+                    fields[0].text()
                 )));
             }
             times.push(time);

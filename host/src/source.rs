@@ -1,5 +1,5 @@
 //! A text file held whole, so that every fault can name the line and the column.
-use crate::{fault::Fault, files, text::printable};
+use crate::{fault::Fault, files};
 use std::{
     fs,
     path::{Path, PathBuf},
@@ -43,7 +43,7 @@ impl Source {
     }
     /// A fault at a byte: what was read there and what is allowed.
     pub fn fault(&self, byte: usize, read: impl AsRef<str>, allowed: &str) -> Fault {
-        Fault::Files(format!("{}: {}; allowed: {}", self.at(byte), printable(read.as_ref()), allowed))
+        Fault::Files(format!("{}: {}; allowed: {}", self.at(byte), read.as_ref(), allowed))
     }
 }
 

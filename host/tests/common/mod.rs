@@ -1,4 +1,7 @@
 //! A folder with a plan whose marks are chosen, and runs of the program in it.
+// Each file of tests uses its part.
+#![allow(dead_code)]
+
 use std::{
     env, fs,
     path::PathBuf,
