@@ -395,3 +395,66 @@ fn escaped(text: &str) -> String {
     }
     safe
 }
+
+#[cfg(test)]
+mod tests {
+    use super::*;
+    use proptest::prelude::*;
+
+    #[test]
+    fn calendar_days() {
+        let at = |text: &str| instant::parse(text).unwrap();
+        let of = |step: Step, first, end| {
+            let times = step.times(at(first), at(end));
+            times.map(|t| instant::format(t, 0)[..10].to_owned()).collect::<Vec<_>>().join(" ")
+        };
+        assert_eq!(of(Step::Months(3), "2025-11-30T00:00:00Z", "2026-07-01T00:00:00Z"), "2026-01-01 2026-04-01 2026-07-01");
+        assert_eq!(of(Step::Days(vec![1, 11, 21]), "2028-02-15T00:00:00Z", "2028-03-12T00:00:00Z"), "2028-02-21 2028-03-01 2028-03-11");
+        assert_eq!(of(Step::Days((1..=31).collect()), "2026-02-27T12:00:00Z", "2026-03-02T00:00:00Z"), "2026-02-28 2026-03-01 2026-03-02");
+        assert_eq!(
+            of(Step::Months(240), "1843-03-31T16:53:20Z", "1961-01-01T00:00:00Z"),
+            "1860-01-01 1880-01-01 1900-01-01 1920-01-01 1940-01-01 1960-01-01"
+        );
+    }
+    #[test]
+    fn the_last_sample_is_as_wide_as_the_one_before() {
+        assert_eq!([0, 1, 2].map(|j| end_of(&[10, 20, 25], j)), [20, 25, 30]);
+        assert_eq!(end_of(&[10], 0), 10 + SECOND);
+        let most = 4_000_000_000_000_000_000;
+        assert_eq!(end_of(&[-most, most], 1), LATEST);
+    }
+    #[test]
+    fn only_characters_of_xml() {
+        let text: String = ('\0'..='\u{10ffff}').collect();
+        for c in escaped(&text).chars() {
+            assert!(matches!(c, '\t' | '\n' | '\r' | ' '..='\u{d7ff}' | '\u{e000}'..='\u{fffd}' | '\u{10000}'..), "{:?}", c);
+        }
+        assert_eq!(escaped("<\u{0}\u{fffe}&\""), "&lt;\u{fffd}\u{fffd}&amp;&quot;");
+    }
+    #[test]
+    fn names_are_cut_to_their_width() {
+        assert_eq!(cut("Vega"), "Vega");
+        for c in ["i", "m", "W", "星", "e\u{301}"] {
+            let short = cut(&c.repeat(100));
+            assert!(width_of(&short) <= NAME_MOST && (short.ends_with('…') || c == "i"), "{}", short);
+        }
+    }
+    proptest! {
+        /// Any span from nanoseconds to the longest: no label leaves the picture or meets its neighbour, and there are some.
+        #[test]
+        fn labels_leave_each_other_room(first in -4_000_000_000_000_000_000i64..3_000_000_000_000_000_000, size in 0.5..18.0f64, left in 64.0..340.0f64) {
+            let axis = Axis { first, end: first + 10f64.powf(size) as i64, left, single: false };
+            let ticks = axis.ticks();
+            prop_assert!((2..40).contains(&ticks.len()), "{} labels", ticks.len());
+            for line in [|tick: &Tick| tick.near.clone(), |tick: &Tick| tick.far.clone()] {
+                let labels: Vec<_> = ticks.iter().map(|tick| (axis.x(tick.time), line(tick))).filter(|(_, text)| !text.is_empty()).collect();
+                for (x, text) in &labels {
+                    prop_assert!(x - half(text) >= 0.0 && x + half(text) <= WIDTH && *x >= left && *x <= WIDTH - RIGHT);
+                }
+                for pair in labels.windows(2) {
+                    prop_assert!(pair[1].0 - pair[0].0 >= half(&pair[0].1) + half(&pair[1].1), "{:?}", pair);
+                }
+            }
+        }
+    }
+}
