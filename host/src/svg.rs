@@ -241,7 +241,7 @@ impl Axis {
     /// The finest round times whose labels leave each other room.
     fn ticks(&self) -> Vec<Tick> {
         if self.single {
-            return vec![Step::Nanos(1).tick(self.first)];
+            return vec![Step::Nanos(if self.first % SECOND == 0 { SECOND } else { 1 }).tick(self.first)];
         }
         let steps = steps();
         let fitting = steps.iter().filter(|step| (self.end - self.first) / step.length() <= 100).find_map(|step| {
@@ -323,12 +323,15 @@ impl Step {
         all.into_iter().filter(move |time| (first..=end).contains(time))
     }
     fn tick(&self, time: i64) -> Tick {
-        let text = instant::format(time, instant::digits([time]));
+        let digits = if let Step::Nanos(step) = self { instant::digits([*step]) } else { 0 };
+        let text = instant::format(time, digits);
         let (day, clock) = (&text[..10], &text[11..text.len() - 1]);
+        let minute = format!("{} {}", day, &clock[..5]);
         let month = MONTHS[date_of(time.div_euclid(DAY)).1 as usize - 1];
         let (near, far) = match self {
             Step::Nanos(step) if step % (60 * SECOND) == 0 => (&clock[..5], day),
-            Step::Nanos(_) => (clock, day),
+            Step::Nanos(step) if step % SECOND == 0 => (clock, day),
+            Step::Nanos(_) => (&clock[6..], &minute[..]),
             Step::Days(_) => (&day[5..], &day[..4]),
             Step::Months(n) if n % 12 == 0 => (&day[..4], ""),
             Step::Months(_) => (month, &day[..4]),

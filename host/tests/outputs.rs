@@ -3,15 +3,16 @@ mod common;
 
 use common::Folder;
 use std::{
-    fs,
+    fs, io,
     os::{
         fd::OwnedFd,
         unix::{
             fs::{symlink, PermissionsExt},
             net::{UnixDatagram, UnixStream},
+            process::CommandExt,
         },
     },
-    process::Stdio,
+    process::{Command, Stdio},
     thread,
     time::Duration,
 };
@@ -146,4 +147,43 @@ fn a_long_table_is_few_writes() {
         thread::yield_now();
     }
     assert!(lines > 10_000 && writes < lines / 100, "{} writes of {} lines", writes, lines);
+}
+
+/// The system calls of a run, by number.
+fn calls(mut command: Command) -> Vec<i64> {
+    unsafe {
+        command.stdout(Stdio::null()).stderr(Stdio::null()).pre_exec(|| match libc::ptrace(libc::PTRACE_TRACEME, 0, 0, 0) {
+            0 => Ok(()),
+            _ => Err(io::Error::last_os_error()),
+        });
+    }
+    let child = command.spawn().unwrap();
+    let pid = child.id() as libc::pid_t;
+    let (mut calls, mut entering, mut status) = (Vec::new(), true, 0);
+    loop {
+        assert_eq!(unsafe { libc::waitpid(pid, &mut status, 0) }, pid);
+        if !libc::WIFSTOPPED(status) {
+            return calls;
+        }
+        if libc::WSTOPSIG(status) == libc::SIGTRAP | 0x80 {
+            if entering {
+                let mut registers: libc::user_regs_struct = unsafe { std::mem::zeroed() };
+                assert_eq!(unsafe { libc::ptrace(libc::PTRACE_GETREGS, pid, 0, &mut registers) }, 0);
+                calls.push(registers.orig_rax as i64);
+            }
+            entering = !entering;
+        } else {
+            assert_eq!(unsafe { libc::ptrace(libc::PTRACE_SETOPTIONS, pid, 0, libc::PTRACE_O_TRACESYSGOOD) }, 0);
+        }
+        assert_eq!(unsafe { libc::ptrace(libc::PTRACE_SYSCALL, pid, 0, 0) }, 0);
+    }
+}
+
+/// The new file is synced before it takes the name, and the folder after.
+#[test]
+fn a_file_lasts() {
+    let f = folder().swept();
+    let calls = calls(f.command(&["windows", "plan.toml", "-q", "--csv", "w.csv"]));
+    let told: Vec<_> = calls.into_iter().filter(|call| [libc::SYS_fsync, libc::SYS_rename].contains(call)).collect();
+    assert_eq!(told, [libc::SYS_fsync, libc::SYS_rename, libc::SYS_fsync]);
 }
