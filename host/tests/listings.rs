@@ -30,6 +30,9 @@ fn control_characters_are_escaped_for_a_terminal_and_exact_in_files() {
         assert!(csv.contains(name));
         assert_eq!(json["targets"][i]["name"], *name);
     }
+    std::fs::copy(f.path("plan.toml"), f.path("p\u{1b}[2J.toml")).unwrap();
+    let status = f.run(&["status", "p\u{1b}[2J.toml"]).stdout;
+    assert!(status.contains(r"p\u{1b}[2J.toml: 4 targets") && !status.contains('\u{1b}'), "{}", status);
     // Messages, of a cell, a key and a word of the command line.
     f.write("t.csv", "name,x,y,z\nA,1\u{1b}[2J,0,0\n");
     let cell = f.run(&["windows", "plan.toml"]);
