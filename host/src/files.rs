@@ -92,19 +92,20 @@ fn folder_of(path: &Path) -> &Path {
     path.parent().filter(|p| !p.as_os_str().is_empty()).unwrap_or_else(|| Path::new("."))
 }
 
-/// Writes a file whole or not at all, and makes it last. A link stays: the file that it leads to is written.
+/// Writes a plain file whole or not at all, and makes it last. A link stays: the file that it leads to is written.
 pub fn write_whole(path: &Path, bytes: &[u8]) -> Result<(), Fault> {
-    write_whole_by(path, |out| out.write_all(bytes))
+    let done = Place::of(path).and_then(|place| match place.is_stream() {
+        true => Err(io::Error::new(io::ErrorKind::InvalidInput, "it is no plain file")),
+        false => place.replace(|out| out.write_all(bytes)),
+    });
+    done.map_err(|e| fault(path, &e))
 }
 
-/// The same, with what the function writes.
-pub fn write_whole_by(path: &Path, write: impl FnOnce(&mut dyn Write) -> io::Result<()>) -> Result<(), Fault> {
-    let done = Place::of(path).and_then(|place| {
-        if place.is_stream() {
-            buffered(OpenOptions::new().write(true).open(&place.path)?, write)
-        } else {
-            place.replace(write)
-        }
+/// The same with what the function writes, which may go into a pipe or a device too.
+pub fn write_output(path: &Path, write: impl FnOnce(&mut dyn Write) -> io::Result<()>) -> Result<(), Fault> {
+    let done = Place::of(path).and_then(|place| match place.is_stream() {
+        true => buffered(OpenOptions::new().write(true).open(&place.path)?, write),
+        false => place.replace(write),
     });
     done.map_err(|e| fault(path, &e))
 }
@@ -165,7 +166,7 @@ mod tests {
         let folder = tempfile::tempdir().unwrap();
         let path = folder.path().join("f");
         write_whole(&path, b"one").unwrap();
-        let failed = write_whole_by(&path, |out| {
+        let failed = write_output(&path, |out| {
             out.write_all(&[b'x'; 1 << 17])?;
             Err(io::Error::from_raw_os_error(libc::ENOSPC))
         });
@@ -212,7 +213,8 @@ mod tests {
     }
     #[test]
     fn devices_stay_devices() {
-        write_whole(Path::new("/dev/null"), b"bytes").unwrap();
+        write_output(Path::new("/dev/null"), |out| out.write_all(b"bytes")).unwrap();
+        assert!(write_whole(Path::new("/dev/null"), b"bytes").is_err());
         assert!(fs::metadata("/dev/null").unwrap().file_type().is_char_device());
     }
     #[test]

@@ -164,8 +164,8 @@ impl<'a> Listing<'a> {
                 writeln!(out, "{}", columns.line(listed))?;
             }
         }
-        let all = if self.selected.all_targets { "all" } else { "these" };
-        writeln!(out, "{} {}, {}", all, counted(self.rows.len(), "target"), counted(self.all.samples, "sample"))?;
+        let all = if self.selected.is_whole() { "all" } else { "this part" };
+        writeln!(out, "in {}: {}, {}", all, counted(self.rows.len(), "target"), counted(self.all.samples, "sample"))?;
         self.all.lines(&mut out)?;
         if self.rows.iter().flat_map(|row| &row.windows).any(|listed| listed.window.is_last != 0) {
             writeln!(out, "> the data end here; the window may go on")?;
@@ -462,6 +462,76 @@ impl JsonWindow {
             seconds: listed.seconds,
             severity_deg: w.severity,
             data_end: w.is_last != 0,
+        }
+    }
+}
+
+#[cfg(test)]
+mod tests {
+    use super::*;
+    use crate::plan::tests::plan;
+    use proptest::prelude::*;
+
+    /// A plan of one target, and of a time every half second.
+    fn half_seconds(samples: usize) -> Plan {
+        let time = |j: usize| format!("2026-03-20T00:{:02}:{:02}.{}Z,0,1,0,0,0,0\n", j / 120, j / 2 % 60, j % 2 * 5);
+        plan(
+            "targets = \"t.csv\"\nephemeris = \"e.csv\"\nrolls = 1\ntolerance = 10\n",
+            "name,x,y,z\nA,1,0,0\n",
+            &format!("time,sun_x,sun_y,sun_z,observer_x,observer_y,observer_z\n{}", (0..samples).map(time).collect::<String>()),
+        )
+        .unwrap()
+    }
+    fn whole() -> Selected {
+        Selected { targets: vec![0], all_targets: true, from: None, to: None }
+    }
+    /// Which sample is in a window of a kind.
+    fn inside(row: &Row, kind: Kind, j: usize) -> usize {
+        let windows = row.windows.iter().filter(|l| l.kind == kind);
+        windows.filter(|l| (l.window.first..=l.window.last).contains(&(j as u64))).count()
+    }
+
+    #[test]
+    fn a_table_fits_into_80_columns() {
+        let p = half_seconds(300);
+        let mask: Vec<u8> = (0..300).map(|j| u8::from(j % 7 < 3)).collect();
+        let mut table = Vec::new();
+        Listing::of_mask(&p, whole(), &mask, 1).unwrap().table(&mut table).unwrap();
+        for line in String::from_utf8(table).unwrap().lines().filter(|line| line.starts_with("  ")) {
+            assert!(line.len() <= 80, "{}", line);
+        }
+    }
+    proptest! {
+        #![proptest_config(ProptestConfig::with_cases(64))]
+        /// Every sample is in one window of its kind, or clear and single; totals are sums; a part has the windows that meet it, whole.
+        #[test]
+        fn every_sample_is_accounted_for(mask in prop::collection::vec(0u8..2, 1..200), a in 0usize..200, b in 0usize..200) {
+            let p = half_seconds(mask.len());
+            let all = Listing::of_mask(&p, whole(), &mask, 7).unwrap();
+            let row = &all.rows[0];
+            for (j, &mark) in mask.iter().enumerate() {
+                prop_assert_eq!(inside(row, Kind::Violated, j), usize::from(mark));
+                prop_assert_eq!(inside(row, Kind::Visible, j) + row.single.iter().filter(|&&s| s == j).count(), usize::from(1 - mark));
+            }
+            prop_assert_eq!(&all.all, &row.totals);
+            for (kind, total) in [(Kind::Visible, &all.all.visible), (Kind::Violated, &all.all.violated)] {
+                let windows = || row.windows.iter().filter(|l| l.kind == kind);
+                prop_assert_eq!(total.windows, windows().count());
+                prop_assert_eq!(total.seconds, windows().map(|l| (l.window.last - l.window.first) / 2).sum::<u64>());
+                prop_assert_eq!(total.longest_seconds, windows().map(|l| l.seconds).max());
+                prop_assert_eq!(total.samples, mask.iter().filter(|&&m| (m == 0) == (kind == Kind::Visible)).count());
+            }
+
+            let (from, to) = (a.min(b).min(mask.len() - 1), a.max(b).min(mask.len() - 1));
+            let part = Selected { from: Some(p.times[from]), to: Some(p.times[to]), ..whole() };
+            let part = Listing::of_mask(&p, part, &mask, 7).unwrap();
+            let met = |l: &&Listed| l.window.last >= from as u64 && l.window.first <= to as u64;
+            let windows = |list: Vec<&Listed>| list.iter().map(|l| (l.kind, l.window)).collect::<Vec<_>>();
+            prop_assert_eq!(windows(part.rows[0].windows.iter().collect()), windows(row.windows.iter().filter(met).collect()));
+            let in_range = |&&j: &&usize| (from..=to).contains(&j);
+            prop_assert_eq!(part.all.single_clear_samples, row.single.iter().filter(in_range).count());
+            prop_assert_eq!(part.all.violated.samples, mask[from..=to].iter().filter(|&&m| m == 1).count());
+            prop_assert_eq!(part.all.visible.samples + part.all.violated.samples, to - from + 1);
         }
     }
 }

@@ -305,7 +305,7 @@ pub struct Regard {
     /// The marks at this roll, in degrees; a configured roll overrides it [default: at every roll of the plan]
     #[arg(long, value_name = "DEG", allow_hyphen_values = true)]
     roll: Option<f64>,
-    /// Print this target alone; may be given again, and be a pattern with *, ? and [ab]
+    /// Leave out all targets but this one; may be given again. * stands for any characters, ? for one, [ab] for a or b
     #[arg(long = "target", value_name = "NAME")]
     names: Vec<String>,
 }

@@ -2,7 +2,7 @@
 use crate::{
     digest::Digest,
     fault::Fault,
-    files::{self, buffered, write_whole_by, Place},
+    files::{self, buffered, write_output, Place},
     listing::Listing,
     plan::Plan,
     svg,
@@ -17,7 +17,7 @@ use std::{
 
 #[derive(Args)]
 pub struct Outputs {
-    /// Write the windows as CSV ("-" for standard output, in place of the table)
+    /// Write the windows as CSV ("-" for standard output, in place of the table). A single clear sample is no window, unless it is the last
     #[arg(long, value_name = "FILE")]
     csv: Option<PathBuf>,
     /// Write the windows and totals as JSON
@@ -94,7 +94,7 @@ impl Outputs {
     pub fn write(&self, listing: &Listing) -> Result<(), Fault> {
         let (on_stdout, to_files): (Vec<_>, Vec<_>) = self.asked().into_iter().partition(Asked::on_stdout);
         for Asked { path, write, .. } in &to_files {
-            write_whole_by(path, |out| write(listing, out))?;
+            write_output(path, |out| write(listing, out))?;
             tell!("wrote {}", path.display());
         }
         let table = !self.quiet && on_stdout.is_empty();

@@ -6,13 +6,13 @@ use std::ops::{Range, RangeInclusive};
 
 #[derive(Args, Default)]
 pub struct Selection {
-    /// List this target alone; may be given again. * stands for any characters, ? for one, [ab] for a or b
+    /// Leave out all targets but this one; may be given again. * stands for any characters, ? for one, [ab] for a or b
     #[arg(long = "target", value_name = "NAME")]
     names: Vec<String>,
-    /// List only windows that end at this time or later, as RFC 3339; a window is never cut
+    /// Leave out what ends before this time (RFC 3339); a window is never cut
     #[arg(long, value_name = "TIME", value_parser = time)]
     from: Option<i64>,
-    /// List only windows that start at this time or earlier
+    /// Leave out what starts after this time
     #[arg(long, value_name = "TIME", value_parser = time)]
     to: Option<i64>,
 }

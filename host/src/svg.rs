@@ -163,8 +163,8 @@ struct Axis {
     first: i64,
     end: i64,
     left: f64,
-    /// One sample has one label.
-    single: bool,
+    /// A single sample has one label, and none has none.
+    samples: usize,
 }
 
 /// Two lines of a label: the time of day and the date, the day and the year, or the like.
@@ -191,7 +191,7 @@ impl Axis {
         if let (Some(from), Some(to)) = (from, to) {
             (first, end) = (times[from], end_of(times, to));
         }
-        Axis { first, end, left, single: times.len() == 1 }
+        Axis { first, end, left, samples: times.len() }
     }
     fn x(&self, time: i64) -> f64 {
         self.left + (time - self.first) as f64 / (self.end - self.first) as f64 * (WIDTH - RIGHT - self.left)
@@ -240,7 +240,10 @@ impl Axis {
     }
     /// The finest round times whose labels leave each other room.
     fn ticks(&self) -> Vec<Tick> {
-        if self.single {
+        if self.samples == 0 {
+            return vec![];
+        }
+        if self.samples == 1 {
             return vec![Step::Nanos(if self.first % SECOND == 0 { SECOND } else { 1 }).tick(self.first)];
         }
         let steps = steps();
@@ -446,7 +449,7 @@ mod tests {
         /// Any span from nanoseconds to the longest: no label leaves the picture or meets its neighbour, and there are some.
         #[test]
         fn labels_leave_each_other_room(first in -4_000_000_000_000_000_000i64..3_000_000_000_000_000_000, size in 0.5..18.0f64, left in 64.0..340.0f64) {
-            let axis = Axis { first, end: first + 10f64.powf(size) as i64, left, single: false };
+            let axis = Axis { first, end: first + 10f64.powf(size) as i64, left, samples: 2 };
             let ticks = axis.ticks();
             prop_assert!((2..40).contains(&ticks.len()), "{} labels", ticks.len());
             for line in [|tick: &Tick| tick.near.clone(), |tick: &Tick| tick.far.clone()] {

@@ -102,7 +102,7 @@ fn totals() {
             "  visible   2026-03-20T00:06:00Z  2026-03-20T00:06:00Z>  0 6-6",
         ]
     );
-    let all = "all 2 targets, 14 samples\n  visible   8 samples (57.1%); 120 s in 4 windows, longest 60 s\n  \
+    let all = "in all: 2 targets, 14 samples\n  visible   8 samples (57.1%); 120 s in 4 windows, longest 60 s\n  \
         violated  6 samples (42.9%); 120 s in 4 windows, longest 60 s\n";
     assert!(table.contains(all), "{}", table);
     assert!(table.contains("\n2 clear samples stand alone and are in no window: a single one is listed only if it is the last\n"));
@@ -181,7 +181,8 @@ fn selected_targets_and_times() {
     assert_eq!(between("2026-03-20T00:00:30Z", "2026-03-20T00:00:31Z"), ["Vega visible 0 1"]);
     assert_eq!(between("2026-03-20T00:02:30Z", "2026-03-20T00:03:30Z"), Vec::<String>::new());
 
-    let part = ["part of the plan: 1 of 2 targets; windows that meet the times from 2026-03-20T00:05:00Z", "these 1 target, 2 samples"];
+    let part =
+        ["part of the plan: 1 of 2 targets; windows that meet the times from 2026-03-20T00:05:00Z", "in this part: 1 target, 2 samples"];
     let table = f.run(&[&["windows", "plan.toml"], &one[..]].concat()).stdout;
     assert!(part.iter().all(|words| table.contains(words)), "{}", table);
     // Of the samples in the range one is violated; its window is whole and has 60 s.
