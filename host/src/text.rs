@@ -1,5 +1,23 @@
 //! Small things of output.
 
+/// A message of our own, whose line ends are meant; what is shown already stays as it is.
+pub fn printable_lines(text: &str) -> String {
+    text.split('\n').map(printable).collect::<Vec<_>>().join("\n")
+}
+
+/// A number of things: 1 roll, 2 rolls.
+pub fn counted(n: impl ToString, thing: &str) -> String {
+    let n = grouped(n);
+    let s = if n == "1" { "" } else { "s" };
+    format!("{} {}{}", n, thing, s)
+}
+
+/// A setting: as few digits as read back as it.
+pub fn number(x: f64) -> String {
+    let text = format!("{:?}", x);
+    text.strip_suffix(".0").map_or(text.clone(), str::to_owned)
+}
+
 /// Says something on standard error; a sweep goes on though nobody listens there.
 #[macro_export]
 macro_rules! tell {
@@ -22,18 +40,6 @@ pub fn printable(text: &str) -> String {
     safe
 }
 
-/// A message of our own, whose line ends are meant; what is shown already stays as it is.
-pub fn printable_lines(text: &str) -> String {
-    text.split('\n').map(printable).collect::<Vec<_>>().join("\n")
-}
-
-/// A number of things: 1 roll, 2 rolls.
-pub fn counted(n: impl ToString, thing: &str) -> String {
-    let n = grouped(n);
-    let s = if n == "1" { "" } else { "s" };
-    format!("{} {}{}", n, thing, s)
-}
-
 /// A number with commas between thousands.
 pub fn grouped(n: impl ToString) -> String {
     let digits = n.to_string();
@@ -47,13 +53,19 @@ pub fn grouped(n: impl ToString) -> String {
     text
 }
 
-/// A setting: as few digits as read back as it.
-pub fn number(x: f64) -> String {
-    let text = format!("{:?}", x);
-    text.strip_suffix(".0").map_or(text.clone(), str::to_owned)
+/// Which of these are as asked, as ranges: 0..3, 7.
+pub fn ranges(flags: &[bool], wanted: bool) -> String {
+    const TOLD: usize = 8;
+    let mut parts = all_ranges(flags, wanted);
+    if parts.len() > TOLD {
+        let more = parts.len() - TOLD;
+        parts.truncate(TOLD);
+        parts.push(format!("and {} more ranges", grouped(more)));
+    }
+    parts.join(", ")
 }
 
-/// Which of these are as asked, as ranges: 0..3, 7. All of them.
+/// Each of them, however many there are.
 pub fn all_ranges(flags: &[bool], wanted: bool) -> Vec<String> {
     let mut parts = Vec::new();
     let mut i = 0;
@@ -71,29 +83,10 @@ pub fn all_ranges(flags: &[bool], wanted: bool) -> Vec<String> {
     parts
 }
 
-/// The same as a text, which tells the first few.
-pub fn ranges(flags: &[bool], wanted: bool) -> String {
-    const TOLD: usize = 8;
-    let mut parts = all_ranges(flags, wanted);
-    if parts.len() > TOLD {
-        let more = parts.len() - TOLD;
-        parts.truncate(TOLD);
-        parts.push(format!("and {} more ranges", grouped(more)));
-    }
-    parts.join(", ")
-}
-
 #[cfg(test)]
 mod tests {
     use super::*;
 
-    #[test]
-    fn thousands() {
-        assert_eq!(grouped(0), "0");
-        assert_eq!(grouped(999), "999");
-        assert_eq!(grouped(1000), "1,000");
-        assert_eq!(grouped(1048576), "1,048,576");
-    }
     #[test]
     fn one_and_many() {
         assert_eq!(counted(1, "roll"), "1 roll");
@@ -114,13 +107,20 @@ mod tests {
         assert_eq!(printable_lines(&printable("one\ntwo")), "one\\ntwo");
     }
     #[test]
+    fn thousands() {
+        assert_eq!(grouped(0), "0");
+        assert_eq!(grouped(999), "999");
+        assert_eq!(grouped(1000), "1,000");
+        assert_eq!(grouped(1048576), "1,048,576");
+    }
+    #[test]
     fn runs() {
         assert_eq!(ranges(&[], true), "");
         assert_eq!(ranges(&[true, true, false, true], true), "0..2, 3");
         assert_eq!(ranges(&[true, true, false, true], false), "2");
-        assert_eq!(ranges(&[false; 5], false), "0..5");
         let every_other: Vec<bool> = (0..20).map(|i| i % 2 == 0).collect();
         assert!(ranges(&every_other, true).ends_with("14, and 2 more ranges"));
         assert_eq!(all_ranges(&every_other, true).len(), 10);
+        assert_eq!(ranges(&[false; 5], false), "0..5");
     }
 }
