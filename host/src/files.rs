@@ -73,7 +73,7 @@ impl Place {
         let aside = self.aside()?;
         let new = aside.path().join("new");
         let file = OpenOptions::new().write(true).create_new(true).open(&new)?;
-        if let Some(now) = &self.now {
+        if let Some(now) = self.now.as_ref().filter(|now| file.metadata().map_or(true, |new| new.mode() != now.mode())) {
             file.set_permissions(now.permissions())?;
         }
         buffered(&file, write)?;
