@@ -359,15 +359,18 @@ fn days_of_months(first: i64, end: i64, every: i64, days: &[i64]) -> Vec<i64> {
 
 /// About how wide a text is drawn.
 fn width_of(text: &str) -> f64 {
-    let width = |c: char| match c.width() {
+    text.chars().map(char_width).sum()
+}
+
+fn char_width(c: char) -> f64 {
+    match c.width() {
         Some(2) => 12.5,
         Some(0) => 0.0,
         _ if "mwMW@%".contains(c) => 12.0,
         _ if "fijlrtI.,:;'|!()[] ".contains(c) => 5.0,
         _ if c.is_uppercase() => 9.2,
         _ => 7.7,
-    };
-    text.chars().map(width).sum()
+    }
 }
 
 /// A name that is too long is cut.
@@ -375,15 +378,12 @@ fn cut(name: &str) -> String {
     if width_of(name) <= NAME_MOST {
         return name.to_owned();
     }
-    let mut short = String::new();
-    for c in name.chars() {
-        short.push(c);
-        if width_of(&short) > NAME_MOST - 12.5 {
-            short.pop();
-            break;
-        }
-    }
-    short + "…"
+    let mut room = NAME_MOST - char_width('…');
+    let fits = |c: &char| {
+        room -= char_width(*c);
+        room >= 0.0
+    };
+    name.chars().take_while(fits).chain(['…']).collect()
 }
 
 /// Text for XML. A character that XML 1.0 does not have is replaced.
