@@ -46,6 +46,13 @@ pub fn plan(plan: &Plan, refusal: Refusal) -> Fault {
                 format!("{}: time reads `{}`; allowed: {} to {}", field.at(), field.shown(), first, last)
             })
         }
+        // A severity is the difference less the tolerance, and may not be infinite.
+        14 => Some(format!(
+            "{}: tolerance reads {}, and the severities at the configured roll would be infinite; allowed with --evaluate: \
+             any number but -inf",
+            plan.at("tolerance"),
+            plan.tolerance
+        )),
         _ => None,
     };
     Fault::Refused(refusal.number(), found.unwrap_or_else(|| refusal.sentence().to_owned()))

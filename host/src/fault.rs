@@ -11,6 +11,8 @@ pub enum Fault {
     Usage(String),
     /// A file: it cannot be opened or written, or what it says cannot be read.
     Files(String),
+    /// The sweep that is looked at lacks lines.
+    Unfinished(String),
     /// Ctrl-C, or the machine's wish to end.
     Stopped(String),
     /// Nobody reads our output any more.
@@ -20,6 +22,8 @@ pub enum Fault {
 impl Fault {
     pub fn status(&self) -> i32 {
         match self {
+            // Document 01's 15: a chunk lacks a line.
+            Fault::Refused(15, _) | Fault::Unfinished(_) => 4,
             Fault::Refused(..) | Fault::Differs(_) => 1,
             Fault::Usage(_) => 2,
             Fault::Files(_) => 3,
@@ -48,7 +52,9 @@ impl fmt::Display for Fault {
     fn fmt(&self, f: &mut fmt::Formatter) -> fmt::Result {
         match self {
             Fault::Refused(number, text) => write!(f, "refused with {}: {}", number, text),
-            Fault::Differs(text) | Fault::Usage(text) | Fault::Files(text) | Fault::Stopped(text) => f.write_str(text),
+            Fault::Differs(text) | Fault::Usage(text) | Fault::Files(text) | Fault::Unfinished(text) | Fault::Stopped(text) => {
+                f.write_str(text)
+            }
             Fault::Unread => Ok(()),
         }
     }

@@ -4,15 +4,19 @@ use crate::{
     engine::{self, Roll, HEADER_BYTES},
     explain,
     fault::{csv_error, Fault},
+    files::buffered,
     instant,
     journal::{done, is_locked, look},
-    listing::Listing,
+    listing::{Degrees, Listing},
+    outputs::Outputs,
     plan::Plan,
     say,
-    text::{grouped, ranges},
-    Files, Outputs,
+    selection::{self, Selected, Selection},
+    text::{all_ranges, counted, grouped, number, printable, ranges},
+    Files,
 };
 use clap::{Args, ValueEnum};
+use serde::Serialize;
 use std::{
     io::{self, Write},
     path::Path,
@@ -26,21 +30,25 @@ pub struct Windows {
     #[arg(long)]
     evaluate: bool,
     #[command(flatten)]
+    selection: Selection,
+    #[command(flatten)]
     outputs: Outputs,
 }
 
 impl Windows {
     pub fn run(&self) -> Result<(), Fault> {
         let (plan, path) = self.files.read()?;
+        let selected = self.selection.of(&plan)?;
+        self.outputs.check(&plan, &path)?;
         if self.evaluate {
             if plan.configured_roll.is_none() {
                 return Err(Fault::Usage(format!("--evaluate: {} has no configured_roll", plan.path().display())));
             }
-            let listing = Listing::of_configured_roll(&plan).map_err(|r| explain::plan(&plan, r))?;
+            let listing = Listing::of_configured_roll(&plan, selected).map_err(|r| explain::plan(&plan, r))?;
             return self.outputs.write(&listing);
         }
         let (mask, probes) = swept(&plan, &path)?;
-        let listing = Listing::of_mask(&plan, &mask, probes).map_err(|r| explain::plan(&plan, r))?;
+        let listing = Listing::of_mask(&plan, selected, &mask, probes).map_err(|r| explain::plan(&plan, r))?;
         self.outputs.write(&listing)
     }
 }
@@ -48,7 +56,7 @@ impl Windows {
 /// The mask and the probes of the plan's journal, once every chunk has a line.
 fn swept(plan: &Plan, path: &Path) -> Result<(Vec<u8>, u64), Fault> {
     if !path.exists() {
-        return Err(Fault::Files(format!(
+        return Err(Fault::Unfinished(format!(
             "{}: there is no such journal; `{}` makes one",
             path.display(),
             explain::command("sweep", plan, path)
@@ -68,54 +76,125 @@ fn swept(plan: &Plan, path: &Path) -> Result<(Vec<u8>, u64), Fault> {
 pub struct Status {
     #[command(flatten)]
     files: Files,
+    /// Print it as JSON
+    #[arg(long)]
+    json: bool,
+}
+
+/// How far a sweep is, as JSON has it.
+#[derive(Serialize)]
+struct State {
+    plan: String,
+    targets: usize,
+    times: usize,
+    cells: usize,
+    rolls: u64,
+    tolerance_deg: Degrees,
+    configured_roll_deg: Option<Degrees>,
+    panel_normal: [f64; 3],
+    journal: String,
+    /// None where there is no such file.
+    journal_bytes: Option<usize>,
+    /// Of a write that did not end.
+    tail_bytes: usize,
+    /// Whether a sweep has the journal locked.
+    running: bool,
+    chunks: usize,
+    chunks_with_line: usize,
+    /// As --chunks takes them.
+    missing: Vec<String>,
+    finished: bool,
 }
 
 impl Status {
-    pub fn status(&self) -> Result<(), Fault> {
+    pub fn run(&self) -> Result<(), Fault> {
         let (plan, path) = self.files.read()?;
-        say(about(&plan))?;
-        if !path.exists() {
-            say(format_args!("journal  {}: not begun", path.display()))?;
-            return say(format_args!("next     {}", explain::command("sweep", &plan, &path)));
+        let bytes = if path.exists() { Some(look(&path)?) } else { None };
+        let running = bytes.is_some() && is_locked(&path);
+        let read = bytes.as_deref().unwrap_or(&[]);
+        let keep = engine::recover(&plan, read).map_err(|r| explain::journal(&plan, &path, read, r))?;
+        let has_line = done(&read[..keep], plan.chunks());
+        let state = State {
+            plan: plan.path().display().to_string(),
+            targets: plan.names.len(),
+            times: plan.times.len(),
+            cells: plan.cells(),
+            rolls: plan.rolls,
+            tolerance_deg: Degrees(plan.tolerance),
+            configured_roll_deg: plan.configured_roll.map(Degrees),
+            panel_normal: plan.panel,
+            journal: path.display().to_string(),
+            journal_bytes: bytes.as_ref().map(Vec::len),
+            tail_bytes: read.len() - keep,
+            running,
+            chunks: plan.chunks(),
+            chunks_with_line: has_line.iter().filter(|&&d| d).count(),
+            missing: all_ranges(&has_line, false),
+            finished: keep > 0 && !has_line.contains(&false),
+        };
+        let has_lines = keep > HEADER_BYTES as usize;
+        if self.json {
+            // A program takes what it reads as true of these files.
+            if has_lines {
+                same_plan(&plan, &path)?;
+            }
+            let write =
+                |out: &mut dyn Write| serde_json::to_writer_pretty(&mut *out, &state).map_err(io::Error::from).and_then(|()| writeln!(out));
+            buffered(io::stdout().lock(), write).map_err(Fault::output)?;
+        } else {
+            say(state.text(&about(&plan), &ranges(&has_line, false)))?;
+            if has_lines {
+                same_plan(&plan, &path)?;
+            }
+            say(format_args!("next     {}", explain::command(if state.finished { "windows" } else { "sweep" }, &plan, &path)))?;
         }
-        let bytes = look(&path)?;
-        let keep = engine::recover(&plan, &bytes).map_err(|r| explain::journal(&plan, &path, &bytes, r))?;
-        let has_line = done(&bytes[..keep], plan.chunks());
-        let count = has_line.iter().filter(|&&d| d).count();
-        let running = is_locked(&path);
-        say(format_args!(
-            "journal  {}: {} bytes{}",
-            path.display(),
-            grouped(bytes.len()),
-            if running { ", a sweep is writing it" } else { "" }
-        ))?;
-        say(format_args!("chunks   {} of {} have a line", grouped(count), grouped(plan.chunks())))?;
-        if count < plan.chunks() {
-            say(format_args!("missing  {}", ranges(&has_line, false)))?;
+        if state.finished {
+            Ok(())
+        } else {
+            // It is said already.
+            Err(Fault::Unfinished(String::new()))
         }
-        if keep < bytes.len() && !running {
-            say(format_args!("tail     {} bytes of a write that did not end; the next sweep removes them", bytes.len() - keep))?;
+    }
+}
+
+impl State {
+    fn text(&self, about: &str, missing: &str) -> String {
+        let bytes = match self.journal_bytes {
+            None => return format!("{}\njournal  {}: not begun", about, self.journal),
+            Some(bytes) => counted(bytes, "byte"),
+        };
+        let running = if self.running { ", a sweep is writing it" } else { "" };
+        let mut text = format!(
+            "{}\njournal  {}: {}{}\nchunks   {} of {} have a line",
+            about,
+            self.journal,
+            bytes,
+            running,
+            grouped(self.chunks_with_line),
+            grouped(self.chunks)
+        );
+        if !missing.is_empty() {
+            text += &format!("\nmissing  {}", missing);
         }
-        if keep > HEADER_BYTES as usize {
-            same_plan(&plan, &path)?;
+        if self.tail_bytes > 0 && !self.running {
+            text += &format!("\ntail     {} of a write that did not end; the next sweep removes them", counted(self.tail_bytes, "byte"));
         }
-        let next = if keep == 0 || count < plan.chunks() { "sweep" } else { "windows" };
-        say(format_args!("next     {}", explain::command(next, &plan, &path)))
+        text
     }
 }
 
 pub fn about(plan: &Plan) -> String {
     format!(
-        "plan     {}: {} targets, {} times, {} cells in {} chunks\nsettings {} rolls, tolerance {}, panel {:?}, configured roll {}",
+        "plan     {}: {}, {}, {} in {}\nsettings {}, tolerance {}, panel {:?}, configured roll {}",
         plan.path().display(),
-        grouped(plan.names.len()),
-        grouped(plan.times.len()),
-        grouped(plan.cells()),
-        grouped(plan.chunks()),
-        grouped(plan.rolls),
-        plan.tolerance,
+        counted(plan.names.len(), "target"),
+        counted(plan.times.len(), "time"),
+        counted(plan.cells(), "cell"),
+        counted(plan.chunks(), "chunk"),
+        counted(plan.rolls, "roll"),
+        number(plan.tolerance),
         plan.panel,
-        plan.configured_roll.map_or("none".to_owned(), |r| r.to_string()),
+        plan.configured_roll.map_or("none".to_owned(), number),
     )
 }
 
@@ -132,6 +211,8 @@ pub struct Mask {
     /// Rows: 0 or 1 for each time, then the target; csv: a line a cell; raw: a byte a cell
     #[arg(long, value_enum, default_value_t = Form::Rows)]
     form: Form,
+    #[command(flatten)]
+    selection: Selection,
 }
 
 #[derive(Clone, Copy, ValueEnum)]
@@ -144,36 +225,46 @@ enum Form {
 impl Mask {
     pub fn run(&self) -> Result<(), Fault> {
         let (plan, path) = self.files.read()?;
+        let selected = self.selection.of(&plan)?;
         let at = |roll| engine::mask_at(&plan, roll).map_err(|r| explain::plan(&plan, r));
         let mask = match (self.roll, self.fixed_roll) {
             (Some(roll), _) => at(Roll::Sweep(roll))?,
             (None, Some(roll)) => at(Roll::Fixed(roll))?,
             (None, None) => swept(&plan, &path)?.0,
         };
-        self.print(&plan, &mask, io::BufWriter::new(io::stdout().lock())).map_err(Fault::output)
+        buffered(io::stdout().lock(), |out| self.form.print(&plan, &selected, &mask, out)).map_err(Fault::output)
     }
-    fn print(&self, plan: &Plan, mask: &[u8], mut out: impl Write) -> io::Result<()> {
-        let times = plan.times.len();
-        match self.form {
-            Form::Raw => out.write_all(mask)?,
+}
+
+impl Form {
+    /// The cells of the selected targets and times.
+    fn print(self, plan: &Plan, selected: &Selected, mask: &[u8], out: &mut dyn Write) -> io::Result<()> {
+        let samples = selected.samples(&plan.times);
+        let rows = selected.targets.iter().map(|&i| (&plan.names[i], &mask[i * plan.times.len()..][samples.clone()]));
+        match self {
+            Form::Raw => {
+                for (_, row) in rows {
+                    out.write_all(row)?;
+                }
+            }
             Form::Rows => {
-                for (i, name) in plan.names.iter().enumerate() {
-                    let row: String = mask[i * times..(i + 1) * times].iter().map(u8::to_string).collect();
-                    writeln!(out, "{} {}", row, name)?;
+                for (name, row) in rows {
+                    let marks: String = row.iter().map(u8::to_string).collect();
+                    writeln!(out, "{} {}", marks, printable(name))?;
                 }
             }
             Form::Csv => {
-                let mut csv = csv::Writer::from_writer(&mut out);
+                let mut csv = csv::Writer::from_writer(out);
                 csv.write_record(["target", "time", "marked"]).map_err(csv_error)?;
-                for (i, name) in plan.names.iter().enumerate() {
-                    for (j, &time) in plan.times.iter().enumerate() {
-                        csv.write_record([name, &instant::format(time, 9), &mask[i * times + j].to_string()]).map_err(csv_error)?;
+                for (name, row) in rows {
+                    for (&time, mark) in plan.times[samples.clone()].iter().zip(row) {
+                        csv.write_record([name, &instant::format(time, 9), &mark.to_string()]).map_err(csv_error)?;
                     }
                 }
                 csv.flush()?;
             }
         }
-        out.flush()
+        Ok(())
     }
 }
 
@@ -191,11 +282,15 @@ pub struct Regard {
     /// The marks at this roll, in degrees; a configured roll overrides it [default: at every roll of the plan]
     #[arg(long, value_name = "DEG", allow_hyphen_values = true)]
     roll: Option<f64>,
+    /// Leave out all targets but this one; may be given again. * stands for any characters, ? for one, [ab] for a or b
+    #[arg(long = "target", value_name = "NAME")]
+    names: Vec<String>,
 }
 
 impl Regard {
     pub fn run(&self) -> Result<(), Fault> {
         let (plan, _) = Files { plan: self.plan.clone(), journal: None }.read()?;
+        let targets = selection::targets(&self.names, &plan)?;
         let sample = match (&self.time, self.sample) {
             (Some(text), _) => sample_at(&plan, text)?,
             (None, sample) => sample.unwrap_or(0),
@@ -204,10 +299,12 @@ impl Regard {
             9 => Fault::Refused(9, format!("sample {}; allowed: below {}", sample, plan.times.len())),
             _ => explain::plan(&plan, r),
         })?;
-        for (name, mark) in plan.names.iter().zip(marks) {
-            say(format_args!("{:8} {}", if mark == 0 { "clear" } else { "violated" }, name))?;
-        }
-        Ok(())
+        let write = |out: &mut dyn Write| {
+            targets
+                .iter()
+                .try_for_each(|&i| writeln!(out, "{:8} {}", if marks[i] == 0 { "clear" } else { "violated" }, printable(&plan.names[i])))
+        };
+        buffered(io::stdout().lock(), write).map_err(Fault::output)
     }
 }
 

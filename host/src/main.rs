@@ -18,8 +18,10 @@ mod journal;
 mod listing;
 mod look;
 mod merge;
+mod outputs;
 mod plan;
 mod progress;
+mod selection;
 mod sheet;
 mod source;
 mod stop;
@@ -30,9 +32,8 @@ mod tolerance;
 use clap::{Args, CommandFactory, Parser, Subcommand};
 use fault::Fault;
 use std::{
-    fs::File,
-    io::{self, BufWriter, Write},
-    path::{Path, PathBuf},
+    io::{self, Write},
+    path::PathBuf,
     process::exit,
 };
 
@@ -51,6 +52,7 @@ use std::{
         1    refused, with the number of the reason; or a line is not what the plan gives\n  \
         2    wrong command line\n  \
         3    files\n  \
+        4    the sweep is not finished: status, windows, mask\n  \
         130  stopped by Ctrl-C or a signal"
 )]
 struct Cli {
@@ -94,23 +96,6 @@ struct Files {
     journal: Option<PathBuf>,
 }
 
-/// Where windows are listed.
-#[derive(Args)]
-struct Outputs {
-    /// Write the windows as CSV ("-" for standard output, in place of the table)
-    #[arg(long, value_name = "FILE")]
-    csv: Option<PathBuf>,
-    /// Write the windows as JSON
-    #[arg(long, value_name = "FILE")]
-    json: Option<PathBuf>,
-    /// Write a timeline as SVG
-    #[arg(long, value_name = "FILE")]
-    svg: Option<PathBuf>,
-    /// Leave the table out
-    #[arg(long, short)]
-    quiet: bool,
-}
-
 impl Files {
     /// The plan, as far as the library takes it, and the journal's place.
     fn read(&self) -> Result<(plan::Plan, PathBuf), Fault> {
@@ -124,41 +109,11 @@ impl Files {
     }
 }
 
-impl Outputs {
-    /// Writes the windows wherever they are asked for.
-    fn write(&self, listing: &listing::Listing) -> Result<(), Fault> {
-        let dash = Path::new("-");
-        let files = [&self.csv, &self.json, &self.svg];
-        let on_stdout = files.iter().filter(|f| f.as_deref() == Some(dash)).count();
-        if on_stdout > 1 {
-            return Err(Fault::Usage("only one of --csv, --json and --svg can go to standard output".into()));
-        }
-        if !self.quiet && on_stdout == 0 {
-            listing.table(&mut io::stdout().lock()).map_err(Fault::output)?;
-        }
-        type Write<'a> = Box<dyn Fn(&mut dyn io::Write) -> io::Result<()> + 'a>;
-        let writes: [Write; 3] =
-            [Box::new(|out| listing.csv(out)), Box::new(|out| listing.json(out)), Box::new(|out| svg::write(listing, out))];
-        for (file, write) in files.iter().zip(writes) {
-            match file {
-                None => {}
-                Some(path) if path == dash => write(&mut io::stdout().lock()).map_err(Fault::output)?,
-                Some(path) => {
-                    let written = File::create(path).and_then(|f| write(&mut BufWriter::new(f)));
-                    written.map_err(|e| files::fault(path, &e))?;
-                    tell!("wrote {}", path.display());
-                }
-            }
-        }
-        Ok(())
-    }
-}
-
 fn run(command: Command) -> Result<(), Fault> {
     match command {
         Command::Sweep(c) => c.run(),
         Command::Windows(c) => c.run(),
-        Command::Status(c) => c.status(),
+        Command::Status(c) => c.run(),
         Command::Check(c) => c.run(),
         Command::Mask(c) => c.run(),
         Command::Regard(c) => c.run(),
@@ -181,7 +136,7 @@ fn completions(shell: clap_complete::Shell) -> Vec<u8> {
 
 /// Prints a line.
 fn say(text: impl std::fmt::Display) -> Result<(), Fault> {
-    writeln!(io::stdout(), "{}", text).map_err(Fault::output)
+    writeln!(io::stdout(), "{}", text::printable_lines(&text.to_string())).map_err(Fault::output)
 }
 
 fn main() {

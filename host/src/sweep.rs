@@ -6,12 +6,14 @@ use crate::{
     fault::Fault,
     journal::{done, Journal},
     listing::Listing,
+    outputs::Outputs,
     plan::Plan,
     progress::Progress,
+    selection::{Selected, Selection},
     stop,
-    text::{grouped, ranges},
+    text::{counted, grouped, ranges},
     tolerance::nothing_violated,
-    Files, Outputs,
+    Files,
 };
 use clap::Args;
 use std::{ops::Range, str::FromStr};
@@ -29,6 +31,8 @@ pub struct Sweep {
     /// Wait while another process sweeps into the journal
     #[arg(long)]
     wait: bool,
+    #[command(flatten)]
+    selection: Selection,
     #[command(flatten)]
     outputs: Outputs,
 }
@@ -80,6 +84,8 @@ impl Sweep {
     pub fn run(&self) -> Result<(), Fault> {
         let (plan, path) = self.files.read()?;
         let asked = self.asked(&plan)?;
+        let selected = self.selection.of(&plan)?;
+        self.outputs.check(&plan, &path)?;
         if let Some(text) = nothing_violated(&plan) {
             tell!("{}", text);
         }
@@ -104,7 +110,7 @@ impl Sweep {
         }
         journal.as_left()?;
         progress.end();
-        self.end(&plan, &journal)
+        self.end(&plan, &journal, selected)
     }
     /// The chunks that the command line asks for, in its order.
     fn asked(&self, plan: &Plan) -> Result<Vec<u64>, Fault> {
@@ -121,21 +127,25 @@ impl Sweep {
             (None, None) => Ok((0..chunks).collect()),
         }
     }
-    fn end(&self, plan: &Plan, journal: &Journal) -> Result<(), Fault> {
+    fn end(&self, plan: &Plan, journal: &Journal, selected: Selected) -> Result<(), Fault> {
         let has_line = done(journal.used(), plan.chunks());
         let count = has_line.iter().filter(|&&d| d).count();
         let about = format!("{}: {} of {} chunks have a line", journal.path.display(), grouped(count), grouped(plan.chunks()));
         if stop::asked() {
-            return Err(Fault::Stopped(format!("stopped. {}; the same command goes on", about)));
+            let unwritten = self.outputs.unwritten().map_or(String::new(), |what| format!("\n{}", what));
+            return Err(Fault::Stopped(format!("stopped. {}; the same command goes on{}", about, unwritten)));
         }
         if count < plan.chunks() {
             tell!("{}; missing: {}", about, ranges(&has_line, false));
+            if let Some(what) = self.outputs.unwritten() {
+                tell!("{}: sweep the missing chunks, or merge the other parts' journals, then list them with `wilfnusk windows`", what);
+            }
             return Ok(());
         }
         let bytes = journal.used();
         let (mask, probes) = engine::collect(plan, bytes).map_err(|r| explain::journal(plan, &journal.path, bytes, r))?;
-        tell!("{}; {} rolls were tried", about, grouped(probes));
-        let listing = Listing::of_mask(plan, &mask, probes).map_err(|r| explain::plan(plan, r))?;
+        tell!("{}; {} tried", about, counted(probes, "roll"));
+        let listing = Listing::of_mask(plan, selected, &mask, probes).map_err(|r| explain::plan(plan, r))?;
         self.outputs.write(&listing)
     }
 }

@@ -1,12 +1,30 @@
 //! Small things of output.
 use std::{os::unix::ffi::OsStrExt, path::Path};
 
+/// A message of our own, whose line ends are meant; what is shown already stays as it is.
+pub fn printable_lines(text: &str) -> String {
+    text.split('\n').map(printable).collect::<Vec<_>>().join("\n")
+}
+
+/// A number of things: 1 roll, 2 rolls.
+pub fn counted(n: impl ToString, thing: &str) -> String {
+    let n = grouped(n);
+    let s = if n == "1" { "" } else { "s" };
+    format!("{} {}{}", n, thing, s)
+}
+
+/// A setting: as few digits as read back as it.
+pub fn number(x: f64) -> String {
+    let text = format!("{:?}", x);
+    text.strip_suffix(".0").map_or(text.clone(), str::to_owned)
+}
+
 /// Says something on standard error; a sweep goes on though nobody listens there.
 #[macro_export]
 macro_rules! tell {
     ($($words:tt)*) => {{
         use std::io::Write;
-        let _ = writeln!(std::io::stderr(), $($words)*);
+        let _ = writeln!(std::io::stderr(), "{}", $crate::text::printable_lines(&format!($($words)*)));
     }};
 }
 
@@ -55,6 +73,18 @@ pub fn excerpt(text: &str) -> String {
 
 /// Which of these are as asked, as ranges: 0..3, 7.
 pub fn ranges(flags: &[bool], wanted: bool) -> String {
+    const TOLD: usize = 8;
+    let mut parts = all_ranges(flags, wanted);
+    if parts.len() > TOLD {
+        let more = parts.len() - TOLD;
+        parts.truncate(TOLD);
+        parts.push(format!("and {} more ranges", grouped(more)));
+    }
+    parts.join(", ")
+}
+
+/// Each of them, however many there are.
+pub fn all_ranges(flags: &[bool], wanted: bool) -> Vec<String> {
     let mut parts = Vec::new();
     let mut i = 0;
     while i < flags.len() {
@@ -68,13 +98,7 @@ pub fn ranges(flags: &[bool], wanted: bool) -> String {
             _ => parts.push(format!("{}..{}", start, i)),
         }
     }
-    const TOLD: usize = 8;
-    if parts.len() > TOLD {
-        let more = parts.len() - TOLD;
-        parts.truncate(TOLD);
-        parts.push(format!("and {} more ranges", grouped(more)));
-    }
-    parts.join(", ")
+    parts
 }
 
 /// A file's name as a shell takes it for one word.
@@ -108,6 +132,25 @@ mod tests {
     use std::{ffi::OsStr, process::Command};
 
     #[test]
+    fn one_and_many() {
+        assert_eq!(counted(1, "roll"), "1 roll");
+        assert_eq!(counted(0, "time"), "0 times");
+        assert_eq!(counted(3600, "roll"), "3,600 rolls");
+    }
+    #[test]
+    fn settings() {
+        assert_eq!([10.0, 0.4, -0.0, 1e-300, 1e300].map(number), ["10", "0.4", "-0", "1e-300", "1e300"]);
+        assert_eq!([f64::NAN, f64::NEG_INFINITY].map(number), ["NaN", "-inf"]);
+    }
+    #[test]
+    fn what_steers_a_terminal_is_escaped() {
+        assert_eq!(printable("Véga \\ 星"), "Véga \\ 星");
+        assert_eq!(printable("a\u{1b}[31m\r\n\tb\u{7f}\u{9b}"), "a\\u{1b}[31m\\r\\n\\tb\\u{7f}\\u{9b}");
+        assert_eq!(printable("\u{202e}abc\u{2066}"), "\\u{202e}abc\\u{2066}");
+        assert_eq!(printable_lines("one\u{7}\ntwo"), "one\\u{7}\ntwo");
+        assert_eq!(printable_lines(&printable("one\ntwo")), "one\\ntwo");
+    }
+    #[test]
     fn thousands() {
         assert_eq!(grouped(0), "0");
         assert_eq!(grouped(999), "999");
@@ -127,6 +170,9 @@ mod tests {
         assert_eq!(ranges(&[], true), "");
         assert_eq!(ranges(&[true, true, false, true], true), "0..2, 3");
         assert_eq!(ranges(&[true, true, false, true], false), "2");
+        let every_other: Vec<bool> = (0..20).map(|i| i % 2 == 0).collect();
+        assert!(ranges(&every_other, true).ends_with("14, and 2 more ranges"));
+        assert_eq!(all_ranges(&every_other, true).len(), 10);
         assert_eq!(ranges(&[false; 5], false), "0..5");
     }
     #[test]

@@ -79,7 +79,7 @@ impl Case {
     }
     /// The windows of the whole sweep as the program's CSV says them.
     pub fn windows_csv(&self) -> String {
-        let mut csv = String::from("target,kind,first_sample,last_sample,start,end,severity_deg,data_end\n");
+        let mut csv = String::from("target,kind,first_sample,last_sample,start,end,seconds,severity_deg,data_end\n");
         let times = self.times.len();
         let room = [times; 6];
         for i in 0..self.sweep.plan.rows() {
@@ -90,7 +90,8 @@ impl Case {
             all.sort_by_key(|(_, w)| w.first);
             for (kind, w) in all {
                 let (start, end) = (self.clock(w.first as usize), self.clock(w.last as usize));
-                let _ = writeln!(csv, "T{},{},{},{},{},{},0,{}", i, kind, w.first, w.last, start, end, w.is_last as u8);
+                let seconds = (w.last_time - w.first_time) / 1_000_000_000;
+                let _ = writeln!(csv, "T{},{},{},{},{},{},{},0,{}", i, kind, w.first, w.last, start, end, seconds, w.is_last);
             }
         }
         csv

@@ -64,7 +64,9 @@ fn looked_at(machine: &Machine, ledger: &Ledger) {
     let status = machine.run(&["status", "plan.toml"]);
     let says = format!("chunks   {} of {} have a line", lines(ledger), machine.case.chunks());
     let said = String::from_utf8(status.stdout).unwrap();
-    assert!(status.status == 0 && said.contains(&says), "status says\n{}{}", said, status.stderr);
+    let finished = ledger.length() >= HEADER && lines(ledger) == machine.case.chunks();
+    let due = if finished { 0 } else { 4 };
+    assert!(status.status == due && said.contains(&says), "status says\n{}{}", said, status.stderr);
     assert!(machine.journal() == ledger.journal(), "status changed the journal");
 }
 

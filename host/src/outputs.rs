@@ -1,0 +1,122 @@
+//! Where windows are listed: files, which are whole or not written at all, and then standard output.
+use crate::{
+    digest::Digest,
+    fault::Fault,
+    files::{self, buffered, write_output, Place},
+    listing::Listing,
+    plan::Plan,
+    svg,
+};
+use clap::Args;
+use std::{
+    fs::File,
+    io::{self, Write},
+    os::fd::{AsFd, BorrowedFd},
+    path::{Path, PathBuf},
+};
+
+#[derive(Args)]
+pub struct Outputs {
+    /// Write the windows as CSV ("-" for standard output, in place of the table). A single clear sample is no window, unless it is the last
+    #[arg(long, value_name = "FILE")]
+    csv: Option<PathBuf>,
+    /// Write the windows and totals as JSON
+    #[arg(long, value_name = "FILE")]
+    json: Option<PathBuf>,
+    /// Write a timeline as SVG
+    #[arg(long, value_name = "FILE")]
+    svg: Option<PathBuf>,
+    /// Write the totals of each target and of all as CSV
+    #[arg(long, value_name = "FILE")]
+    summary: Option<PathBuf>,
+    /// Leave the table out
+    #[arg(long, short)]
+    quiet: bool,
+}
+
+/// An option that asks for an output, and where it shall go.
+struct Asked<'a> {
+    option: &'static str,
+    path: &'a Path,
+    write: fn(&Listing, &mut dyn Write) -> io::Result<()>,
+}
+
+impl Asked<'_> {
+    fn on_stdout(&self) -> bool {
+        self.path == Path::new("-")
+    }
+}
+
+impl Outputs {
+    fn asked(&self) -> Vec<Asked<'_>> {
+        type Write = fn(&Listing, &mut dyn io::Write) -> io::Result<()>;
+        let all: [(_, _, Write); 4] = [
+            ("--csv", &self.csv, |listing, out| listing.csv(out)),
+            ("--json", &self.json, |listing, out| listing.json(out)),
+            ("--svg", &self.svg, |listing, out| svg::write(listing, out)),
+            ("--summary", &self.summary, |listing, out| listing.summary(out)),
+        ];
+        all.into_iter().filter_map(|(option, path, write)| path.as_deref().map(|path| Asked { option, path, write })).collect()
+    }
+    /// Refuses, before any work, what could not be written or would overwrite a file that the command needs.
+    pub fn check(&self, plan: &Plan, journal: &Path) -> Result<(), Fault> {
+        let (on_stdout, to_files): (Vec<_>, Vec<_>) = self.asked().into_iter().partition(Asked::on_stdout);
+        if let [first, second, ..] = &on_stdout[..] {
+            let (a, b) = (first.option, second.option);
+            return Err(Fault::Usage(format!("{} - and {} -: only one can go to standard output; name a file for the other", a, b)));
+        }
+        let needed = [
+            ("the plan", plan.path()),
+            ("the plan's targets", &plan.targets_sheet.source.path),
+            ("the plan's ephemeris", &plan.ephemeris_sheet.source.path),
+            ("the journal", journal),
+            ("the journal's digest", &Digest::path(journal)),
+        ];
+        // A file that is not there and cannot be made is no output's either.
+        let mut taken: Vec<_> = needed.iter().filter_map(|(what, path)| Place::of(path).ok().map(|place| (*what, place))).collect();
+        let open = |fd: BorrowedFd| fd.try_clone_to_owned().ok().map(File::from);
+        let streams = [("standard output", open(io::stdout().as_fd())), ("standard error", open(io::stderr().as_fd()))];
+        for Asked { option, path, .. } in to_files {
+            let usage = |text: String| Err(Fault::Usage(format!("{} {}: {}", option, path.display(), text)));
+            let place = Place::of(path).map_err(|e| files::fault(path, &e))?;
+            if let Some((what, _)) = taken.iter().find(|(_, other)| place.is(other)) {
+                return usage(format!("this is the file of {}; name another", what));
+            }
+            if let Some((what, _)) = streams.iter().find(|(_, file)| file.as_ref().map_or(false, |file| place.is_open(file))) {
+                return usage(format!("{} goes into this file; name another, or \"-\" for standard output", what));
+            }
+            place.try_write().map_err(|e| files::fault(path, &e))?;
+            taken.push((option, place));
+        }
+        Ok(())
+    }
+    /// Writes the files, then the table or what takes its place: nobody need read that.
+    pub fn write(&self, listing: &Listing) -> Result<(), Fault> {
+        let (on_stdout, to_files): (Vec<_>, Vec<_>) = self.asked().into_iter().partition(Asked::on_stdout);
+        for Asked { path, write, .. } in &to_files {
+            write_output(path, |out| write(listing, out))?;
+            tell!("wrote {}", path.display());
+        }
+        let table = !self.quiet && on_stdout.is_empty();
+        if !table && !self.asked().is_empty() {
+            if let Some(note) = listing.single_note() {
+                tell!("{}", note);
+            }
+        }
+        let done = match on_stdout.first() {
+            Some(Asked { write, .. }) => buffered(io::stdout().lock(), |out| write(listing, out)),
+            None if table => buffered(io::stdout().lock(), |out| listing.table(out)),
+            None => Ok(()),
+        };
+        done.map_err(Fault::output)
+    }
+    /// What a sweep that lacks lines leaves unwritten, in words.
+    pub fn unwritten(&self) -> Option<String> {
+        let files: Vec<_> = self.asked().iter().map(|asked| format!("{} {}", asked.option, asked.path.display())).collect();
+        if files.is_empty() {
+            return None;
+        }
+        let were = if files.len() == 1 { "was" } else { "were" };
+        Some(format!("{} {} not written, as windows are listed of a whole sweep only", files.join(", "), were))
+    }
+}

@@ -1,0 +1,136 @@
+//! Which targets and which times a listing is asked for.
+use crate::{fault::Fault, instant, plan::Plan, text::printable};
+use clap::Args;
+use glob::Pattern;
+use std::ops::{Range, RangeInclusive};
+
+#[derive(Args, Default)]
+pub struct Selection {
+    /// Leave out all targets but this one; may be given again. * stands for any characters, ? for one, [ab] for a or b
+    #[arg(long = "target", value_name = "NAME")]
+    names: Vec<String>,
+    /// Leave out what ends before this time (RFC 3339); a window is never cut
+    #[arg(long, value_name = "TIME", value_parser = time)]
+    from: Option<i64>,
+    /// Leave out what starts after this time
+    #[arg(long, value_name = "TIME", value_parser = time)]
+    to: Option<i64>,
+}
+
+/// A selection of a plan's targets and times.
+pub struct Selected {
+    /// The targets' numbers, in the order of their file.
+    pub targets: Vec<usize>,
+    pub all_targets: bool,
+    pub from: Option<i64>,
+    pub to: Option<i64>,
+}
+
+impl Selection {
+    pub fn of(&self, plan: &Plan) -> Result<Selected, Fault> {
+        if let (Some(from), Some(to)) = (self.from, self.to) {
+            if from > to {
+                let time = |t| instant::format(t, instant::digits([t]));
+                return Err(Fault::Usage(format!("--from {} is after --to {}; allowed: from before to", time(from), time(to))));
+            }
+        }
+        Ok(Selected { targets: targets(&self.names, plan)?, all_targets: self.names.is_empty(), from: self.from, to: self.to })
+    }
+}
+
+impl Selected {
+    pub fn is_whole(&self) -> bool {
+        self.all_targets && self.has_all_times()
+    }
+    pub fn has_all_times(&self) -> bool {
+        self.from.is_none() && self.to.is_none()
+    }
+    pub fn times(&self) -> RangeInclusive<i64> {
+        self.from.unwrap_or(i64::MIN)..=self.to.unwrap_or(i64::MAX)
+    }
+    /// The samples whose times are selected.
+    pub fn samples(&self, times: &[i64]) -> Range<usize> {
+        let range = self.times();
+        times.partition_point(|t| t < range.start())..times.partition_point(|t| t <= range.end())
+    }
+    /// The selected times in words, to follow a noun.
+    pub fn when(&self) -> String {
+        let time = |t| instant::format(t, instant::digits([t]));
+        match (self.from, self.to) {
+            (Some(from), Some(to)) => format!("from {} to {}", time(from), time(to)),
+            (Some(from), None) => format!("from {}", time(from)),
+            (None, Some(to)) => format!("up to {}", time(to)),
+            (None, None) => "at all times".into(),
+        }
+    }
+}
+
+/// The targets that have one of these names or fit one of these patterns, by their numbers; all if there is none.
+pub fn targets(names: &[String], plan: &Plan) -> Result<Vec<usize>, Fault> {
+    let mut chosen = vec![names.is_empty(); plan.names.len()];
+    for name in names {
+        // A name with brackets or stars is also that name.
+        let pattern = Pattern::new(name);
+        let mut found = false;
+        for (target, chosen) in plan.names.iter().zip(&mut chosen) {
+            if target == name || pattern.as_ref().map_or(false, |p| p.matches(target)) {
+                (found, *chosen) = (true, true);
+            }
+        }
+        if !found {
+            let wrong = pattern.err().map_or(String::new(), |e| format!(", and as a pattern it is wrong ({})", e.msg));
+            return Err(Fault::Usage(format!(
+                "--target {}: no target of {} has that name{}; allowed: a name as it stands there, or a pattern with *, ? and [ab]",
+                printable(name),
+                plan.targets_file,
+                wrong
+            )));
+        }
+    }
+    Ok((0..chosen.len()).filter(|&i| chosen[i]).collect())
+}
+
+fn time(text: &str) -> Result<i64, String> {
+    instant::parse(text).map_err(|(at, allowed)| format!("at character {}, allowed: {}", at + 1, allowed))
+}
+
+#[cfg(test)]
+mod tests {
+    use super::*;
+    use crate::plan::tests::plan;
+
+    fn of(names: &[&str]) -> Result<Vec<usize>, String> {
+        let toml = "targets = \"t.csv\"\nephemeris = \"e.csv\"\nrolls = 1\ntolerance = 10\n";
+        let rows = ["M 31", "M 87", "NGC [1]", "NGC 1", "m 31", "Véga", "M 31"].map(|name| format!("{},1,0,0\n", name));
+        let plan = plan(
+            toml,
+            &format!("name,x,y,z\n{}", rows.concat()),
+            "time,sun_x,sun_y,sun_z,observer_x,observer_y,observer_z\n2026-03-20T00:00:00Z,0,1,0,0,0,0\n",
+        );
+        let names: Vec<_> = names.iter().map(|n| n.to_string()).collect();
+        targets(&names, &plan.unwrap()).map_err(|e| e.to_string())
+    }
+
+    #[test]
+    fn names_and_patterns() {
+        assert_eq!(of(&[]), Ok((0..7).collect()));
+        assert_eq!(of(&["M 31"]), Ok(vec![0, 6]));
+        assert_eq!(of(&["M *"]), Ok(vec![0, 1, 6]));
+        assert_eq!(of(&["V?ga", "M 87"]), Ok(vec![1, 5]));
+        assert_eq!(of(&["NGC [1]"]), Ok(vec![2, 3]));
+        assert_eq!(of(&["[Mm] 31"]), Ok(vec![0, 4, 6]));
+        assert_eq!(of(&["*"]), Ok((0..7).collect()));
+        assert!(of(&["M 31", "Vega"]).unwrap_err().starts_with("--target Vega: no target of t.csv has that name; allowed: "));
+        assert!(of(&["[1"]).unwrap_err().contains("as a pattern it is wrong"));
+    }
+    #[test]
+    fn samples_of_a_range() {
+        let times = [10, 20, 30];
+        let samples = |from, to| Selected { targets: vec![], all_targets: true, from, to }.samples(&times);
+        assert_eq!(samples(None, None), 0..3);
+        assert_eq!(samples(Some(10), Some(20)), 0..2);
+        assert_eq!(samples(Some(11), Some(19)), 1..1);
+        assert_eq!(samples(Some(30), None), 2..3);
+        assert_eq!(samples(None, Some(9)), 0..0);
+    }
+}

@@ -1,0 +1,89 @@
+//! A folder with a plan whose marks are chosen, and runs of the program in it.
+// Each file of tests uses its part.
+#![allow(dead_code)]
+
+use std::{
+    env, fs,
+    path::PathBuf,
+    process::{Command, Output},
+};
+use tempfile::TempDir;
+
+pub struct Folder(TempDir);
+
+impl Folder {
+    /// A time each minute from 2026-03-20T00:00:00Z on, marked where the text has 1; each of the targets looks along x.
+    pub fn new(targets: &[&str], marks: &str, settings: &str) -> Folder {
+        let folder = Folder(tempfile::tempdir().unwrap());
+        folder.write("plan.toml", &format!("targets = \"t.csv\"\nephemeris = \"e.csv\"\nrolls = 1\n{}", settings));
+        let rows = targets.iter().map(|name| format!("\"{}\",1,0,0\n", name));
+        folder.write("t.csv", &format!("name,x,y,z\n{}", rows.collect::<String>()));
+        let sun = |mark| if mark == '0' { "0,1,0" } else { "0,0,1" };
+        let rows = marks.chars().enumerate().map(|(j, mark)| format!("2026-03-20T{:02}:{:02}:00Z,{},0,0,0\n", j / 60, j % 60, sun(mark)));
+        folder.write("e.csv", &format!("time,sun_x,sun_y,sun_z,observer_x,observer_y,observer_z\n{}", rows.collect::<String>()));
+        folder
+    }
+    pub fn path(&self, name: &str) -> PathBuf {
+        self.0.path().join(name)
+    }
+    pub fn write(&self, name: &str, text: &str) {
+        fs::write(self.path(name), text).unwrap();
+    }
+    pub fn read(&self, name: &str) -> String {
+        fs::read_to_string(self.path(name)).unwrap()
+    }
+    /// Every file and what it holds.
+    pub fn all(&self) -> Vec<(String, Vec<u8>)> {
+        let entries = fs::read_dir(self.0.path()).unwrap().map(|entry| entry.unwrap());
+        let mut all: Vec<_> = entries.map(|e| (e.file_name().into_string().unwrap(), fs::read(e.path()).unwrap_or_default())).collect();
+        all.sort();
+        all
+    }
+    pub fn command(&self, words: &[&str]) -> Command {
+        let mut command = Command::new(program());
+        command.args(words).current_dir(self.0.path());
+        command
+    }
+    pub fn run(&self, words: &[&str]) -> Ended {
+        Ended::of(self.command(words).output().unwrap())
+    }
+    /// The same from a shell's line, where $W is the program.
+    pub fn shell(&self, line: &str) -> Ended {
+        let mut command = Command::new("sh");
+        Ended::of(command.args(["-c", line]).env("W", program()).current_dir(self.0.path()).output().unwrap())
+    }
+    pub fn swept(self) -> Folder {
+        assert_eq!(self.run(&["sweep", "plan.toml", "-q"]).status, 0);
+        self
+    }
+}
+
+/// The program that was built, or what WILFNUSK names.
+fn program() -> PathBuf {
+    env::var_os("WILFNUSK").map_or_else(|| env!("CARGO_BIN_EXE_wilfnusk").into(), PathBuf::from)
+}
+
+#[derive(Debug)]
+pub struct Ended {
+    pub status: i32,
+    pub stdout: String,
+    pub stderr: String,
+}
+
+impl Ended {
+    fn of(output: Output) -> Ended {
+        let text = |bytes: Vec<u8>| String::from_utf8(bytes).unwrap();
+        Ended { status: output.status.code().unwrap_or(-1), stdout: text(output.stdout), stderr: text(output.stderr) }
+    }
+    /// Ended with this status and said these words on standard error.
+    #[track_caller]
+    pub fn says(&self, status: i32, words: &[&str]) {
+        assert!(
+            self.status == status && words.iter().all(|word| self.stderr.contains(word)),
+            "not {} with {:?}: {:#?}",
+            status,
+            words,
+            self
+        );
+    }
+}

@@ -1,0 +1,189 @@
+//! Outputs: whole or not at all, refused before any work, and never in place of a file that is needed.
+mod common;
+
+use common::Folder;
+use std::{
+    fs, io,
+    os::{
+        fd::OwnedFd,
+        unix::{
+            fs::{symlink, PermissionsExt},
+            net::{UnixDatagram, UnixStream},
+            process::CommandExt,
+        },
+    },
+    process::{Command, Stdio},
+    thread,
+    time::Duration,
+};
+
+fn folder() -> Folder {
+    Folder::new(&["Vega", "M 31"], "0010110", "tolerance = 10\n")
+}
+
+/// A standard output that nobody reads.
+fn closed() -> Stdio {
+    let (ours, theirs) = UnixStream::pair().unwrap();
+    drop(theirs);
+    OwnedFd::from(ours).into()
+}
+
+#[test]
+fn a_closed_pipe_loses_no_file() {
+    let f = folder();
+    let lines = |name: &str| f.read(name).lines().count();
+    for (words, files) in [
+        (vec!["sweep", "plan.toml", "--csv", "a.csv", "--svg", "a.svg"], vec!["a.csv", "a.svg"]),
+        (vec!["windows", "plan.toml", "--csv", "b.csv", "--json", "b.json"], vec!["b.csv", "b.json"]),
+        (vec!["windows", "plan.toml", "--csv", "-", "--summary", "c.csv"], vec!["c.csv"]),
+    ] {
+        let status = f.command(&words).stdout(closed()).status().unwrap();
+        assert!(status.success(), "{:?}", words);
+        for file in files {
+            assert!(f.path(file).exists(), "{:?} did not write {}", words, file);
+        }
+    }
+    assert_eq!((lines("a.csv"), lines("b.csv"), lines("c.csv")), (9, 9, 4));
+}
+
+#[test]
+fn no_output_takes_the_place_of_a_file_that_is_needed() {
+    let f = folder().swept();
+    fs::hard_link(f.path("t.csv"), f.path("hard")).unwrap();
+    symlink("e.csv", f.path("soft")).unwrap();
+    fs::create_dir(f.path("d")).unwrap();
+    let before = f.all();
+    for command in ["windows", "sweep"] {
+        for option in ["--csv", "--json", "--svg", "--summary"] {
+            for file in ["plan.toml", "t.csv", "e.csv", "plan.journal", "plan.journal.plan", "hard", "soft", "d/../t.csv", "./plan.toml"] {
+                f.run(&[command, "plan.toml", option, file]).says(2, &[option, file, "this is the file of the ", "; name another"]);
+            }
+        }
+        for (a, b) in [("z", "z"), ("z", "./z"), ("d/z", "d/../d/z")] {
+            f.run(&[command, "plan.toml", "--csv", a, "--json", b]).says(2, &["--json", "this is the file of --csv"]);
+        }
+    }
+    f.run(&["windows", "plan.toml", "--journal", "other.journal", "--csv", "other.journal"]).says(2, &["the file of the journal"]);
+    assert!(f.all() == before, "a refused command changed a file");
+}
+
+#[test]
+fn what_can_be_refused_is_refused_before_the_sweep() {
+    let f = folder();
+    fs::create_dir(f.path("d")).unwrap();
+    symlink("nowhere", f.path("loose")).unwrap();
+    let before = f.all();
+    for (words, status, says) in [
+        (["--csv", "-", "--json", "-"], 2, "only one can go to standard output"),
+        (["--csv", "no/w.csv", "--svg", "w.svg"], 3, "no/w.csv: there is no such file or folder"),
+        (["--csv", "w.csv", "--svg", "d"], 3, "d: it is a folder"),
+        (["--csv", "w.csv", "--summary", "loose"], 3, "loose: it is a link to a file that is not there"),
+        (["--csv", "w.csv", "--target", "Nobody"], 2, "--target Nobody: no target of t.csv has that name"),
+        (["--from", "2026-03-20T00:00:02Z", "--to", "2026-03-20T00:00:01Z"], 2, "is after --to"),
+    ] {
+        f.run(&[&["sweep", "plan.toml"], &words[..]].concat()).says(status, &[says]);
+        assert!(f.all() == before, "{:?} began the sweep", words);
+    }
+    f.shell("$W sweep plan.toml --csv out > out").says(2, &["--csv out: standard output goes into this file"]);
+    assert_eq!(f.read("out"), "");
+    assert!(!f.path("plan.journal").exists());
+}
+
+#[test]
+fn a_part_says_what_it_does_not_write() {
+    let f = Folder::new(&["A", "B"], &"01".repeat(40), "tolerance = 10\n");
+    let ended = f.run(&["sweep", "plan.toml", "--part", "1/2", "--csv", "w.csv", "--svg", "w.svg"]);
+    ended.says(0, &["--csv w.csv, --svg w.svg were not written, as windows are listed of a whole sweep only", "wilfnusk windows"]);
+    assert!(!f.path("w.csv").exists());
+    f.run(&["sweep", "plan.toml", "--csv", "w.csv"]).says(0, &["wrote w.csv"]);
+}
+
+#[test]
+fn a_write_that_fails_leaves_the_old_file_and_nothing_else() {
+    let f = folder().swept();
+    f.write("w.csv", "old\n");
+    let before = f.all();
+    let ended = f.shell("trap '' XFSZ; ulimit -f 0; exec $W windows plan.toml --csv w.csv");
+    ended.says(3, &["w.csv: the file may not grow further"]);
+    assert!(f.all() == before, "{:?}", f.all().iter().map(|(name, _)| name).collect::<Vec<_>>());
+}
+
+#[test]
+fn permissions_follow_the_umask() {
+    let f = folder().swept();
+    f.shell("umask 027; $W windows plan.toml --csv w.csv && : > plain").says(0, &[]);
+    let mode = |name: &str| fs::metadata(f.path(name)).unwrap().permissions().mode() & 0o7777;
+    assert_eq!((mode("w.csv"), mode("plain")), (0o640, 0o640));
+}
+
+#[test]
+fn pipes_and_devices_are_written_as_they_are() {
+    let f = folder().swept();
+    let ended = f.shell("$W windows plan.toml -q --csv /dev/null --json /dev/stdout | head -1");
+    ended.says(0, &["wrote /dev/null", "wrote /dev/stdout"]);
+    assert_eq!(ended.stdout, "{\n");
+    assert!(!fs::metadata("/dev/null").unwrap().is_file());
+}
+
+/// Each write to a datagram socket is a datagram.
+#[test]
+fn a_long_table_is_few_writes() {
+    let names: Vec<_> = (0..2000).map(|i| format!("T{}", i)).collect();
+    let f = Folder::new(&names.iter().map(String::as_str).collect::<Vec<_>>(), "0010110", "tolerance = 10\n").swept();
+    let (ours, theirs) = UnixDatagram::pair().unwrap();
+    ours.set_read_timeout(Some(Duration::from_millis(100))).unwrap();
+    let mut child = f.command(&["windows", "plan.toml"]).stdout(Stdio::from(OwnedFd::from(theirs))).spawn().unwrap();
+    let (mut writes, mut lines, mut ended) = (0, 0, false);
+    let mut buffer = vec![0; 1 << 20];
+    loop {
+        match ours.recv(&mut buffer) {
+            Ok(length) if length > 0 => {
+                writes += 1;
+                lines += buffer[..length].iter().filter(|&&b| b == b'\n').count();
+            }
+            _ if ended => break,
+            _ => ended = child.try_wait().unwrap().is_some(),
+        }
+        thread::yield_now();
+    }
+    assert!(lines > 10_000 && writes < lines / 100, "{} writes of {} lines", writes, lines);
+}
+
+/// The system calls of a run, by number.
+fn calls(mut command: Command) -> Vec<i64> {
+    unsafe {
+        command.stdout(Stdio::null()).stderr(Stdio::null()).pre_exec(|| match libc::ptrace(libc::PTRACE_TRACEME, 0, 0, 0) {
+            0 => Ok(()),
+            _ => Err(io::Error::last_os_error()),
+        });
+    }
+    let child = command.spawn().unwrap();
+    let pid = child.id() as libc::pid_t;
+    let (mut calls, mut entering, mut status) = (Vec::new(), true, 0);
+    loop {
+        assert_eq!(unsafe { libc::waitpid(pid, &mut status, 0) }, pid);
+        if !libc::WIFSTOPPED(status) {
+            return calls;
+        }
+        if libc::WSTOPSIG(status) == libc::SIGTRAP | 0x80 {
+            if entering {
+                let mut registers: libc::user_regs_struct = unsafe { std::mem::zeroed() };
+                assert_eq!(unsafe { libc::ptrace(libc::PTRACE_GETREGS, pid, 0, &mut registers) }, 0);
+                calls.push(registers.orig_rax as i64);
+            }
+            entering = !entering;
+        } else {
+            assert_eq!(unsafe { libc::ptrace(libc::PTRACE_SETOPTIONS, pid, 0, libc::PTRACE_O_TRACESYSGOOD) }, 0);
+        }
+        assert_eq!(unsafe { libc::ptrace(libc::PTRACE_SYSCALL, pid, 0, 0) }, 0);
+    }
+}
+
+/// The new file is synced before it takes the name, and the folder after.
+#[test]
+fn a_file_lasts() {
+    let f = folder().swept();
+    let calls = calls(f.command(&["windows", "plan.toml", "-q", "--csv", "w.csv"]));
+    let told: Vec<_> = calls.into_iter().filter(|call| [libc::SYS_fsync, libc::SYS_rename].contains(call)).collect();
+    assert_eq!(told, [libc::SYS_fsync, libc::SYS_rename, libc::SYS_fsync]);
+}
