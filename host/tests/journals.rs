@@ -340,11 +340,11 @@ fn advice_names_the_journal_that_was_asked_for() {
     let status = folder.run("status plan.toml --journal half.journal");
     assert!(status.stdout.ends_with("next     wilfnusk sweep plan.toml --journal half.journal\n"), "{}", status.stdout);
     folder.refused(
-        1,
+        4,
         "windows plan.toml --journal half.journal",
         &["`wilfnusk sweep plan.toml --journal half.journal` works out the rest"],
     );
-    folder.refused(3, "windows plan.toml --journal none.journal", &["`wilfnusk sweep plan.toml --journal none.journal` makes one"]);
+    folder.refused(4, "windows plan.toml --journal none.journal", &["`wilfnusk sweep plan.toml --journal none.journal` makes one"]);
 }
 
 /// A sweep that waits for the journal, started with some signals ignored, and hit by one; then the journal is free.

@@ -36,6 +36,7 @@ fn a_closed_pipe_loses_no_file() {
         (vec!["sweep", "plan.toml", "--csv", "a.csv", "--svg", "a.svg"], vec!["a.csv", "a.svg"]),
         (vec!["windows", "plan.toml", "--csv", "b.csv", "--json", "b.json"], vec!["b.csv", "b.json"]),
         (vec!["windows", "plan.toml", "--csv", "-", "--summary", "c.csv"], vec!["c.csv"]),
+        (vec!["merge", "plan.toml", "plan.journal", "-o", "all.journal"], vec!["all.journal", "all.journal.plan"]),
     ] {
         let status = f.command(&words).stdout(closed()).status().unwrap();
         assert!(status.success(), "{:?}", words);

@@ -205,8 +205,9 @@ impl Watch {
             faults: Vec::new(),
         }
     }
+    /// A file in the folder, or in one that a new file is made in.
     fn ours(&self, file: &Path) -> bool {
-        file.parent() == Some(&self.folder)
+        file != self.folder && file.starts_with(&self.folder)
     }
     /// Nothing is left unsynced when this happens.
     fn lasts(&mut self, when: &str) {
