@@ -104,6 +104,8 @@ struct State {
     /// As --chunks takes them.
     missing: Vec<String>,
     finished: bool,
+    /// Whether J.plan tells what the lines were made from.
+    origin_known: bool,
 }
 
 impl Status {
@@ -114,7 +116,7 @@ impl Status {
         let read = bytes.as_deref().unwrap_or(&[]);
         let keep = engine::recover(&plan, read).map_err(|r| explain::journal(&plan, &path, read, r))?;
         let has_line = done(&read[..keep], plan.chunks());
-        let state = State {
+        let mut state = State {
             plan: plan.path().display().to_string(),
             targets: plan.names.len(),
             times: plan.times.len(),
@@ -131,12 +133,13 @@ impl Status {
             chunks_with_line: has_line.iter().filter(|&&d| d).count(),
             missing: all_ranges(&has_line, false),
             finished: keep > 0 && !has_line.contains(&false),
+            origin_known: true,
         };
         let has_lines = keep > HEADER_BYTES as usize;
         if self.json {
             // A program takes what it reads as true of these files.
             if has_lines {
-                same_plan(&plan, &path)?;
+                state.origin_known = same_plan(&plan, &path)?;
             }
             let write =
                 |out: &mut dyn Write| serde_json::to_writer_pretty(&mut *out, &state).map_err(io::Error::from).and_then(|()| writeln!(out));

@@ -124,6 +124,10 @@ fn lines_of_unknown_origin_get_no_digest() {
         assert!(!looked.stdout.contains("are those it was begun with"), "{}", looked.stdout);
         assert!(!folder.has("all.journal.plan"), "{}", words);
     }
+    for (journal, known) in [("all.journal", "\"origin_known\": false"), ("part1.journal", "\"origin_known\": true")] {
+        let told = folder.run(&format!("status plan.toml --json --journal {}", journal)).stdout;
+        assert!(told.contains(known), "{}", told);
+    }
     let again = folder.done("merge plan.toml all.journal part1.journal -o again.journal");
     assert!(again.stderr.contains("warning: all.journal.plan is missing") && !folder.has("again.journal.plan"));
     // Which of the lines are wrong.
