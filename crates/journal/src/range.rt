@@ -2,11 +2,14 @@
 // so are the Sun's units where that pays.
 ghost use mathlib.Core.Path.{_≡_};
 ghost use mathlib.Core.Bool.{true, not, _||_};
-ghost use Prim.Native.Nat.{_+_, _-_, _*_, _≤_, _<_};
+ghost use Prim.Native.Nat.{ℕ, _+_, _-_, _*_, _%_, _≤_, _<_};
 ghost use lib.Dec.{leb, ltb, eqb};
-ghost use lib.ListN.{length, getD};
-ghost use Rattle.solar_roll.specs.Plan.{planOf, count, PlanFacts};
-ghost use Rattle.roll_sweep.specs.Sweep.{chunks};
+ghost use lib.ListN.{length, getD, take};
+ghost use Rattle.buffers.specs.Ranges.{tab};
+ghost use Rattle.solar_roll.specs.Vectors.{Vector};
+ghost use Rattle.solar_roll.specs.Roll.{sunUnit};
+ghost use Rattle.solar_roll.specs.Plan.{Plan, planOf, count, rowsOf, timesOf, triple, mostCells, mostSamples, PlanFacts};
+ghost use Rattle.roll_sweep.specs.Sweep.{Sweep, chunks};
 ghost use Rattle.roll_sweep.specs.Rolls.{evenRolls};
 ghost use Rattle.roll_sweep.specs.Chunk.{sweptOf, chunkReply};
 ghost use Rattle.roll_sweep.specs.declared.chunk.Swept.{Swept};
@@ -17,11 +20,13 @@ ghost use Rattle.journal.specs.Range.{ranTo, ran};
 use crate::line::append_line;
 use roll_sweep::ChunkAnswer;
 use roll_sweep::Swept;
+use roll_sweep::cells_in;
 use roll_sweep::even_rolls;
 use roll_sweep::sweep_chunk;
-use roll_sweep::sweep_chunk_by_units;
 use solar_roll::SolarRollConfig;
+use solar_roll::sun_unit;
 use solar_roll::sun_units;
+use solar_roll::triple;
 
 // What an accepted sweep gives.
 fn accepted(answer: ChunkAnswer) -> Swept
@@ -33,7 +38,34 @@ fn accepted(answer: ChunkAnswer) -> Swept
     }
 }
 
-// Sweeps a chunk of an accepted plan over its even rolls, by a table of the Sun's units of all times, if there is one.
+// The Sun's units at `cells` cells from number `first` on. Of a time that comes again, in another
+// row, the unit is not worked out again.
+fn chunk_units(suns: &[f64], observers: &[f64], first: usize, cells: usize) -> [[f64; 3]; 64]
+    requires { ⌜ (cells ≤ 64) × (0 < count (now suns)) × (first ≤ mostCells) ⌝ }
+    ensures { λ r.
+        let unit : ℕ → Vector = λ j. sunUnit (triple (now (suns .entry)) j) (triple (now (observers .entry)) j) in
+        ⌜ take cells r ≡ tab cells (λ k. unit ((first + k) % count (now (suns .entry)))) ⌝ }
+{
+    let times = suns.len() / 3;
+    let mut units = [[0.0; 3]; 64];
+    let mut k = 0;
+    while k < cells {
+        let at = k;
+        k += 1;
+        if at < times {
+            let time = (first + at) % times;
+            let unit = sun_unit(triple(suns, time), triple(observers, time));
+            units[at] = unit;
+        } else {
+            let unit = units[at - times];
+            units[at] = unit;
+        }
+    }
+    units
+}
+
+// Sweeps a chunk of an accepted plan over its even rolls: by a table of the Sun's units of all times, if there is one, else
+// by those of its own cells.
 fn sweep_even(
     targets: &[f64],
     suns: &[f64],
@@ -43,15 +75,20 @@ fn sweep_even(
     units: &[[f64; 3]],
     chunk: u64,
 ) -> Swept
-    requires { ⌜ PlanFacts (planOf (now targets) (now suns) (now observers) config) × (1 ≤ length (now rolls)) × (length (now rolls) ≤ 3600)
-        × (now rolls ≡ evenRolls (length (now rolls))) × UnitsOf (planOf (now targets) (now suns) (now observers) config) (now units)
-        × (chunk < chunks (count (now targets) * count (now suns))) ⌝ }
-    ensures { λ r. ⌜ r ≡ sweptOf (lentSweep (now (targets .entry)) (now (suns .entry)) (now (observers .entry)) config (length (now (rolls .entry)))) chunk ⌝ }
+    requires { let p : Plan = planOf (now targets) (now suns) (now observers) config in
+        ⌜ PlanFacts p × (1 ≤ length (now rolls)) × (length (now rolls) ≤ mostSamples) × (now rolls ≡ evenRolls (length (now rolls)))
+        × UnitsOf p (now units) × (chunk < chunks (rowsOf p * timesOf p)) ⌝ }
+    ensures { λ r.
+        let s : Sweep = lentSweep (now (targets .entry)) (now (suns .entry)) (now (observers .entry)) config (length (now (rolls .entry))) in
+        ⌜ r ≡ sweptOf s chunk ⌝ }
 {
+    let times = suns.len() / 3;
     if 0 < units.len() {
-        return accepted(sweep_chunk_by_units(targets, units, config, rolls, chunk));
+        return accepted(sweep_chunk(targets, times, units, config, rolls, chunk));
     }
-    accepted(sweep_chunk(targets, suns, observers, config, rolls, chunk))
+    let cells = cells_in((targets.len() / 3 * times) as u64, chunk) as usize;
+    let own = chunk_units(suns, observers, 64 * chunk as usize, cells);
+    accepted(sweep_chunk(targets, times, &own, config, rolls, chunk))
 }
 
 // Work refuses the chunk: it does not exist, it has a line, or there is no room for one.

@@ -9,7 +9,6 @@ use Rattle.buffers.proofs.Ranges.{getD-tab}
 use Rattle.buffers.proofs.Rows.{cell-row, cell-time}
 use Rattle.solar_roll.specs.Plan.{Plan, timesOf, violatesAt, samplingOf, planRefusal}
 use Rattle.roll_sweep.specs.Rolls.{evenRoll}
-use Rattle.roll_sweep.specs.Chunk.{cellViolated}
 use Rattle.journal.specs.Plan.{sweepOf}
 use Rattle.journal.proofs.Planned.{passed, accepted-sweep}
 use Rattle.journal.proofs.Written.{Accepted}
@@ -25,7 +24,7 @@ module _ (p : Plan) (n : ℕ) where
 
   -- sample k of the cell of row i at time j is the roll k times (360 / n)
   pub sampled : (i j k : ℕ) → j < timesOf p → k < n → sweepOf p n .violates (i * timesOf p + j) k ≡ violatesAt p i j (evenRoll n k)
-  unfolding sweepOf cellViolated
+  unfolding sweepOf
   sampled i j k h l =
       ap₂ (λ (r t : ℕ). violatesAt p r t (getD (tab n (evenRoll n)) k nan)) (cell-row (timesOf p) i j h) (cell-time (timesOf p) i j h)
       ∙ ap (violatesAt p i j) (getD-tab n (evenRoll n) nan k l)
