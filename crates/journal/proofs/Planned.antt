@@ -28,8 +28,9 @@ use Rattle.roll_sweep.proofs.Cells.{cell-violates, unit-of-time, unit-of-cell}
 use Rattle.journal.specs.Header.{hasRoll, rollBits, settingsHeader, headerOf}
 use Rattle.journal.specs.Pass.{Passed}
 use Rattle.journal.specs.Plan.{sweepOf}
+use Rattle.journal.specs.Lines.{headerLength}
 use Rattle.journal.proofs.Write.{length-header}
-use Rattle.journal.proofs.Written.{Accepted as AcceptedSweep}
+use Rattle.journal.proofs.Written.{SweepFacts}
 
 -- what is known once the plan has passed
 pub record PlanPassed (p : Plan) (n room u : ℕ) : Type 0 where
@@ -39,7 +40,7 @@ pub record PlanPassed (p : Plan) (n room u : ℕ) : Type 0 where
   pub used : u ≤ room
 
 -- a header has 107 bytes, so it fills as many
-pub length-settings : (targets times n : ℕ) (tolerance : Float) (configured : ConfiguredRoll) (panel : Vector) → length (settingsHeader targets times n tolerance configured panel) ≡ 107
+pub length-settings : (targets times n : ℕ) (tolerance : Float) (configured : ConfiguredRoll) (panel : Vector) → length (settingsHeader targets times n tolerance configured panel) ≡ headerLength
 unfolding settingsHeader
 length-settings targets times n tolerance configured panel =
     length-header targets times n (toBits binary64 tolerance) (hasRoll configured) (rollBits configured)
@@ -71,12 +72,12 @@ module _ (p : Plan) (n : ℕ) where
       }
 
   -- the header has 107 bytes
-  pub length-header-of : length (sweepOf p n .header) ≡ 107
+  pub length-header-of : length (sweepOf p n .header) ≡ headerLength
   unfolding sweepOf headerOf
   length-header-of = length-settings (rowsOf p) (timesOf p) n (headTolerance p) (planConfigured p) (planPanel p)
 
   -- so the plan's sweep is one of an accepted plan
-  pub accepted-sweep : (room u : ℕ) → sweepOf p n .refusal (ltb room u) ≡ 0 → AcceptedSweep (sweepOf p n)
+  pub accepted-sweep : (room u : ℕ) → sweepOf p n .refusal (ltb room u) ≡ 0 → SweepFacts (sweepOf p n)
   unfolding sweepOf
   accepted-sweep room u e =
       let f = passed room u e in
@@ -94,17 +95,23 @@ module _ (p : Plan) (n : ℕ) where
   header-put b out e = e ∙ sym (put-first (headerOf p n) b)
 
   -- the plan's sweep, by the header that was written: over a blank array of its length
-  pub passed-with : (b h : List ℕ) (u : ℕ) → sweepOf p n .refusal (ltb (length b) u) ≡ 0
-      → h ≡ over (settingsHeader (rowsOf p) (timesOf p) n (headTolerance p) (planConfigured p) (planPanel p)) (replicate 107 0)
-      → Passed (sweepOf p n) (rowsOf p * timesOf p) n h b u
+  pub passed-with : (h : List ℕ) (room u : ℕ) → sweepOf p n .refusal (ltb room u) ≡ 0
+      → h ≡ over (settingsHeader (rowsOf p) (timesOf p) n (headTolerance p) (planConfigured p) (planPanel p)) (replicate headerLength 0)
+      → Passed (sweepOf p n) (rowsOf p * timesOf p) n h room u
   unfolding sweepOf headerOf
-  passed-with b h u e w =
-      let n107 : length (headerOf p n) ≡ 107 = length-header-of in
+  passed-with h room u e w =
+      let f = passed room u e in
+      let size : length (headerOf p n) ≡ headerLength = length-header-of in
+      let written : h ≡ headerOf p n = w ∙ over-all (headerOf p n) (replicate headerLength 0) (omega (arith, length-replicate {A = ℕ} headerLength 0)) in
       record {
         plan = e;
         all = refl;
         samples = samples-n;
-        header = sym (w ∙ over-all (headerOf p n) (replicate 107 0) (omega (arith, length-replicate {A = ℕ} 107 0)));
+        header = sym written;
+        size = ap length written ∙ size;
+        few = f .facts .few-cells;
+        most = f .most;
+        used = f .used;
       }
 
 -- ---- the sweep of a chunk of an accepted plan, at n even rolls, is not refused, and gives what the plan's sweep has

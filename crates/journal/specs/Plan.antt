@@ -25,3 +25,7 @@ lentSweep targets suns observers config n = sweepOf (planOf targets suns observe
 -- a table of the Sun's units, one a time of the plan, or none
 abbrev pub UnitsOf : Plan → List Vector → Type 0
 UnitsOf p units = 0 < length units → units ≡ tab (timesOf p) (sunAt p)
+
+-- how many times such a table has room for: the hours of a leap year
+abbrev pub tableTimes : ℕ
+tableTimes = 8784
