@@ -10,7 +10,7 @@ use borrow.Author.Tests.{lt-ltb, le-ltb, le-leb, lt-leb, eq-eqb, ne-eqb, leb-fal
 use Rattle.buffers.specs.Lent.{filled, put}
 use Rattle.buffers.specs.Refusal.{Conditions, first, carried, replyOf}
 use Rattle.buffers.specs.declared.Answer.the-variants.{Accepted, Refused}
-use Rattle.buffers.proofs.Refusal.{first-none, first-here, first-skip, first-clears, carried-here, carried-skip, carried-clear, written-none, accepted-with, refused-leaves, accepted-leaves}
+use Rattle.buffers.proofs.Refusal.{first-none, first-here, first-skip, first-clear, first-clears, carried-here, carried-skip, carried-clear, written-none, accepted-with, refused-leaves, accepted-leaves}
 use Rattle.roll_sweep.specs.Sweep.{Sweep, cells, chunks}
 use Rattle.journal.specs.Lines.{headerLength, lineLength, lineOf, hasChunk, hasChunks, heldProbes}
 use Rattle.journal.specs.Right.{wholeLines, torn, right}
@@ -197,6 +197,14 @@ module _ (s : Sweep) (from to : ℕ) (b : List ℕ) (u : ℕ) where
         plan-clear s b u (rangeConditions s from to b u) p
         ∙ first-skip (leb to from) 9 (carried (workRefusal s from b u) ∷ []) (lt-leb to from h)
         ∙ carried-only (workRefusal s from b u)
+
+  -- a range that is not refused has a chunk, and its work is not refused
+  pub range-clear : rangeRefusal s from to b u ≡ 0 → (from < to) × (workRefusal s from b u ≡ 0)
+  unfolding rangeRefusal
+  range-clear e =
+      let p = carried-clear (s .refusal (ltb (length b) u)) (rangeConditions s from to b u) e in
+      let q = first-clear (leb to from) 9 (carried (workRefusal s from b u) ∷ []) (omega arith) (p .1) in
+      (leb-false to from (q .0), carried-clear (workRefusal s from b u) [] (q .1) .0)
 
   -- what the call answers and leaves, with the lent number
   module _ (old : ℕ) where

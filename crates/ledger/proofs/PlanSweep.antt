@@ -7,24 +7,24 @@ use lib.Ieee.{nan}
 use Rattle.buffers.specs.Ranges.{tab}
 use Rattle.buffers.proofs.Ranges.{getD-tab}
 use Rattle.buffers.proofs.Rows.{cell-row, cell-time}
-use Rattle.solar_roll.specs.Plan.{Plan, timesOf, violatesAt, samplingOf, planRefusal}
+use Rattle.solar_roll.specs.Plan.{mostTimes, Plan, timesOf, violatesAt, samplingOf, planRefusal}
 use Rattle.roll_sweep.specs.Rolls.{evenRoll}
 use Rattle.journal.specs.Plan.{sweepOf}
 use Rattle.journal.proofs.Planned.{passed, accepted-sweep}
-use Rattle.journal.proofs.Written.{Accepted}
+use Rattle.journal.proofs.Written.{SweepFacts}
 
 module _ (p : Plan) (n : ℕ) where
-  pub accepted-plan : planRefusal p (samplingOf n) false ≡ 0 → Accepted (sweepOf p n)
+  pub accepted-plan : planRefusal p (samplingOf n) false ≡ 0 → SweepFacts (sweepOf p n)
   unfolding sweepOf
   accepted-plan e = accepted-sweep p n 0 0 e
 
-  pub few-times : planRefusal p (samplingOf n) false ≡ 0 → timesOf p ≤ 65536
+  pub few-times : planRefusal p (samplingOf n) false ≡ 0 → timesOf p ≤ mostTimes
   unfolding sweepOf
   few-times e = passed p n 0 0 e .facts .few-times
 
   -- sample k of the cell of row i at time j is the roll k times (360 / n)
-  pub sampled : (i j k : ℕ) → j < timesOf p → k < n → sweepOf p n .violates (i * timesOf p + j) k ≡ violatesAt p i j (evenRoll n k)
+  pub sample-roll : (i j k : ℕ) → j < timesOf p → k < n → sweepOf p n .violates (i * timesOf p + j) k ≡ violatesAt p i j (evenRoll n k)
   unfolding sweepOf
-  sampled i j k h l =
+  sample-roll i j k h l =
       ap₂ (λ (r t : ℕ). violatesAt p r t (getD (tab n (evenRoll n)) k nan)) (cell-row (timesOf p) i j h) (cell-time (timesOf p) i j h)
       ∙ ap (violatesAt p i j) (getD-tab n (evenRoll n) nan k l)
