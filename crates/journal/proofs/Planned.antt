@@ -2,11 +2,11 @@
 use mathlib.Core.Path.{_≡_, refl, sym, ap, _∙_}
 use mathlib.Core.Bool.{Bool}
 use mathlib.Core.List.{List, []}
-use Prim.Native.Nat.{ℕ, _+_, _*_, _%_, _≤_, _<_}
+use Prim.Native.Nat.{ℕ, _+_, _*_, _/_, _%_, _≤_, _<_}
 use native.Mathlib.Omega.{arith}
 use lib.Dec.{ltb, lit<}
 use lib.ListN.{length, getD, take, replicate, length-replicate}
-use lib.Ieee.{Float, binary64, toBits}
+use lib.Ieee.{Float, nan, binary64, toBits}
 use borrow.Author.Tests.{le-leb, le-ltb, ltb-false}
 use Rattle.buffers.specs.Ranges.{tab}
 use Rattle.buffers.specs.Refusal.{reply, accepted}
@@ -16,12 +16,12 @@ use Rattle.buffers.proofs.Lent.{put-first, over-all}
 use Rattle.buffers.proofs.Tests.{or-right}
 use Rattle.solar_roll.specs.Vectors.{Vector, x, y, z}
 use Rattle.solar_roll.specs.declared.cell.ConfiguredRoll.{ConfiguredRoll}
-use Rattle.solar_roll.specs.Plan.{Plan, rowsOf, timesOf, headTolerance, planConfigured, planPanel, unlikeLengths, samplingOf, planRefusal, sunAt, mostSamples, PlanFacts}
+use Rattle.solar_roll.specs.Plan.{Plan, rowsOf, timesOf, headTolerance, planConfigured, planPanel, unlikeLengths, samplingOf, planRefusal, sunAt, violatesAt, mostSamples, PlanFacts}
 use Rattle.solar_roll.proofs.Accepted.{plan-facts}
-use Rattle.roll_sweep.specs.Sweep.{Sweep, chunks, cellsIn}
+use Rattle.roll_sweep.specs.Sweep.{chunks, cellsIn}
 use Rattle.roll_sweep.specs.Rolls.{evenRolls}
-use Rattle.roll_sweep.specs.Chunk.{sweepOver, sweptOf, chunkRefusal, sweptReply}
-use Rattle.roll_sweep.proofs.Even.{length-even}
+use Rattle.roll_sweep.specs.Chunk.{violatesBy, sampleRoll, sweptBy, sweptOf, chunkRefusal, sweptReply}
+use Rattle.roll_sweep.proofs.Even.{length-even, even-at}
 use Rattle.roll_sweep.proofs.ChunkFacts.{samples-within, Held, chunk-facts, held, chunk-accepted}
 use Rattle.roll_sweep.proofs.Swept.{swept-ext, swept-chunk}
 use Rattle.roll_sweep.proofs.Cells.{cell-violates, unit-of-time, unit-of-cell}
@@ -47,10 +47,6 @@ length-settings targets times n tolerance configured panel =
     (toBits binary64 (x panel)) (toBits binary64 (y panel)) (toBits binary64 (z panel))
 
 module _ (p : Plan) (n : ℕ) where
-  pub samples-n : sweepOf p n .samples ≡ n
-  unfolding sweepOf
-  samples-n = length-even n
-
   -- the refusal that the plan's call gave, k, is the sweep's
   pub refusal-said : (m k : ℕ) (beyond : Bool) → m ≡ samplingOf n → k ≡ planRefusal p m beyond → k ≡ sweepOf p n .refusal beyond
   unfolding sweepOf
@@ -84,8 +80,8 @@ module _ (p : Plan) (n : ℕ) where
       record {
         plan = ap (planRefusal p (samplingOf n)) (sym (le-ltb room u (f .used))) ∙ e;
         few = f .facts .few-cells;
-        one = omega (arith, f .one, samples-n);
-        most = omega (arith, f .most, samples-n);
+        one = f .one;
+        most = f .most;
         header = length-header-of;
       }
 
@@ -106,7 +102,7 @@ module _ (p : Plan) (n : ℕ) where
       record {
         plan = e;
         all = refl;
-        samples = samples-n;
+        samples = refl;
         header = sym written;
         size = ap length written ∙ size;
         few = f .facts .few-cells;
@@ -136,11 +132,14 @@ module _ (p : Plan) (n c : ℕ) (f : PlanFacts p) (one : 1 ≤ n) (most : n ≤ 
   unfolding sweepOf
   even-swept units some unit =
       let w : ℕ = cellsIn (rowsOf p * timesOf p) c in
-      let s : Sweep = sweepOver p rolls (planRefusal p (samplingOf n)) (headerOf p n) in
+      let size : length rolls ≡ n = ap length even ∙ length-even n in
+      let v : ℕ → ℕ → Bool = λ k j. violatesBy (p .targets) (timesOf p) units (p .config) (64 * c + k) (sampleRoll rolls (p .config .«roll_deg») j) in
       reply-none _ _ (not-refused (length units) some)
-      ∙ ap accepted (swept-ext w (length rolls) _ (λ k. s .violates (64 * c + k)) (λ k j h g. cell-violates p rolls units (64 * c + k) j (unit k h))
-      ∙ swept-chunk s c w refl
-      ∙ ap (λ (r : List Float). sweptOf (sweepOver p r (planRefusal p (samplingOf n)) (headerOf p n)) c) even)
+      ∙ ap accepted (ap (λ (m : ℕ). sweptBy w m v) size
+      ∙ swept-ext w n v (λ k. sweepOf p n .violates (64 * c + k))
+      (λ k j h g. cell-violates p rolls units (64 * c + k) j (unit k h)
+      ∙ ap (violatesAt p ((64 * c + k) / timesOf p) ((64 * c + k) % timesOf p)) (ap (λ (l : List Float). getD l j nan) even ∙ even-at n j g))
+      ∙ swept-chunk (sweepOf p n) c w refl)
 
   -- of all times
   pub swept-by-times : (units : List Vector) → 0 < length units → units ≡ tab (timesOf p) (sunAt p)

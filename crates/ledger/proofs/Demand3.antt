@@ -23,7 +23,6 @@ use Rattle.roll_sweep.proofs.Chunks.{marked-iff}
 use Rattle.roll_sweep.proofs.Tried.{tried-ext}
 use Rattle.roll_sweep.proofs.Rows.{row-part}
 use Rattle.journal.specs.Plan.{sweepOf}
-use Rattle.journal.proofs.Planned.{samples-n}
 use Rattle.windows.specs.Windows.{Columns, violationWindows, visibilityWindows}
 use Rattle.windows.specs.Refusal.{badMark, badSeverity}
 use Rattle.windows.specs.Calls.{violationReply, visibilityReply}
@@ -51,18 +50,15 @@ module _ (p : Plan) (n : ℕ) where
 
   -- every sampled roll violates the cell
   every-roll : (i j : ℕ) → j < timesOf p → (marked (sweepOf p n) (i * timesOf p + j) ≡ true) ↔ ((k : ℕ) → k < n → violatesAt p i j (evenRoll n k) ≡ true)
+  unfolding sweepOf
   every-roll i j h =
-      let m = marked-iff (sweepOf p n) (i * timesOf p + j) in (
-        (λ e k l. sym (sample-roll p n i j k h l) ∙ m .0 e k (subst (λ (x : ℕ). k < x) (sym (samples-n p n)) l)),
-        (λ f. m .1 (λ k l. let g : k < n = subst (λ (x : ℕ). k < x) (samples-n p n) l in sample-roll p n i j k h g ∙ f k g)),
-      )
+      let m = marked-iff (sweepOf p n) (i * timesOf p + j) in
+      ((λ e k l. sym (sample-roll p n i j k h) ∙ m .0 e k l), (λ f. m .1 (λ k l. sample-roll p n i j k h ∙ f k l)))
 
   -- the samples tried of a cell, and of all cells, row by row
   probes-at : (i j : ℕ) → j < timesOf p → cellProbes (sweepOf p n) (i * timesOf p + j) ≡ tried n (λ k. violatesAt p i j (evenRoll n k))
-  unfolding cellProbes
-  probes-at i j h =
-      ap (λ (m : ℕ). tried m (sweepOf p n .violates (i * timesOf p + j))) (samples-n p n)
-      ∙ tried-ext n (sweepOf p n .violates (i * timesOf p + j)) (λ k. violatesAt p i j (evenRoll n k)) (λ k l. sample-roll p n i j k h l)
+  unfolding cellProbes sweepOf
+  probes-at i j h = tried-ext n (sweepOf p n .violates (i * timesOf p + j)) (λ k. violatesAt p i j (evenRoll n k)) (λ k l. sample-roll p n i j k h)
 
   probes-rows : sweepProbes (sweepOf p n) ≡ sum (rowsOf p) (λ i. sum (timesOf p) (λ j. cellProbes (sweepOf p n) (i * timesOf p + j)))
   unfolding sweepProbes sweepOf

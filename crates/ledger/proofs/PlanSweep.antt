@@ -1,11 +1,7 @@
 -- The sweep of an accepted plan: it is one that the laws of machine and ledger ask for, and what its words say of the plan. Assumes nothing.
-use mathlib.Core.Path.{_≡_, ap, ap₂, _∙_}
+use mathlib.Core.Path.{_≡_, ap₂}
 use mathlib.Core.Bool.{false}
 use Prim.Native.Nat.{ℕ, _+_, _*_, _≤_, _<_}
-use lib.ListN.{getD}
-use lib.Ieee.{nan}
-use Rattle.buffers.specs.Ranges.{tab}
-use Rattle.buffers.proofs.Ranges.{getD-tab}
 use Rattle.buffers.proofs.Rows.{cell-row, cell-time}
 use Rattle.solar_roll.specs.Plan.{mostTimes, Plan, timesOf, violatesAt, samplingOf, planRefusal}
 use Rattle.roll_sweep.specs.Rolls.{evenRoll}
@@ -23,8 +19,6 @@ module _ (p : Plan) (n : ℕ) where
   few-times e = passed p n 0 0 e .facts .few-times
 
   -- sample k of the cell of row i at time j is the roll k times (360 / n)
-  pub sample-roll : (i j k : ℕ) → j < timesOf p → k < n → sweepOf p n .violates (i * timesOf p + j) k ≡ violatesAt p i j (evenRoll n k)
+  pub sample-roll : (i j k : ℕ) → j < timesOf p → sweepOf p n .violates (i * timesOf p + j) k ≡ violatesAt p i j (evenRoll n k)
   unfolding sweepOf
-  sample-roll i j k h l =
-      ap₂ (λ (r t : ℕ). violatesAt p r t (getD (tab n (evenRoll n)) k nan)) (cell-row (timesOf p) i j h) (cell-time (timesOf p) i j h)
-      ∙ ap (violatesAt p i j) (getD-tab n (evenRoll n) nan k l)
+  sample-roll i j k h = ap₂ (λ (r t : ℕ). violatesAt p r t (evenRoll n k)) (cell-row (timesOf p) i j h) (cell-time (timesOf p) i j h)

@@ -1,4 +1,4 @@
--- Section 3: the sweep of a plan over a list of rolls, and what the sweep of one of its chunks answers. Definitions only. Assumes nothing.
+-- Section 3: what the sweep of one chunk gives, and the call that does it, which is a step of the journal's calls. Definitions only. Assumes nothing.
 use mathlib.Core.Bool.{Bool}
 use mathlib.Core.List.{List, [], _∷_}
 use Prim.Native.Nat.{ℕ, _+_, _*_, _/_, _%_}
@@ -10,7 +10,7 @@ use Rattle.buffers.specs.Refusal.{first, carried, Reply, refused, accepted, rep
 use Rattle.solar_roll.specs.Vectors.{Vector}
 use Rattle.solar_roll.specs.Roll.{bodyAxes, panelOf}
 use Rattle.solar_roll.specs.Cell.{rollIn, violates, inForce}
-use Rattle.solar_roll.specs.Plan.{Plan, count, rowsOf, timesOf, rowDirection, rowConfig, violatesAt, tooMany, samplingOf}
+use Rattle.solar_roll.specs.Plan.{count, rowDirection, rowConfig, tooMany, samplingOf}
 use Rattle.solar_roll.specs.declared.cell.CellRoll.{CellRoll}
 use Rattle.solar_roll.specs.declared.cell.ConfiguredRoll.{ConfiguredRoll}
 use Rattle.solar_roll.specs.declared.cell.EvaluationRoll.the-variants.{Sweep as SweepRoll}
@@ -20,20 +20,7 @@ use Rattle.roll_sweep.specs.declared.chunk.Swept.{Swept}
 use Rattle.roll_sweep.specs.declared.chunk.ChunkAnswer.{ChunkAnswer}
 use Rattle.roll_sweep.specs.declared.chunk.ChunkAnswer.the-variants.{Accepted, Refused}
 
--- the sweep of a plan over the rolls, with the plan's refusal and its header. Cell number = row · times + time; a sample is taken as a Sweep roll, so a
--- configured roll stands for every sample
-abbrev pub sweepOver : Plan → List Float → (Bool → ℕ) → List ℕ → Sweep
-sweepOver p rolls refusal header =
-    record {
-      refusal = refusal;
-      rows = rowsOf p;
-      times = timesOf p;
-      samples = length rolls;
-      violates = λ i k. violatesAt p (i / timesOf p) (i % timesOf p) (getD rolls k nan);
-      header = header;
-    }
-
--- ---- the answer of a chunk
+-- ---- what it gives
 
 -- of w cells with n samples each, where v says which sample violates which cell: bit k of the mask is cell k
 unfoldable pub sweptBy : ℕ → ℕ → (ℕ → ℕ → Bool) → Swept
@@ -44,7 +31,7 @@ sweptBy w n v = record { mask = word w (λ k. allBelow n (v k)); probes = sum w 
 abbrev pub sweptOf : Sweep → ℕ → Swept
 sweptOf s c = record { mask = chunkMask s c; probes = chunkProbes s c }
 
--- ---- the call on one chunk, a step of the journal's: lent the Sun's units for the positions
+-- ---- the call, which is lent the Sun's units for the positions
 
 -- cell i is violated at a roll. The Sun's unit there is entry i % L of a table of L units: of all times, or of a chunk's 64 cells
 unfoldable pub violatesBy : List Float → ℕ → List Vector → SolarRollConfig → ℕ → Float → Bool
