@@ -82,21 +82,21 @@ cellValue p k = valueAt p (k / timesOf p) (k % timesOf p)
 unfoldable pub cellsShort : Plan → ℕ → Bool
 cellsShort p room = ltb room (cells p)
 
--- *Masks, named values*: plan, 7; 0 for none. `sampling` is the number said in the place of 3, 0 in the calls that take no n.
+-- *Masks, named values*: plan, 7; 0 for none. `said` is the number said in the place of 3, 0 in the calls that take no n.
 unfoldable pub cellsRefusal : Plan → ℕ → ℕ → ℕ
-cellsRefusal p sampling room =
-    first (carried (planRefusal p sampling false)
+cellsRefusal p said room =
+    first (carried (planRefusal p said false)
     ∷ (cellsShort p room, 7)
     ∷ [])
 
 -- what the call answers: the number that it refuses by, or accepted with 0
 unfoldable pub cellsReply : Plan → ℕ → ℕ → Reply ℕ
-cellsReply p sampling room = reply (cellsRefusal p sampling room) 0
+cellsReply p said room = reply (cellsRefusal p said room) 0
 
 -- what a mask call leaves in the lent mask, by the rule that it makes of the configured roll
 unfoldable pub maskAfter : Plan → ℕ → (ConfiguredRoll → MarkRule) → List ℕ → List ℕ
-maskAfter p sampling rule mask =
-    unlessRefused (cellsRefusal p sampling (length mask)) (filled (cells p) (cellMark p (rule (planConfigured p))) mask) mask
+maskAfter p said rule mask =
+    unlessRefused (cellsRefusal p said (length mask)) (filled (cells p) (cellMark p (rule (planConfigured p))) mask) mask
 
 -- what the call for named values leaves in the lent list
 unfoldable pub valuesAfter : Plan → List Float → List Float

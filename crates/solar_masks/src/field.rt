@@ -13,7 +13,7 @@ use solar_roll::panel_of;
 use solar_roll::plan_refusal;
 use solar_roll::roll_in;
 use solar_roll::row_config;
-use solar_roll::sampling_or_none;
+use solar_roll::samples_or_none_refusal;
 use solar_roll::sun_unit;
 use solar_roll::triple;
 ghost use mathlib.Core.Path.{_≡_};
@@ -21,7 +21,7 @@ ghost use Prim.Native.Nat.{_≤_};
 ghost use lib.ListN.{length};
 ghost use Rattle.buffers.specs.Lent.{filled};
 ghost use Rattle.buffers.specs.Refusal.{replyOf};
-ghost use Rattle.solar_roll.specs.Plan.{planOf, rowsOf, samplingOrNone};
+ghost use Rattle.solar_roll.specs.Plan.{planOf, rowsOf, samplesOrNoneRefusal};
 ghost use Rattle.solar_masks.specs.Mask.{atRoll, atEveryRoll, markAt};
 ghost use Rattle.solar_masks.specs.Field.{fieldRefusal, fieldReply, fieldAfter};
 ghost use Rattle.solar_roll.specs.declared.cell.EvaluationRoll.the-variants.{Sweep};
@@ -59,13 +59,13 @@ fn field_refusal(
     suns: &[f64],
     observers: &[f64],
     config: SolarRollConfig,
-    sampling: u64,
+    said: u64,
     time: u64,
     room: usize,
 ) -> u64
-    ensures { λ r. ⌜ r ≡ fieldRefusal (planOf (now (targets .entry)) (now (suns .entry)) (now (observers .entry)) config) sampling time room ⌝ }
+    ensures { λ r. ⌜ r ≡ fieldRefusal (planOf (now (targets .entry)) (now (suns .entry)) (now (observers .entry)) config) said time room ⌝ }
 {
-    let refusal = plan_refusal(targets, suns, observers, config, sampling, false);
+    let refusal = plan_refusal(targets, suns, observers, config, said, false);
     if refusal != 0 {
         return refusal;
     }
@@ -87,11 +87,11 @@ pub fn field_of_regard_violated_batch(
     n: u64,
     mask: &mut [u8],
 ) -> Answer
-    ensures { λ r. ⌜ replyOf r ≡ fieldReply (planOf (now (targets .entry)) (now (suns .entry)) (now (observers .entry)) config) (samplingOrNone n) time (length (now (mask .entry))) ⌝ }
-    ensures { λ r. ⌜ now (mask .exit) ≡ fieldAfter (planOf (now (targets .entry)) (now (suns .entry)) (now (observers .entry)) config) (samplingOrNone n) time (atEveryRoll n) (now (mask .entry)) ⌝ }
+    ensures { λ r. ⌜ replyOf r ≡ fieldReply (planOf (now (targets .entry)) (now (suns .entry)) (now (observers .entry)) config) (samplesOrNoneRefusal n) time (length (now (mask .entry))) ⌝ }
+    ensures { λ r. ⌜ now (mask .exit) ≡ fieldAfter (planOf (now (targets .entry)) (now (suns .entry)) (now (observers .entry)) config) (samplesOrNoneRefusal n) time (atEveryRoll n) (now (mask .entry)) ⌝ }
 {
-    let sampling = sampling_or_none(n);
-    let refusal = field_refusal(targets, suns, observers, config, sampling, time, mask.len());
+    let said = samples_or_none_refusal(n);
+    let refusal = field_refusal(targets, suns, observers, config, said, time, mask.len());
     if refusal != 0 {
         return Answer::Refused(refusal);
     }

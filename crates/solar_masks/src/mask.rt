@@ -15,7 +15,7 @@ use solar_roll::panel_of;
 use solar_roll::plan_refusal;
 use solar_roll::rolls_deg_in;
 use solar_roll::row_config;
-use solar_roll::sampling_or_none;
+use solar_roll::samples_or_none_refusal;
 use solar_roll::sun_units;
 use solar_roll::violated;
 ghost use mathlib.Core.Path.{_≡_};
@@ -29,7 +29,7 @@ ghost use Rattle.buffers.specs.Refusal.{replyOf};
 ghost use Rattle.solar_roll.specs.Roll.{bodyAxes, sampleStep};
 ghost use Rattle.solar_roll.specs.Cell.{rollIn};
 ghost use Rattle.solar_roll.specs.Plan.{count as countOf};
-ghost use Rattle.solar_roll.specs.Plan.{planOf, rowDirection, rowConfig, cells, samplingOrNone};
+ghost use Rattle.solar_roll.specs.Plan.{planOf, rowDirection, rowConfig, cells, samplesOrNoneRefusal};
 ghost use Rattle.solar_masks.specs.Mask.{stepDistance, missesSteps, marked, atRoll, atConfigured, atEveryRoll, cellMark, cellsRefusal, cellsReply, maskAfter};
 
 // What marks a cell: a roll too far from its optimal roll, every multiple of a step too far from it,
@@ -281,12 +281,12 @@ pub(crate) fn cells_refusal(
     suns: &[f64],
     observers: &[f64],
     config: SolarRollConfig,
-    sampling: u64,
+    said: u64,
     room: usize,
 ) -> u64
-    ensures { λ r. ⌜ r ≡ cellsRefusal (planOf (now (targets .entry)) (now (suns .entry)) (now (observers .entry)) config) sampling room ⌝ }
+    ensures { λ r. ⌜ r ≡ cellsRefusal (planOf (now (targets .entry)) (now (suns .entry)) (now (observers .entry)) config) said room ⌝ }
 {
-    let refusal = plan_refusal(targets, suns, observers, config, sampling, false);
+    let refusal = plan_refusal(targets, suns, observers, config, said, false);
     if refusal != 0 {
         return refusal;
     }
@@ -347,11 +347,11 @@ pub fn in_constraint_batch_constrained_at_every_roll(
     n: u64,
     mask: &mut [u8],
 ) -> Answer
-    ensures { λ r. ⌜ replyOf r ≡ cellsReply (planOf (now (targets .entry)) (now (suns .entry)) (now (observers .entry)) config) (samplingOrNone n) (length (now (mask .entry))) ⌝ }
-    ensures { λ r. ⌜ now (mask .exit) ≡ maskAfter (planOf (now (targets .entry)) (now (suns .entry)) (now (observers .entry)) config) (samplingOrNone n) (atEveryRoll n) (now (mask .entry)) ⌝ }
+    ensures { λ r. ⌜ replyOf r ≡ cellsReply (planOf (now (targets .entry)) (now (suns .entry)) (now (observers .entry)) config) (samplesOrNoneRefusal n) (length (now (mask .entry))) ⌝ }
+    ensures { λ r. ⌜ now (mask .exit) ≡ maskAfter (planOf (now (targets .entry)) (now (suns .entry)) (now (observers .entry)) config) (samplesOrNoneRefusal n) (atEveryRoll n) (now (mask .entry)) ⌝ }
 {
-    let sampling = sampling_or_none(n);
-    let refusal = cells_refusal(targets, suns, observers, config, sampling, mask.len());
+    let said = samples_or_none_refusal(n);
+    let refusal = cells_refusal(targets, suns, observers, config, said, mask.len());
     if refusal != 0 {
         return Answer::Refused(refusal);
     }

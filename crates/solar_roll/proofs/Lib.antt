@@ -1,6 +1,6 @@
--- Laws of specs/: what an accepted plan is (Accepted), a cell from its shared parts (Cells), the values of the constants (Constants), and the
+-- Laws of specs/: what an accepted plan is (PlanFacts), a cell from its shared parts (Cells), the values of the constants (Constants), and the
 -- theorems of section 2: Difference, Finite, Violations.
-pub mod Accepted
+pub mod PlanFacts
 pub mod Cells
 pub mod Constants
 pub mod Difference

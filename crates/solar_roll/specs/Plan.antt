@@ -113,19 +113,19 @@ unfoldable pub tooMany : ℕ → ℕ → Bool
 tooMany rows times = ltb mostRows rows || (ltb mostTimes times || ltb mostCells (rows * times))
 
 -- the number in the place of 3, 0 for none: n outside 1 to 3,600
-unfoldable pub samplingOf : ℕ → ℕ
-samplingOf n = cond (leb 1 n && leb n mostSamples) 0 3
+unfoldable pub samplesRefusal : ℕ → ℕ
+samplesRefusal n = cond (leb 1 n && leb n mostSamples) 0 3
 
 -- the same in section 6's first two calls, where n = 0 is allowed
-unfoldable pub samplingOrNone : ℕ → ℕ
-samplingOrNone n = cond (leb n mostSamples) 0 3
+unfoldable pub samplesOrNoneRefusal : ℕ → ℕ
+samplesOrNoneRefusal n = cond (leb n mostSamples) 0 3
 
--- *Plan*, 0 for none. `sampling` is the number said in the place of 3, 0 for none; `beyond` says that a used length lies beyond its buffer.
+-- *Plan*, 0 for none. `said` is the number said in the place of 3, 0 for none; `beyond` says that a used length lies beyond its buffer.
 unfoldable pub planRefusal : Plan → ℕ → Bool → ℕ
-planRefusal p sampling beyond =
+planRefusal p said beyond =
     first ((unlikeLengths (length (p .targets)) (length (p .suns)) (length (p .observers)) || beyond, 1)
     ∷ (tooMany (rowsOf p) (timesOf p), 2)
-    ∷ carried sampling
+    ∷ carried said
     ∷ (badPosition (p .suns) || badPosition (p .observers), 4)
     ∷ (badDirection (p .targets), 5)
     ∷ (badPosition (planPanel p), 6)

@@ -44,9 +44,9 @@ few rows times h =
     let r : (b || c) ≡ false = or-right a (b || c) h in
     record { few-rows = ltb-false _ _ (or-left a (b || c) h); few-times = ltb-false _ _ (or-left b c r); few-cells = ltb-false _ _ (or-right b c r) }
 
-pub plan-facts : (p : Plan) (sampling : ℕ) (beyond : Bool) → planRefusal p sampling beyond ≡ 0 → PlanFacts p
+pub plan-facts : (p : Plan) (said : ℕ) (beyond : Bool) → planRefusal p said beyond ≡ 0 → PlanFacts p
 unfolding planRefusal
-plan-facts p sampling beyond h =
+plan-facts p said beyond h =
     let unlike : Bool = unlikeLengths (length (p .targets)) (length (p .suns)) (length (p .observers)) in
     let c1 = first-clear _ _ _ (lit< tt) h in
     let c2 = first-clear _ _ _ (lit< tt) (c1 .1) in
@@ -70,9 +70,9 @@ plan-facts p sampling beyond h =
     }
 
 -- nothing was said in the place of 3
-pub no-sampling : (p : Plan) (sampling : ℕ) (beyond : Bool) → planRefusal p sampling beyond ≡ 0 → sampling ≡ 0
+pub nothing-said : (p : Plan) (said : ℕ) (beyond : Bool) → planRefusal p said beyond ≡ 0 → said ≡ 0
 unfolding planRefusal
-no-sampling p sampling beyond h =
+nothing-said p said beyond h =
     let c1 = first-clear _ _ _ (lit< tt) h in
     let c2 = first-clear _ _ _ (lit< tt) (c1 .1) in
     carried-clear _ _ (c2 .1) .0
