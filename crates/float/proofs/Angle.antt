@@ -114,7 +114,7 @@ within-quadrant m n e d = go (ltb (n * up d * down e) (m * up e * down d)) refl
 
 -- the arctangent of finite numbers is finite
 pub within-arctangent : (y z : Float) → finite y ≡ true → finite z ≡ true → Within 13 (arctangent y z)
-unfolding finite arctangent turnedAngle absOf signBitOf
+unfolding finite arctangent quadrantAngle ratio seriesAngle absOf signBitOf
 within-arctangent nan z h g = absurd (true≢false (sym h))
 within-arctangent (inf s) z h g = absurd (true≢false (sym h))
 within-arctangent (fin s m e) nan h g = absurd (true≢false (sym g))

@@ -6,7 +6,7 @@ use native.Mathlib.Omega.{arith}
 use lib.Dec.{T, lit<}
 use lib.Ieee.{Float, binary64, toBits, ofBits, units, fits}
 use lib.Ieee.Bits.{ofBits-toBits}
-use Rattle.float.specs.Root.{magnitude}
+use Rattle.float.specs.RootSteps.{magnitude}
 use Rattle.float.specs.declared.root.Scaled.{Scaled}
 use Rattle.float.proofs.Patterns.{packed-is}
 use Rattle.float.proofs.Scaling.{Scales, scaled-facts}
