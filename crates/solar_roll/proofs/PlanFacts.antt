@@ -10,7 +10,7 @@ use Rattle.buffers.specs.Refusal.{first, carried}
 use Rattle.buffers.proofs.Refusal.{first-clear, carried-clear}
 use Rattle.buffers.proofs.Tests.{or-left, or-right}
 use Rattle.solar_roll.specs.Cell.{badPosition, badDirection}
-use Rattle.solar_roll.specs.Plan.{Plan, rowsOf, timesOf, cells, planPanel, unlikeLengths, tooMany, planRefusal, PlanFacts}
+use Rattle.solar_roll.specs.Plan.{Plan, rowsOf, timesOf, planPanel, unlikeLengths, mostRows, mostTimes, mostCells, tooMany, planRefusal, PlanFacts}
 
 record Lengths (targets suns observers : ℕ) : Type 0 where
   pub triples : targets % 3 ≡ 0
@@ -31,16 +31,16 @@ lengths targets suns observers h =
     }
 
 record Few (rows times : ℕ) : Type 0 where
-  pub few-rows : rows ≤ 65536
-  pub few-times : times ≤ 65536
-  pub few-cells : rows * times ≤ 1048576
+  pub few-rows : rows ≤ mostRows
+  pub few-times : times ≤ mostTimes
+  pub few-cells : rows * times ≤ mostCells
 
 few : (rows times : ℕ) → tooMany rows times ≡ false → Few rows times
 unfolding tooMany
 few rows times h =
-    let a : Bool = ltb 65536 rows in
-    let b : Bool = ltb 65536 times in
-    let c : Bool = ltb 1048576 (rows * times) in
+    let a : Bool = ltb mostRows rows in
+    let b : Bool = ltb mostTimes times in
+    let c : Bool = ltb mostCells (rows * times) in
     let r : (b || c) ≡ false = or-right a (b || c) h in
     record { few-rows = ltb-false _ _ (or-left a (b || c) h); few-times = ltb-false _ _ (or-left b c r); few-cells = ltb-false _ _ (or-right b c r) }
 

@@ -6,9 +6,9 @@ use mathlib.Core.List.{List, [], _∷_}
 use Prim.Native.Nat.{ℕ}
 use lib.IntN.{pos}
 use lib.ListN.{getD}
-use lib.Ieee.{Float, nan, binary64, add, sub, mul, div, lt, le, ofInt, ofBits}
+use lib.Ieee.{Float, nan, binary64, lt, le, ofInt, ofBits}
 use Rattle.float.specs.Root.{sqrtOf}
-use Rattle.float.specs.Arithmetic.{zero·0, one, halfTurn, fullTurn, absOf, remEuclid, toDegrees}
+use Rattle.float.specs.Arithmetic.{_⊕_, _⊖_, _⊗_, _⊘_, zero·0, one, halfTurn, fullTurn, absOf, remEuclid, toDegrees}
 use Rattle.float.specs.Arctangent.{arctangent}
 use Rattle.solar_roll.specs.Vectors.{Vector, x, y, z, vector, NEAR_ZERO, dot3, norm3, cross3, over3, normalize3, unwrapOr}
 use Rattle.solar_roll.specs.declared.roll.Panel.{Panel}
@@ -32,18 +32,18 @@ zHat = vector zero·0 zero·0 one
 -- the Sun's unit: (Sun - observer) / its norm, or [1, 0, 0] if the norm < 1e-12
 unfoldable pub sunUnit : Vector → Vector → Vector
 sunUnit sun observer =
-    let v = vector (sub binary64 (x sun) (x observer)) (sub binary64 (y sun) (y observer)) (sub binary64 (z sun) (z observer)) in
+    let v = vector (x sun ⊖ x observer) (y sun ⊖ y observer) (z sun ⊖ z observer) in
     cond (lt (norm3 v) NEAR_ZERO) xHat (over3 v (norm3 v))
 
 -- |sun·target| > 1 - 1e-12
 unfoldable pub sunAlongBoresight : Vector → Vector → Bool
-sunAlongBoresight target sun = lt (sub binary64 one NEAR_ZERO) (absOf (dot3 sun target))
+sunAlongBoresight target sun = lt (one ⊖ NEAR_ZERO) (absOf (dot3 sun target))
 
 -- ---- the panel
 
 -- the panel's y-z norm <= 1e-12
 unfoldable pub panelIsFree : Vector → Bool
-panelIsFree normal = le (sqrtOf (add binary64 (mul binary64 (y normal) (y normal)) (mul binary64 (z normal) (z normal)))) NEAR_ZERO
+panelIsFree normal = le (sqrtOf (y normal ⊗ y normal ⊕ z normal ⊗ z normal)) NEAR_ZERO
 
 -- the angle of the panel's normal in the body's y-z plane
 unfoldable pub panelAngle : Vector → Float
@@ -61,9 +61,7 @@ rollIsUnconstrained target sun normal = sunAlongBoresight target sun || panelIsF
 
 -- v less its part along t
 unfoldable pub perpendicular : Vector → Vector → Vector
-perpendicular t v =
-    let d = dot3 t v in
-    vector (sub binary64 (x v) (mul binary64 d (x t))) (sub binary64 (y v) (mul binary64 d (y t))) (sub binary64 (z v) (mul binary64 d (z t)))
+perpendicular t v = let d = dot3 t v in vector (x v ⊖ d ⊗ x t) (y v ⊖ d ⊗ y t) (z v ⊖ d ⊗ z t)
 
 -- the reference where celestial north, [0, 0, 1], lies along the boresight t: [0, 0, 1] if |t's z| < 0.9, else [0, 1, 0]
 unfoldable pub poleFallback : Vector → Vector
@@ -92,7 +90,7 @@ bodyAxes t = t ∷ yAxis t ∷ cross3 t (yAxis t) ∷ []
 
 -- of a body's axes, the Sun's unit and the panel's angle: the Sun's angle in the body's y-z plane less the panel's
 unfoldable pub rollDegIn : Axes → Vector → Float → Float
-rollDegIn axes sun angle = toDegrees (sub binary64 (arctangent (dot3 sun (axis 2 axes)) (dot3 sun (axis 1 axes))) angle)
+rollDegIn axes sun angle = toDegrees (arctangent (dot3 sun (axis 2 axes)) (dot3 sun (axis 1 axes)) ⊖ angle)
 
 -- of a target, the Sun's unit and the panel's normal
 unfoldable pub solarOptimalRollDeg : Vector → Vector → Vector → Float
@@ -102,15 +100,15 @@ solarOptimalRollDeg target sun normal = rollDegIn (bodyAxes target) sun (panelAn
 
 -- that of a turn by x: 180 - |x rem 360 - 180|
 unfoldable pub arc : Float → Float
-arc x = let d = remEuclid x fullTurn in sub binary64 halfTurn (absOf (sub binary64 d halfTurn))
+arc x = let d = remEuclid x fullTurn in halfTurn ⊖ absOf (d ⊖ halfTurn)
 
 -- the difference of the rolls a and b, in degrees: in 0 to 180, or NaN
 unfoldable pub circularDiffDeg : Float → Float → Float
 unfolding arc
-circularDiffDeg a b = arc (sub binary64 a b)
+circularDiffDeg a b = arc (a ⊖ b)
 
 -- ---- the even samples of a turn
 
 -- the step of n samples: 360 / n
 unfoldable pub sampleStep : ℕ → Float
-sampleStep n = div binary64 fullTurn (ofInt binary64 (pos n))
+sampleStep n = fullTurn ⊘ ofInt binary64 (pos n)

@@ -25,7 +25,6 @@ pub use roll::Panel;
 pub use roll::body_axes;
 pub use roll::circular_diff_deg;
 pub use roll::panel_of;
-pub use roll::roll_deg_in;
 pub use roll::roll_is_unconstrained;
 pub use roll::rolls_deg_in;
 pub use roll::solar_optimal_roll_deg;

@@ -7,6 +7,15 @@ ghost use lib.ListN.{length, getD};
 ghost use lib.Ieee.{nan};
 ghost use Rattle.solar_roll.specs.Plan.{planOf, triple, rowDirection, rowConfig, unlikeLengths, tooMany, samplesRefusal, samplesOrNoneRefusal, planRefusal};
 
+// The largest plan: rows, times and cells; and the largest n.
+pub const MOST_ROWS: usize = 65536;
+
+pub const MOST_TIMES: usize = 65536;
+
+pub const MOST_CELLS: usize = 1048576;
+
+pub const MOST_SAMPLES: u64 = 3600;
+
 // The settings of a row.
 pub struct SolarRollConfig {
     pub tolerance_deg: f64,
@@ -64,13 +73,13 @@ fn unlike_lengths(targets: usize, suns: usize, observers: usize) -> bool
 fn too_many(rows: usize, times: usize) -> bool
     ensures { λ r. ⌜ r ≡ tooMany rows times ⌝ }
 {
-    if 65536 < rows {
+    if MOST_ROWS < rows {
         return true;
     }
-    if 65536 < times {
+    if MOST_TIMES < times {
         return true;
     }
-    1048576 < rows * times
+    MOST_CELLS < rows * times
 }
 
 // 3 unless there are 1 to 3,600 samples, else 0.
@@ -80,14 +89,14 @@ pub fn samples_refusal(n: u64) -> u64
     if n < 1 {
         return 3;
     }
-    if 3600 < n { 3 } else { 0 }
+    if MOST_SAMPLES < n { 3 } else { 0 }
 }
 
 // 3 for more than 3,600 samples, else 0.
 pub fn samples_or_none_refusal(n: u64) -> u64
     ensures { λ r. ⌜ r ≡ samplesOrNoneRefusal n ⌝ }
 {
-    if 3600 < n { 3 } else { 0 }
+    if MOST_SAMPLES < n { 3 } else { 0 }
 }
 
 // The number of the plan's first refusal, 0 for none. `said` is the number said in the place of

@@ -49,7 +49,7 @@ pub fn sun_along_boresight(target: [f64; 3], sun_unit: [f64; 3]) -> bool
 }
 
 // What all cells share of a panel: whether its normal has no part in the body's y-z plane, so that
-// no roll changes its light, and else the normal's angle there.
+// no roll changes its light; and the normal's angle there, which is worked out in either case.
 pub struct Panel {
     pub free: bool,
     pub angle: f64,
@@ -122,7 +122,7 @@ pub fn body_axes(target: [f64; 3]) -> [[f64; 3]; 3]
 }
 
 // The optimal roll of a cell, from what its row and its panel share.
-pub fn roll_deg_in(axes: [[f64; 3]; 3], sun_unit: [f64; 3], panel_angle: f64) -> f64
+pub(crate) fn roll_deg_in(axes: [[f64; 3]; 3], sun_unit: [f64; 3], panel_angle: f64) -> f64
     ensures { λ r. ⌜ r ≡ rollDegIn axes «sun_unit» «panel_angle» ⌝ }
 {
     let y_axis = axes[1];
