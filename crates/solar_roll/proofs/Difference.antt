@@ -17,6 +17,7 @@ use Rattle.float.specs.Arithmetic.{zero·0, halfTurn, fullTurn, absOf, remEucli
 use Rattle.float.proofs.Bounds.{resign, round-resign, at-most}
 use Rattle.float.proofs.Overflow.{sub-not-finite}
 use Rattle.solar_roll.specs.Roll.{arc, circularDiffDeg}
+use Rattle.solar_roll.specs.Section2.{InHalfTurn}
 
 -- ---- the size of a rounded value
 
@@ -152,11 +153,6 @@ less-half true m e h (inl q) = absurd (true≢false q)
 less-half true m e h (inr z) = half-of true (m * up e * 1 + 180 * down e) (down e * 1) (mul-pos (down-pos e) (lit< tt)) (omega arith)
 
 -- ---- 180 less that
-
--- in 0 to 180
-pub record InHalfTurn (x : Float) : Type 0 where
-  pub low : le zero·0 x ≡ true
-  pub high : le x halfTurn ≡ true
 
 holds : (b : Bool) → T b → b ≡ true
 holds true t = refl

@@ -15,12 +15,12 @@ use float::sqrt;
 use float::to_degrees;
 ghost use mathlib.Core.Path.{_≡_};
 ghost use mathlib.Core.List.{[]};
-ghost use Prim.Native.Nat.{_≤_, min};
+ghost use Prim.Native.Nat.{ℕ, _≤_, min};
 ghost use mathlib.Core.Bool.{true};
-ghost use lib.Ieee.{binary64, nan, sub, neg, lt};
+ghost use lib.Ieee.{nan, neg, lt};
 ghost use lib.ListN.{length, getD};
 ghost use Rattle.buffers.specs.Lent.{filled};
-ghost use Rattle.float.specs.Arithmetic.{fullTurn, toDegrees};
+ghost use Rattle.float.specs.Arithmetic.{_⊖_, fullTurn, toDegrees};
 ghost use Rattle.solar_roll.specs.Vectors.{dot3};
 ghost use Rattle.solar_roll.specs.Roll.{sunUnit, sunAlongBoresight, panelIsFree, panelAngle, panelOf, rollIsUnconstrained, perpendicular, poleFallback, north, bodyAxes, rollDegIn, solarOptimalRollDeg, arc, circularDiffDeg};
 
@@ -148,7 +148,7 @@ fn parts_along(units: &[[f64; 3]], axis: [f64; 3], count: usize, parts: &mut [f6
 // Makes of each of the Sun's angles the roll.
 fn to_rolls(panel_angle: f64, count: usize, rolls: &mut [f64])
     requires { ⌜ count ≤ length (now rolls) ⌝ }
-    ensures { λ _. ⌜ now (rolls .exit) ≡ filled count (λ k. toDegrees (sub binary64 (getD (now (rolls .entry)) k nan) «panel_angle»)) (now (rolls .entry)) ⌝ }
+    ensures { λ _. ⌜ now (rolls .exit) ≡ filled count (λ k. toDegrees (getD (now (rolls .entry)) k nan ⊖ «panel_angle»)) (now (rolls .entry)) ⌝ }
 {
     let mut k = 0;
     while k < count {
@@ -161,7 +161,8 @@ fn to_rolls(panel_angle: f64, count: usize, rolls: &mut [f64])
 // The optimal rolls of cells of one row, side by side, a cell for each of the Sun's units: as many as the shorter list
 // has, and at most 64.
 pub fn rolls_deg_in(axes: [[f64; 3]; 3], units: &[[f64; 3]], panel_angle: f64, rolls: &mut [f64])
-    ensures { λ _. ⌜ now (rolls .exit) ≡ filled (min 64 (min (length (now (rolls .entry))) (length (now (units .entry))))) (λ k. rollDegIn axes (getD (now (units .entry)) k []) «panel_angle») (now (rolls .entry)) ⌝ }
+    ensures { λ _. let count : ℕ = min 64 (min (length (now (rolls .entry))) (length (now (units .entry)))) in
+        ⌜ now (rolls .exit) ≡ filled count (λ k. rollDegIn axes (getD (now (units .entry)) k []) «panel_angle») (now (rolls .entry)) ⌝ }
 {
     let count = smaller(64, smaller(rolls.len(), units.len()));
     let y_axis = axes[1];
