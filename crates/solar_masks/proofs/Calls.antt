@@ -7,19 +7,19 @@ use lib.Dec.{leb, ltb, lit<}
 use borrow.Author.Tests.{ltb-false, leb-false, leb-true, lt-leb}
 use Rattle.buffers.proofs.Refusal.{first-clear, carried-clear}
 use Rattle.buffers.proofs.Tests.{or-left, or-right}
-use Rattle.solar_roll.specs.Plan.{Plan, rowsOf, timesOf, cells, samplesOrNoneRefusal, planRefusal, PlanFacts}
+use Rattle.solar_roll.specs.Plan.{Plan, rowsOf, timesOf, cellsOf, mostSamples, samplesOrNoneRefusal, planRefusal, PlanFacts}
 use Rattle.solar_masks.specs.Mask.{cellsShort, cellsRefusal}
 use Rattle.solar_masks.specs.Row.{rowShort, rowRefusal}
 use Rattle.solar_masks.specs.Field.{fieldShort, fieldRefusal}
 use Rattle.solar_roll.proofs.PlanFacts.{plan-facts, nothing-said}
 
 -- 3 was not said
-pub few-samples : (n : ℕ) → samplesOrNoneRefusal n ≡ 0 → n ≤ 3600
+pub few-samples : (n : ℕ) → samplesOrNoneRefusal n ≡ 0 → n ≤ mostSamples
 unfolding samplesOrNoneRefusal
-few-samples n h = go (leb n 3600) refl h
+few-samples n h = go (leb n mostSamples) refl h
   where
-    go : (b : Bool) → leb n 3600 ≡ b → _≡_ {A = ℕ} (cond b 0 3) 0 → n ≤ 3600
-    go true e z = leb-true n 3600 e
+    go : (b : Bool) → leb n mostSamples ≡ b → _≡_ {A = ℕ} (cond b 0 3) 0 → n ≤ mostSamples
+    go true e z = leb-true n mostSamples e
     go false e z = absurd (omega arith)
 
 module _ (p : Plan) (said room : ℕ) (h : cellsRefusal p said room ≡ 0) where
@@ -30,7 +30,7 @@ module _ (p : Plan) (said room : ℕ) (h : cellsRefusal p said room ≡ 0) where
   pub cells-facts : PlanFacts p
   cells-facts = plan-facts p said false cells-plan
 
-  pub cells-room : cells p ≤ room
+  pub cells-room : cellsOf p ≤ room
   unfolding cellsRefusal cellsShort
   cells-room = ltb-false _ _ (first-clear _ _ _ (lit< tt) (carried-clear _ _ h .1) .0)
 
