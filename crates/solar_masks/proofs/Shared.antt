@@ -30,5 +30,5 @@ module _ (p : Plan) (r j : ℕ) (axes : Axes) (unit : Vector) (panel : Panel)
   severity-shared tolerance e = ap₂ (λ (c : CellRoll) (t : Float). severity c (planConfigured p) t) same e
 
   pub value-shared : rollDegIn axes unit (panel .angle) ≡ optimalAt p r j
-  unfolding optimalAt solarOptimalRollDeg panelOf rowConfig planPanel
+  unfolding optimalAt solarOptimalRollDeg rollDegIn bodyAxes panelOf rowConfig planPanel
   value-shared = simp (row, time, whole)

@@ -209,12 +209,12 @@ arc-nan (fin s m e) h = absurd (true≢false h)
 
 -- in 0 to 180, where the subtraction does not overflow
 pub difference-range : (a b : Float) → finite (sub binary64 a b) ≡ true → InHalfTurn (circularDiffDeg a b)
-unfolding circularDiffDeg
+unfolding circularDiffDeg arc
 difference-range a b h = arc-range (sub binary64 a b) h
 
 -- else NaN
 pub difference-nan : (a b : Float) → finite (sub binary64 a b) ≡ false → circularDiffDeg a b ≡ nan
-unfolding circularDiffDeg
+unfolding circularDiffDeg arc
 difference-nan a b h = arc-nan (sub binary64 a b) h
 
 -- "a difference of a non-finite number is NaN"

@@ -18,7 +18,7 @@ use Rattle.float.specs.Arithmetic.{zero·0, one, absOf, finite}
 use Rattle.float.proofs.Bounds.{resign, round-resign, Within, within-add, within-sub, within-mul, within-div, within-finite, weaken, Beyond, Size, size-of, size-add, size-weaken, root-keeps, at-most, one-value}
 use Rattle.float.proofs.Angle.{within-arctangent, within-degrees}
 use Rattle.solar_roll.specs.Vectors.{Vector, x, y, z, vector, NEAR_ZERO, dot3, norm3, cross3, over3, normalize3, unwrapOr}
-use Rattle.solar_roll.specs.Roll.{xHat, yHat, zHat, nineTenths, axis, sunUnit, panelAngle, perpendicular, poleFallback, north, yAxis, bodyAxes, rollDegIn, solarOptimalRollDeg}
+use Rattle.solar_roll.specs.Roll.{xHat, yHat, zHat, nineTenths, sunUnit, panelAngle, perpendicular, poleFallback, north, yAxis, solarOptimalRollDeg}
 use Rattle.solar_roll.specs.Cell.{LIMIT, tooLarge, badPosition, badDirection}
 use Rattle.solar_roll.specs.Plan.{Plan, triple, rowsOf, timesOf, rowDirection, directionOf, rowConfig, configOf, sunAt, planPanel, PlanFacts}
 use Rattle.solar_roll.specs.declared.vectors.Normalized.{Normalized}
@@ -175,7 +175,7 @@ within-sun s o a b = go (lt (norm3 v) NEAR_ZERO) refl
 
 -- the optimal roll is at most 2 ^ 20
 within-roll : (t s n : Vector) → Vec 0 t → Vec 374 s → Within 333 (y n) → Within 333 (z n) → Within 20 (solarOptimalRollDeg t s n)
-unfolding solarOptimalRollDeg rollDegIn bodyAxes panelAngle
+unfolding solarOptimalRollDeg panelAngle
 within-roll t s n a b ny nz =
     let ya = within-y-axis t a in
     let sy = within-dot 374 84 (lit< tt) b ya in

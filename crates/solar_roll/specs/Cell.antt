@@ -22,14 +22,6 @@ use Rattle.solar_roll.specs.declared.cell.EvaluationRoll.the-variants.{S
 unfoldable pub optimalRoll : Vector → Vector → Vector → CellRoll
 optimalRoll target sun normal = cond (rollIsUnconstrained target sun normal) Free (At (solarOptimalRollDeg target sun normal))
 
--- the same, from what a target's cells share, its axes, and what all cells share, the panel: with the roll given, and with the roll of these
-unfoldable pub freeOrAt : Axes → Vector → Panel → Float → CellRoll
-freeOrAt axes sun panel roll = cond (sunAlongBoresight (axis 0 axes) sun || panel .free) Free (At roll)
-
-unfoldable pub rollIn : Axes → Vector → Panel → CellRoll
-unfolding freeOrAt
-rollIn axes sun panel = freeOrAt axes sun panel (rollDegIn axes sun (panel .angle))
-
 -- the number and the value of each case of the answer
 unfoldable pub cellReply : CellRoll → Reply CellRoll
 cellReply Free = accepted Free
@@ -79,3 +71,14 @@ cellRefusal target sun observer normal =
     ∷ carried (directionRefusal target)
     ∷ (badPosition normal, 6)
     ∷ [])
+
+-- ---- the answer from what cells share, which the code works out
+
+-- from a target's axes, the Sun's unit, the panel and the optimal roll
+unfoldable pub freeOrAt : Axes → Vector → Panel → Float → CellRoll
+freeOrAt axes sun panel roll = cond (sunAlongBoresight (axis 0 axes) sun || panel .free) Free (At roll)
+
+-- the same with the optimal roll of these
+unfoldable pub rollIn : Axes → Vector → Panel → CellRoll
+unfolding freeOrAt
+rollIn axes sun panel = freeOrAt axes sun panel (rollDegIn axes sun (panel .angle))
