@@ -4,7 +4,7 @@ use mathlib.Core.List.{List, [], _∷_}
 use Prim.Native.Nat.{ℕ}
 use lib.Ieee.{Float, binary64, lt, le, ofBits}
 use Rattle.buffers.specs.Ranges.{any}
-use Rattle.buffers.specs.Refusal.{first, carried, Reply, refused, accepted}
+use Rattle.buffers.specs.Refusal.{first, Reply, refused, accepted}
 use Rattle.float.specs.Arithmetic.{one, absOf}
 use Rattle.solar_roll.specs.Vectors.{Vector}
 use Rattle.solar_roll.specs.Roll.{Axes, axis, sunAlongBoresight, rollIsUnconstrained, rollDegIn, solarOptimalRollDeg, circularDiffDeg}
@@ -60,15 +60,11 @@ badPosition = any (tooLarge LIMIT)
 unfoldable pub badDirection : List Float → Bool
 badDirection = any (tooLarge one)
 
--- what is refused of one target's direction, 0 for none
-unfoldable pub directionRefusal : Vector → ℕ
-directionRefusal target = first ((badDirection target, 5) ∷ [])
-
 -- *One cell*, four triples: 4 of the Sun and the observer, 5 of the target, 6 of the panel; 0 for none
 unfoldable pub cellRefusal : Vector → Vector → Vector → Vector → ℕ
 cellRefusal target sun observer normal =
     first ((badPosition sun || badPosition observer, 4)
-    ∷ carried (directionRefusal target)
+    ∷ (badDirection target, 5)
     ∷ (badPosition normal, 6)
     ∷ [])
 

@@ -1,7 +1,7 @@
 -- A plan as its calls lend it, and *Plan*, the refusals that come before every call with positions. A plan has rows and times. A row is a target;
 -- a cell, document 01's word, is a row at a time. Everything above these definitions speaks of rows: a row's direction and settings are
--- `directionOf` and `configOf`. All rows have one configured roll and one panel, so the calls read these of the whole plan (`planConfigured`,
--- `planPanel`); a row's tolerance is read by `configOf` alone. Definitions only. Assumes nothing.
+-- `directionOf` and `configOf`. All rows have one configured roll and one panel, which the calls also read of the plan's own settings, past a row's
+-- (`planConfigured`, `planPanel`); a row's tolerance comes from `configOf` alone. Definitions only. Assumes nothing.
 use mathlib.Core.Path.{_≡_}
 use mathlib.Core.Bool.{Bool, true, false, cond, not, _||_, _&&_}
 use mathlib.Core.List.{List, [], _∷_}
