@@ -7,14 +7,15 @@ ghost use lib.ListN.{length, getD};
 ghost use lib.Ieee.{nan};
 ghost use Rattle.solar_roll.specs.Plan.{planOf, triple, rowDirection, rowConfig, unlikeLengths, tooMany, samplesRefusal, samplesOrNoneRefusal, planRefusal};
 
-// The largest plan: rows, times and cells; and the largest n.
-pub const MOST_ROWS: usize = 65536;
+// The most rows, times and cells of a plan.
+pub const MOST_ROWS: usize = 65_536;
 
-pub const MOST_TIMES: usize = 65536;
+pub const MOST_TIMES: usize = 65_536;
 
-pub const MOST_CELLS: usize = 1048576;
+pub const MOST_CELLS: usize = 1_048_576;
 
-pub const MOST_SAMPLES: u64 = 3600;
+// The largest n.
+const MOST_SAMPLES: u64 = 3_600;
 
 // The settings of a row.
 pub struct SolarRollConfig {
