@@ -1,4 +1,4 @@
--- The optimal roll of an accepted plan is finite, and at most 2 ^ 20 in size (`roll-within`, `roll-finite`). The bounds are powers of two, far from
+-- The optimal roll of an accepted plan is at most 2 ^ 20 in size, and so finite (`roll-within`). The bounds are powers of two, far from
 -- tight: they only show that no step overflows. Assumes nothing.
 use mathlib.Core.Path.{_≡_, refl, sym, ap, _∙_, subst}
 use mathlib.Core.Bool.{Bool, true, false, cond, not, _||_, false≢true}
@@ -20,7 +20,7 @@ use Rattle.float.proofs.Angle.{within-arctangent, within-degrees}
 use Rattle.solar_roll.specs.Vectors.{Vector, x, y, z, vector, NEAR_ZERO, dot3, norm3, cross3, over3, normalize3, unwrapOr}
 use Rattle.solar_roll.specs.Roll.{xHat, yHat, zHat, nineTenths, sunUnit, panelAngle, perpendicular, poleFallback, north, yAxis, solarOptimalRollDeg}
 use Rattle.solar_roll.specs.Cell.{LIMIT, tooLarge, badPosition, badDirection}
-use Rattle.solar_roll.specs.Plan.{Plan, triple, rowsOf, timesOf, rowDirection, directionOf, rowConfig, configOf, sunAt, planPanel, PlanFacts}
+use Rattle.solar_roll.specs.Plan.{Plan, triple, rowsOf, timesOf, rowDirection, directionOf, rowConfig, sunAt, optimalAt, planPanel, PlanFacts}
 use Rattle.solar_roll.specs.declared.vectors.Normalized.{Normalized}
 
 -- each component at most 2 ^ j in size
@@ -229,14 +229,10 @@ module _ (p : Plan) (facts : PlanFacts p) (three : length (planPanel p) ≡ 3) (
       (triple-within LIMIT 333 position-within (p .observers) j (facts .observers-small) (omega (arith, facts .observers-length)))
 
   -- the optimal roll of an accepted plan's cell is at most 2 ^ 20 in size
-  pub roll-within : Within 20 (solarOptimalRollDeg (directionOf p r) (sunAt p j) (configOf p r .«panel_normal»))
-  unfolding rowConfig planPanel badPosition
+  pub roll-within : Within 20 (optimalAt p r j)
+  unfolding optimalAt rowConfig planPanel badPosition
   roll-within =
       let n = planPanel p in
       within-roll (directionOf p r) (sunAt p j) n direction-vec sun-vec
       (position-within _ (any-getD (tooLarge LIMIT) n nan 1 (facts .panel-small) (omega (arith, three))))
       (position-within _ (any-getD (tooLarge LIMIT) n nan 2 (facts .panel-small) (omega (arith, three))))
-
-  -- so it is finite
-  pub roll-finite : finite (solarOptimalRollDeg (directionOf p r) (sunAt p j) (configOf p r .«panel_normal»)) ≡ true
-  roll-finite = within-finite 20 roll-within

@@ -78,15 +78,14 @@ module _ (p : Plan) (said : ℕ) (beyond : Bool) (accepted : planRefusal p said 
   abbrev along : Bool
   along = sunAlongBoresight (directionOf p i) (sunAt p j)
 
-  abbrev edge : Bool
-  edge = panelIsFree (configOf p i .«panel_normal»)
+  abbrev facing : Bool
+  facing = panelIsFree (configOf p i .«panel_normal»)
 
-  cell : cellOf p i j ≡ answer (along || edge) optimal
+  cell : cellOf p i j ≡ answer (along || facing) optimal
   unfolding cellOf optimalRoll rollIsUnconstrained optimalAt
   cell = refl
 
   within : Within 20 optimal
-  unfolding optimalAt
   within = roll-within p (plan-facts p said beyond accepted) three i j in-rows in-times
 
   no-overflow : (roll : Float) → FiniteFloat roll → finite (roll ⊖ optimal) ≡ true
@@ -95,16 +94,16 @@ module _ (p : Plan) (said : ℕ) (beyond : Bool) (accepted : planRefusal p said 
   pub section2 : Section2 p i j
   unfolding finite ofBits
   section2 = record {
-    free = rw cell (let f = answer-free (along || edge) optimal in let o = or-true along edge in ((λ h. o .0 (f .0 h)), (λ h. f .1 (o .1 h))));
-    otherwise = rw cell (answer-at (along || edge) optimal);
+    free = rw cell (let f = answer-free (along || facing) optimal in let o = or-true along facing in ((λ h. o .0 (f .0 h)), (λ h. f .1 (o .1 h))));
+    otherwise = rw cell (answer-at (along || facing) optimal);
     roll-finite = within-finite 20 within;
     no-overflow = no-overflow;
     range = difference-range;
     else-nan = difference-nan;
     not-finite = difference-not-finite;
-    violated = rw cell (violated-iff (along || edge) optimal);
-    nan-roll = rw cell (λ t. clear (along || edge) optimal nan t (ap (lt t) (difference-not-finite nan optimal (inl refl)) ∙ lt-nan t));
-    nan-tolerance = rw cell (λ roll. clear (along || edge) optimal roll nan (nan-lt _));
-    below-zero = rw cell (λ roll t f below n. violated-iff (along || edge) optimal roll t .1 (n, below-zero t _ below (difference-range roll optimal (no-overflow roll f) .low)));
-    met-exactly = rw cell (λ roll. clear (along || edge) optimal roll _ (lt-self _));
+    violated = rw cell (violated-iff (along || facing) optimal);
+    nan-roll = rw cell (λ t. clear (along || facing) optimal nan t (ap (lt t) (difference-not-finite nan optimal (inl refl)) ∙ lt-nan t));
+    nan-tolerance = rw cell (λ roll. clear (along || facing) optimal roll nan (nan-lt _));
+    below-zero = rw cell (λ roll t f below n. violated-iff (along || facing) optimal roll t .1 (n, below-zero t _ below (difference-range roll optimal (no-overflow roll f) .low)));
+    met-exactly = rw cell (λ roll. clear (along || facing) optimal roll _ (lt-self _));
   }
