@@ -9,7 +9,7 @@ use lib.IntN.{ℤ, pos}
 use lib.Dec.{ltb, eqb, lit<, lit≤}
 use lib.Ieee.{Float, nan, inf, fin, binary64, up, down, round, sub, mul, div, neg, lt, eq, ofBits, ofInt}
 use Rattle.float.specs.Arithmetic.{zero·0, one, two, eight, halfTurn, PI, signBitOf, absOf, finite, toDegrees}
-use Rattle.float.specs.Arctangent.{coefficient, halved, series, seriesAngle, ratio, quadrantAngle, turnedAngle, arctangent}
+use Rattle.float.specs.Arctangent.{coefficient, halved, series, seriesAngle, ratio, quadrantAngle, arctangent}
 use Rattle.float.proofs.Bounds.{Within, within-add, within-mul, within-quotient, within-neg, within-sub, weaken, Size, Least, loose, size-of, div-sign, size-mul, size-add, size-div, size-one, least-round, least-add, root-keeps}
 
 -- ---- the steps of the arctangent

@@ -1,6 +1,6 @@
 -- Section 1's arctangent of (y, z): `arctangent` is the definition, in document 01's letters and order; what the code works out one after the other
 -- follows it. Definitions only. Assumes nothing.
-use mathlib.Core.Bool.{Bool, true, false, cond, _&&_}
+use mathlib.Core.Bool.{cond, _&&_}
 use Prim.Native.Nat.{ℕ, zero, suc, _+_, _-_, _*_, _%_}
 use lib.Dec.{eqb}
 use lib.IntN.{pos}

@@ -3,7 +3,7 @@
 -- specs/Nearest, `NearestRoot`) fixes the value, so that `isqrt` and `rootOf`, by which it is worked out, need not be believed. The steps of the code are in
 -- RootSteps. Definitions only. Assumes nothing.
 use Prim.Native.Nat.{ℕ, zero, suc, _+_, _-_, _*_, _/_, _^_, compare}
-use mathlib.Core.Bool.{Bool, true, false, cond}
+use mathlib.Core.Bool.{true, false, cond}
 use lib.Dec.{leb}
 use lib.Ieee.{Float, nan, inf, fin, Format, binary64, prec, low, up, down, size, nearest, units}
 

@@ -1,7 +1,7 @@
 -- What the three steps of the code of Root make, in the order of IEEE 754's text: special operands, the floor of the root of a scaled significand, rounding.
 -- The private functions of src/root.rt cite them; `sqrtOf` (Root) does not rest on them. Definitions only. Assumes nothing.
 use Prim.Native.Nat.{ℕ, zero, suc, _+_, _-_, _*_, _/_, _%_, _^_, Ordering, Ordering·lt, Ordering·eq, Ordering·gt}
-use mathlib.Core.Bool.{Bool, true, false, cond}
+use mathlib.Core.Bool.{Bool, cond}
 use lib.Dec.{eqb}
 use lib.Ieee.{Float, size, nearest}
 use lib.Ieee.Positive.{positive}

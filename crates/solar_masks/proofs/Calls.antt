@@ -1,10 +1,10 @@
 -- What a call knows once its refusal is 0: the plan's facts, and room enough. Assumes nothing.
-use mathlib.Core.Path.{_≡_, refl, sym, ap, _∙_}
-use mathlib.Core.Bool.{Bool, true, false, cond, _&&_, _||_}
-use Prim.Native.Nat.{ℕ, _≤_, _<_}
+use mathlib.Core.Path.{_≡_, refl}
+use mathlib.Core.Bool.{Bool, true, false, cond, _||_}
+use Prim.Native.Nat.{ℕ, _≤_}
 use native.Mathlib.Omega.{arith}
 use lib.Dec.{leb, ltb, lit<}
-use borrow.Author.Tests.{ltb-false, leb-false, leb-true, lt-leb}
+use borrow.Author.Tests.{ltb-false, leb-true}
 use Rattle.buffers.proofs.Refusal.{first-clear, carried-clear}
 use Rattle.buffers.proofs.Tests.{or-left, or-right}
 use Rattle.solar_roll.specs.Plan.{Plan, rowsOf, timesOf, cellsOf, mostSamples, samplesOrNoneRefusal, planRefusal, PlanFacts}

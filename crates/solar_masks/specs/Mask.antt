@@ -1,6 +1,6 @@
 -- Masks: a byte a cell, 0 clear or 1 marked, in order of cell number. Which rule each call marks by (sections 2 and 6), and *Masks, named values*
 -- of the refusals. Definitions only. Assumes nothing.
-use mathlib.Core.Bool.{Bool, true, false, cond}
+use mathlib.Core.Bool.{Bool, false, cond}
 use mathlib.Core.List.{List, [], _∷_}
 use Prim.Native.Nat.{ℕ, _/_, _%_}
 use lib.Dec.{eqb, ltb}

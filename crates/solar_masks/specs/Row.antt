@@ -1,6 +1,6 @@
 -- *One row*: `evaluate` for a row, its mask and its severities (section 5) at the configured roll, all zero without one. Definitions only.
 -- Assumes nothing.
-use mathlib.Core.Bool.{Bool, true, false, cond, _||_}
+use mathlib.Core.Bool.{Bool, false, cond, _||_}
 use mathlib.Core.List.{List, [], _∷_}
 use Prim.Native.Nat.{ℕ}
 use lib.Dec.{leb, ltb}

@@ -1,5 +1,5 @@
 -- Laws of one cell: the answer from what rows and panels share; an answer that is not refused; a triple past the end. Assumes nothing.
-use mathlib.Core.Path.{_≡_, refl, ap₂}
+use mathlib.Core.Path.{_≡_, refl}
 use mathlib.Core.Bool.{Bool, true, false, cond}
 use mathlib.Core.List.{List}
 use Prim.Native.Nat.{ℕ, _+_, _*_, _≤_}
@@ -10,7 +10,7 @@ use Rattle.buffers.specs.Refusal.{accepted}
 use Rattle.solar_roll.specs.Vectors.{Vector, vector}
 use Rattle.solar_roll.specs.Roll.{Axes, bodyAxes, rollDegIn, panelAngle, panelOf, rollIsUnconstrained, solarOptimalRollDeg}
 use Rattle.solar_roll.specs.Cell.{optimalRoll, rollIn, cellReply}
-use Rattle.solar_roll.specs.Plan.{Plan, triple, directionOf, configOf, rowConfig, sunAt, cellOf, planPanel, planConfigured}
+use Rattle.solar_roll.specs.Plan.{Plan, triple, directionOf, rowConfig, sunAt, cellOf, planPanel}
 use Rattle.solar_roll.specs.declared.roll.Panel.{Panel}
 use Rattle.solar_roll.specs.declared.cell.CellRoll.the-variants.{Free, At}
 

@@ -3,17 +3,17 @@
 -- values of the format. Public besides, for the remainder by 360 alone: `Turn`, `made-positive`, `remainder`. Assumes nothing.
 use mathlib.Core.Path.{_≡_, refl, sym, ap, _∙_, subst}
 use mathlib.Core.Logic.{_⊎_, inl, inr}
-use mathlib.Core.Bool.{Bool, true, false, cond, _||_, _&&_, true≢false}
+use mathlib.Core.Bool.{Bool, true, false, cond, _&&_, true≢false}
 use Prim.Native.Nat.{ℕ, _+_, _-_, _*_, _%_, _^_, _<_, _≤_}
 use native.Mathlib.Nat.{mod-lt, mul-pos}
 use native.Mathlib.Omega.{arith}
 use borrow.Author.Tests.{le-ltb, ltb-false}
 use lib.IntN.{ℤ, pos}
-use lib.Dec.{T, ltb, eqb, lit<}
+use lib.Dec.{T, ltb, lit<}
 use lib.Ieee.{Float, nan, inf, fin, binary64, up, down, round, add, sub, neg, sum, rem, lt, le, eq, ofBits}
 use lib.Ieee.Fits.{down-pos}
 use lib.Ieee.Order.{round-mono}
-use Rattle.float.specs.Arithmetic.{zero·0, halfTurn, fullTurn, absOf, remEuclid, finite}
+use Rattle.float.specs.Arithmetic.{absOf, remEuclid, finite}
 use Rattle.float.proofs.Bounds.{resign, round-resign, at-most}
 use Rattle.float.proofs.Overflow.{sub-not-finite}
 use Rattle.solar_roll.specs.Roll.{arc, circularDiffDeg}

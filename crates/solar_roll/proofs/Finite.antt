@@ -1,20 +1,20 @@
 -- The optimal roll of an accepted plan is at most 2 ^ 20 in size, and so finite (`roll-within`). The bounds are powers of two, far from
 -- tight: they only show that no step overflows. Assumes nothing.
 use mathlib.Core.Path.{_≡_, refl, sym, ap, _∙_, subst}
-use mathlib.Core.Bool.{Bool, true, false, cond, not, _||_, false≢true}
+use mathlib.Core.Bool.{Bool, true, false, cond, false≢true}
 use mathlib.Core.List.{List}
 use Prim.Native.Nat.{ℕ, suc, _+_, _*_, _^_, _<_, _≤_}
 use native.Mathlib.Nat.{le-trans, le-of-eq, mul-comm, mul-assoc, mul-one, mul-le-mul-right, le-of-mul-le-mul-right}
 use native.Mathlib.Omega.{arith}
 use borrow.Author.Tests.{ltb-false, not-false}
 use lib.IntN.{ℤ, pos}
-use lib.Dec.{T, ltb, eqb, lit<, lit≤}
-use lib.ListN.{length, getD}
-use lib.Ieee.{Float, nan, inf, fin, binary64, up, down, add, sub, mul, div, round, lt, le, eq, ofBits}
+use lib.Dec.{T, lit<, lit≤}
+use lib.ListN.{length}
+use lib.Ieee.{Float, nan, inf, fin, binary64, up, down, sub, mul, lt, le, eq, ofBits}
 use Rattle.buffers.specs.Ranges.{any}
 use Rattle.buffers.proofs.Ranges.{any-getD}
 use Rattle.buffers.proofs.Tests.{or-left}
-use Rattle.float.specs.Arithmetic.{zero·0, one, absOf, finite}
+use Rattle.float.specs.Arithmetic.{zero·0, one, absOf}
 use Rattle.float.proofs.Bounds.{resign, round-resign, Within, within-add, within-sub, within-mul, within-div, within-finite, weaken, Beyond, Size, size-of, size-add, size-weaken, root-keeps, at-most, one-value}
 use Rattle.float.proofs.Angle.{within-arctangent, within-degrees}
 use Rattle.solar_roll.specs.Vectors.{Vector, x, y, z, vector, NEAR_ZERO, dot3, norm3, cross3, over3, normalize3, unwrapOr}

@@ -1,16 +1,15 @@
 -- What is known of a plan that is not refused. Assumes nothing.
-use mathlib.Core.Path.{_≡_, refl, sym, ap, _∙_}
-use mathlib.Core.Bool.{Bool, true, false, not, _||_}
+use mathlib.Core.Path.{_≡_}
+use mathlib.Core.Bool.{Bool, false, not, _||_}
 use Prim.Native.Nat.{ℕ, _*_, _%_, _≤_}
 use native.Mathlib.Omega.{arith}
 use lib.Dec.{eqb, ltb, lit<}
 use lib.ListN.{length}
 use borrow.Author.Tests.{not-false, eqb-true, ltb-false}
-use Rattle.buffers.specs.Refusal.{first, carried}
 use Rattle.buffers.proofs.Refusal.{first-clear, carried-clear}
 use Rattle.buffers.proofs.Tests.{or-left, or-right}
-use Rattle.solar_roll.specs.Cell.{badPosition, badDirection}
-use Rattle.solar_roll.specs.Plan.{Plan, rowsOf, timesOf, planPanel, unlikeLengths, mostRows, mostTimes, mostCells, tooMany, planRefusal, PlanFacts}
+use Rattle.solar_roll.specs.Cell.{badPosition}
+use Rattle.solar_roll.specs.Plan.{Plan, unlikeLengths, mostRows, mostTimes, mostCells, tooMany, planRefusal, PlanFacts}
 
 record Lengths (targets suns observers : ℕ) : Type 0 where
   pub triples : targets % 3 ≡ 0

@@ -1,18 +1,18 @@
 -- Section 2's sentences hold of each cell of an accepted plan (`section2`). Assumes nothing.
-use mathlib.Core.Path.{_≡_, refl, sym, ap, _∙_}
+use mathlib.Core.Path.{_≡_, refl, ap, _∙_}
 use mathlib.Core.Logic.{_⊎_, inl, inr, ⊎-elim, _↔_}
 use mathlib.Core.Bool.{Bool, true, false, cond, _||_, false≢true}
 use Prim.Native.Nat.{ℕ, _<_}
 use lib.Dec.{lit≤}
 use lib.ListN.{length}
 use lib.Ieee.{Float, nan, inf, fin, lt, ofBits}
-use Rattle.float.specs.Arithmetic.{_⊖_, zero·0, finite}
+use Rattle.float.specs.Arithmetic.{_⊖_, finite}
 use Rattle.float.proofs.Bounds.{Within, weaken, within-finite}
 use Rattle.float.proofs.Order.{lt-self, below-zero}
 use Rattle.float.proofs.Overflow.{finite-sub}
 use Rattle.solar_roll.specs.Roll.{sunAlongBoresight, panelIsFree, rollIsUnconstrained, circularDiffDeg}
 use Rattle.solar_roll.specs.Cell.{optimalRoll, violates}
-use Rattle.solar_roll.specs.Plan.{Plan, rowsOf, timesOf, directionOf, configOf, sunAt, cellOf, optimalAt, planPanel, planRefusal, PlanFacts}
+use Rattle.solar_roll.specs.Plan.{Plan, rowsOf, timesOf, directionOf, configOf, sunAt, cellOf, optimalAt, planPanel, planRefusal}
 use Rattle.solar_roll.specs.Section2.{FiniteFloat, Section2}
 use Rattle.solar_roll.specs.declared.cell.CellRoll.{CellRoll}
 use Rattle.solar_roll.specs.declared.cell.CellRoll.the-variants.{Free, At, Refused}

@@ -1,5 +1,5 @@
 -- Section 2: the answer of one cell, when a roll violates it, and what the call on four triples refuses. Definitions only. Assumes nothing.
-use mathlib.Core.Bool.{Bool, true, false, cond, not, _||_}
+use mathlib.Core.Bool.{Bool, false, cond, not, _||_}
 use mathlib.Core.List.{List, [], _∷_}
 use Prim.Native.Nat.{ℕ}
 use lib.Ieee.{Float, binary64, lt, le, ofBits}

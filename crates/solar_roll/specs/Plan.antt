@@ -3,7 +3,7 @@
 -- `directionOf` and `configOf`. All rows have one configured roll and one panel, which the calls also read of the plan's own settings, past a row's
 -- (`planConfigured`, `planPanel`); a row's tolerance comes from `configOf` alone. Definitions only. Assumes nothing.
 use mathlib.Core.Path.{_≡_}
-use mathlib.Core.Bool.{Bool, true, false, cond, not, _||_, _&&_}
+use mathlib.Core.Bool.{Bool, false, cond, not, _||_, _&&_}
 use mathlib.Core.List.{List, [], _∷_}
 use Prim.Native.Nat.{ℕ, _+_, _*_, _/_, _%_, _≤_}
 use lib.Dec.{eqb, leb, ltb}

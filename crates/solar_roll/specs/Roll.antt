@@ -1,12 +1,12 @@
 -- Section 2: the Sun's unit, the Free cells, the body's axes, the optimal roll and the difference of two rolls, as solar_roll.rs has them, with
 -- every fallback; and the step of even samples (sections 3 and 6). What the code works out once for many cells, or sooner, follows them.
 -- Definitions only. Assumes nothing.
-use mathlib.Core.Bool.{Bool, true, false, cond, _||_}
+use mathlib.Core.Bool.{Bool, cond, _||_}
 use mathlib.Core.List.{List, [], _∷_}
 use Prim.Native.Nat.{ℕ}
 use lib.IntN.{pos}
 use lib.ListN.{getD}
-use lib.Ieee.{Float, nan, binary64, lt, le, ofInt, ofBits}
+use lib.Ieee.{Float, binary64, lt, le, ofInt, ofBits}
 use Rattle.float.specs.Root.{sqrtOf}
 use Rattle.float.specs.Arithmetic.{_⊕_, _⊖_, _⊗_, _⊘_, zero·0, one, halfTurn, fullTurn, absOf, remEuclid, toDegrees}
 use Rattle.float.specs.Arctangent.{arctangent}

@@ -1,6 +1,6 @@
 -- Vectors of three f64, as `[f64; 3]` holds them: the list of their components. The operations of solar_roll.rs, each step rounded once, in its
 -- order. Definitions only. Assumes nothing.
-use mathlib.Core.Bool.{Bool, true, false, cond}
+use mathlib.Core.Bool.{true, false, cond}
 use mathlib.Core.List.{List, [], _∷_}
 use lib.ListN.{getD}
 use lib.Ieee.{Float, nan, binary64, le, ofBits}

@@ -3,7 +3,7 @@ use crate::cell::ConfiguredRoll;
 use crate::cell::bad_direction;
 use crate::cell::bad_position;
 ghost use mathlib.Core.Path.{_≡_};
-ghost use lib.ListN.{length, getD};
+ghost use lib.ListN.{getD};
 ghost use lib.Ieee.{nan};
 ghost use Rattle.solar_roll.specs.Plan.{planOf, triple, rowDirection, rowConfig, unlikeLengths, tooMany, samplesRefusal, samplesOrNoneRefusal, planRefusal};
 

@@ -22,7 +22,7 @@ ghost use lib.ListN.{length, getD};
 ghost use Rattle.buffers.specs.Lent.{filled};
 ghost use Rattle.float.specs.Arithmetic.{_⊖_, fullTurn, toDegrees};
 ghost use Rattle.solar_roll.specs.Vectors.{dot3};
-ghost use Rattle.solar_roll.specs.Roll.{sunUnit, sunAlongBoresight, panelIsFree, panelAngle, panelOf, rollIsUnconstrained, perpendicular, poleFallback, north, bodyAxes, rollDegIn, solarOptimalRollDeg, arc, circularDiffDeg};
+ghost use Rattle.solar_roll.specs.Roll.{sunUnit, sunAlongBoresight, panelIsFree, panelOf, rollIsUnconstrained, perpendicular, poleFallback, north, bodyAxes, rollDegIn, solarOptimalRollDeg, arc, circularDiffDeg};
 
 // The unit vector from the observer to the Sun.
 pub fn sun_unit(sun: [f64; 3], observer: [f64; 3]) -> [f64; 3]

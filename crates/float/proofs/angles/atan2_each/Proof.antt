@@ -6,7 +6,6 @@ use lib.Ieee.{nan}
 use lib.ListN.{length, getD}
 use Rattle.buffers.specs.Lent.{filled}
 use Rattle.buffers.proofs.Lent.{filled-then}
-use Rattle.float.specs.Arithmetic.{absOf}
 use Rattle.float.specs.Arctangent.{halved, ratio, seriesAngle, quadrantAngle, turnedAngle, arctangent}
 use borrow.Author.Needs.{needs}
 use Rattle.float.proofs.angles.atan2_each.Statement.{statement}

@@ -1,13 +1,12 @@
 -- `mark_row`: by tiles, or none marked. Assumes nothing.
-use mathlib.Core.Path.{_≡_, sym, ap, _∙_}
+use mathlib.Core.Path.{ap, _∙_}
 use mathlib.Core.List.{[]}
-use Prim.Native.Nat.{ℕ, _<_}
 use denote.Ref.{now}
 use lib.ListN.{getD}
 use Rattle.buffers.specs.Ranges.{flag}
 use Rattle.buffers.specs.Lent.{filled}
 use Rattle.buffers.proofs.Lent.{filled-ext}
-use Rattle.solar_roll.specs.Roll.{Axes, bodyAxes}
+use Rattle.solar_roll.specs.Roll.{Axes}
 use Rattle.solar_roll.specs.Cell.{rollIn}
 use Rattle.solar_masks.specs.Mask.{markedBy}
 use borrow.Author.Needs.{needs}

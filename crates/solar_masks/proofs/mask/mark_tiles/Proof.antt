@@ -1,14 +1,14 @@
 -- `mark_tiles`: before a tile, the bytes of the cells before it stand. Assumes nothing.
-use Prim.Native.Nat.{ℕ, _+_, _-_, _≤_, _<_, min}
-use mathlib.Core.Path.{_≡_, refl, sym, ap, _∙_}
-use mathlib.Core.List.{List, []}
+use Prim.Native.Nat.{ℕ, _+_, _-_, _≤_}
+use mathlib.Core.Path.{_≡_, refl, ap, _∙_}
+use mathlib.Core.List.{[]}
 use native.Mathlib.Omega.{arith}
 use borrow.Author.Needs.{needs}
 use denote.Ref.{now}
-use lib.ListN.{length, getD, take, drop, length-drop}
+use lib.ListN.{length, getD, take, drop}
 use Rattle.buffers.specs.Ranges.{flag}
 use Rattle.buffers.specs.Lent.{filled}
-use Rattle.buffers.proofs.Lent.{filled-zero, length-filled, part-lent}
+use Rattle.buffers.proofs.Lent.{filled-zero, length-filled}
 use Rattle.solar_roll.specs.Vectors.{Vector}
 use Rattle.solar_roll.specs.Cell.{rollIn}
 use Rattle.solar_masks.specs.Mask.{markedBy}
