@@ -21,7 +21,7 @@ unfoldable pub series : Float → ℕ → Float
 series s zero = coefficient 8
 series s (suc j) = coefficient (7 - j) ⊕ s ⊗ series s j
 
--- of (y, z); NaN unless both are finite. Where M = 0, q and p are not looked at.
+-- of (y, z); NaN unless both are finite. Where M = 0, what is worked out of q is not looked at.
 unfoldable pub arctangent : Float → Float → Float
 arctangent y z =
     let a = absOf y in
@@ -29,7 +29,8 @@ arctangent y z =
     let m = cond (lt b a) b a in
     let M = cond (lt b a) a b in
     let q = halved (halved (halved (m ⊘ M))) in
-    let p = series (q ⊗ q) 8 in
+    let s = q ⊗ q in
+    let p = series s 8 in
     let r = cond (eq M zero·0) zero·0 (eight ⊗ (q ⊗ p)) in
     let r = cond (lt b a) (PI ⊘ two ⊖ r) r in
     let r = cond (signBitOf z) (PI ⊖ r) r in
