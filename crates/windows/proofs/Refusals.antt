@@ -28,7 +28,7 @@ same-at n ns i e h = eqb-true (getD ns i 0) n (not-false (eqb (getD ns i 0) n) (
 
 -- ---- what an accepted call knows
 
-pub record Accepted (uneven : Bool) (mask : List ℕ) (times : List ℤ) (severities : List Float) (short : Bool) : Type 0 where
+pub record WindowsAccepted (uneven : Bool) (mask : List ℕ) (times : List ℤ) (severities : List Float) (short : Bool) : Type 0 where
   pub even : uneven ≡ false
   pub few : length mask ≤ 65_536
   pub timely : any beyond times ≡ false
@@ -37,7 +37,7 @@ pub record Accepted (uneven : Bool) (mask : List ℕ) (times : List ℤ) (severi
   pub room : short ≡ false
 
 pub windows-accepted : (uneven : Bool) (mask : List ℕ) (times : List ℤ) (severities : List Float) (short : Bool)
-    → windowsRefusal uneven mask times severities short ≡ 0 → Accepted uneven mask times severities short
+    → windowsRefusal uneven mask times severities short ≡ 0 → WindowsAccepted uneven mask times severities short
 unfolding windowsRefusal
 windows-accepted uneven mask times severities short e =
     let c = first-clears (windowsConditions uneven mask times severities short) refl e in

@@ -18,17 +18,17 @@ use Rattle.buffers.specs.Refusal.{first}
 use Rattle.buffers.proofs.Tests.{or-left, or-right, or-none}
 use Rattle.buffers.proofs.Ranges.{any-getD}
 use Rattle.float.specs.Arithmetic.{zero·0}
-use Rattle.windows.specs.Runs.{Run, run, are, violationRuns, visibilityRuns, starts}
-use Rattle.windows.specs.Maximal.{Maximal, Visible, Exactly, is}
+use Rattle.windows.specs.Runs.{Run, run, samplesAre, violationRuns, visibilityRuns, starts}
+use Rattle.windows.specs.Maximal.{Maximal, Visible, Exactly, sampleIs}
 use Rattle.windows.specs.Windows.{largest, windowOf, violationWindows, visibilityWindows, Columns, written}
 use Rattle.windows.specs.Refusal.{beyond, badMark, badSeverity, differ, lengths, noRoom, windowsRefusal, violationRefusal, visibilityRefusal}
 use Rattle.windows.specs.Expand.{Span, spans, Increasing, expanded, constraintResultVisibility, expandRefusal}
 use Rattle.windows.specs.Seconds.{totalSeconds, floatSeconds, durationRefusal}
 use Rattle.windows.specs.declared.Window.{Window}
-use Rattle.windows.proofs.MaximalRuns.{violation-runs, visibility-runs, violation-count, violation-bound, visibility-bound, within, length-are}
+use Rattle.windows.proofs.MaximalRuns.{violation-runs, visibility-runs, violation-count, violation-bound, visibility-bound, within, length-samples}
 use Rattle.windows.proofs.Severities.{Largest, severity-is-largest}
 use Rattle.windows.proofs.MaskBack.{mask-back}
-use Rattle.windows.proofs.Refusals.{Accepted, windows-accepted, expand-accepts, same-at}
+use Rattle.windows.proofs.Refusals.{WindowsAccepted, windows-accepted, expand-accepts, same-at}
 use Rattle.windows.proofs.Durations.{float-sum-exact}
 
 -- ---- violation windows
@@ -37,13 +37,13 @@ use Rattle.windows.proofs.Durations.{float-sum-exact}
 -- them, so at most (times + 1) / 2; and a run's severity is the largest of its samples', where all severities are accepted.
 pub record ViolationWindows (mask : List ℕ) (times : List ℤ) (severities : List Float) : Type 0 where
   pub windows : violationWindows mask times severities ≡ map (windowOf times (largest severities)) (violationRuns mask)
-  pub runs : Exactly (Maximal (is 1 mask)) (violationRuns mask)
-  pub count : length (violationWindows mask times severities) ≡ starts false (are 1 mask)
+  pub runs : Exactly (Maximal (sampleIs 1 mask)) (violationRuns mask)
+  pub count : length (violationWindows mask times severities) ≡ starts false (samplesAre 1 mask)
   pub bound : length (violationWindows mask times severities) ≤ (length mask + 1) / 2
   pub severity : length severities ≡ length mask → any badSeverity severities ≡ false → (r : Run) → List·Memᴰ r (violationRuns mask) → Largest severities (r .first) (r .last) (largest severities r)
 
 pub violation-windows : (mask : List ℕ) (times : List ℤ) (severities : List Float) → ViolationWindows mask times severities
-unfolding violationWindows are
+unfolding violationWindows samplesAre
 violation-windows mask times severities = record {
   windows = refl;
   runs = violation-runs mask;
@@ -51,7 +51,7 @@ violation-windows mask times severities = record {
   bound = omega (arith, length-map (violationRuns mask) (windowOf times (largest severities)), violation-bound mask);
   severity = λ e g r h.
       let m = violation-runs mask .only r h in
-      severity-is-largest severities r (m .ordered) (λ k a b. any-getD badSeverity severities nan k g (omega (arith, within (are 1 mask) r m, length-are 1 mask)));
+      severity-is-largest severities r (m .ordered) (λ k a b. any-getD badSeverity severities nan k g (omega (arith, within (samplesAre 1 mask) r m, length-samples 1 mask)));
 }
 
 -- ---- visibility windows
@@ -150,7 +150,7 @@ module _ (mask : List ℕ) (times : List ℤ) (severities : List Float) (d : Col
   abbrev ws : List Window
   ws = violationWindows mask times severities
 
-  facts : Accepted (differ (length mask ∷ length times ∷ length severities ∷ []) || differ (lengths d)) mask times severities (noRoom (lengths d) (length (violationRuns mask)))
+  facts : WindowsAccepted (differ (length mask ∷ length times ∷ length severities ∷ []) || differ (lengths d)) mask times severities (noRoom (lengths d) (length (violationRuns mask)))
   unfolding violationRefusal
   facts = windows-accepted _ mask times severities _ ok
 
@@ -158,8 +158,8 @@ module _ (mask : List ℕ) (times : List ℤ) (severities : List Float) (d : Col
   timed = same-at (length mask) (length times ∷ length severities ∷ []) 0 (or-left (differ (length mask ∷ length times ∷ length severities ∷ [])) (differ (lengths d)) (facts .even)) (omega arith)
 
   in-row : (r : Run) → List·Memᴰ r (violationRuns mask) → (r .first ≤ r .last) × (r .last < length times)
-  unfolding are
-  in-row r h = let m = violation-runs mask .only r h in (m .ordered, omega (arith, within (are 1 mask) r m, length-are 1 mask, timed))
+  unfolding samplesAre
+  in-row r h = let m = violation-runs mask .only r h in (m .ordered, omega (arith, within (samplesAre 1 mask) r m, length-samples 1 mask, timed))
 
   pub row-expand-accepted : (places : ℕ) → length times ≤ places
       → expandRefusal (take (length ws) (written ws d .firstTime)) (take (length ws) (written ws d .lastTime)) times places ≡ 0

@@ -10,7 +10,7 @@ use lib.IntN.{ℤ}
 use lib.Ieee.{Float}
 use Rattle.buffers.specs.Refusal.{Reply, refused, accepted}
 use Rattle.float.specs.Arithmetic.{zero·0}
-use Rattle.windows.specs.Runs.{Run, run, shut, runsFrom, are, filter, ruleV}
+use Rattle.windows.specs.Runs.{Run, run, shut, runsFrom, samplesAre, filter, ruleV}
 use Rattle.windows.specs.Windows.{Columns, largest, windowOf}
 use Rattle.windows.specs.declared.Window.{Window}
 use Rattle.windows.specs.declared.Listing.{Listing}
@@ -44,15 +44,15 @@ severityOf Visibility severities r = zero·0
 
 -- the runs of a listing from sample i on, where no run is open before it
 unfoldable pub runsLeft : Listing → List ℕ → ℕ → List Run
-unfolding filter keeps runsFrom are byteOf
-runsLeft l mask i = filter (keeps l (length mask)) (runsFrom i shut (are (byteOf l) (drop i mask)))
+unfolding filter keeps runsFrom samplesAre byteOf
+runsLeft l mask i = filter (keeps l (length mask)) (runsFrom i shut (samplesAre (byteOf l) (drop i mask)))
 
 unfoldable pub windowsLeft : Listing → List ℕ → List ℤ → List Float → ℕ → List Window
 unfolding windowOf severityOf runsLeft
 windowsLeft l mask times severities i = map (windowOf times (severityOf l severities)) (runsLeft l mask i)
 
 -- the next run of a listing from sample `from` on goes from `first` to `end` - 1; if there is none, both are the row's length
-pub record Next (l : Listing) (mask : List ℕ) (from first end : ℕ) : Type 0 where
+pub record IsNextRun (l : Listing) (mask : List ℕ) (from first end : ℕ) : Type 0 where
   pub within : end ≤ length mask
   pub onward : from < length mask → from < end
   pub some : first < end → runsLeft l mask from ≡ run first (end - 1) ∷ runsLeft l mask end

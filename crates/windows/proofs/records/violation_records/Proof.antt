@@ -311,7 +311,7 @@ module _ {M : Type 1} (𝓤 : URA M) (H : Heap 𝓤) (A : Atoms 𝓤) (W : Given
         long s = pass-length ys ok s
 
         from-small : (s : Passes) → s .from < 2 ^ 64
-        from-small s = omega (arith, s .reached .in-row, pm .0 .1 .0)
+        from-small s = omega (arith, s .passed .in-row, pm .0 .1 .0)
 
         abbrev At : Passes → List (Item 𝓤)
         At s = Cx (s .zs) (number l₈ (s .from)) (number l₇ (s .k)) (number l₆ count) (‵ (fat fullShare S′.mir l₅ 0 u))

@@ -297,7 +297,7 @@ module _ {M : Type 1} (𝓤 : URA M) (H : Heap 𝓤) (A : Atoms 𝓤) (W : Given
         long s = pass-length ys ok s
 
         from-small : (s : Passes) → s .from < 2 ^ 64
-        from-small s = omega (arith, s .reached .in-row, pm .0 .1 .0)
+        from-small s = omega (arith, s .passed .in-row, pm .0 .1 .0)
 
         abbrev At : Passes → List (Item 𝓤)
         At s = Cx (s .zs) (number l₇ (s .from)) (number l₆ (s .k)) (number l₅ count) (‵ (fat fullShare S′.mir l₄ 0 u))
