@@ -21,7 +21,7 @@ use Rattle.float.specs.Arithmetic.{zero·0}
 use Rattle.windows.specs.Runs.{Run, run, samplesAre, violationRuns, visibilityRuns, starts}
 use Rattle.windows.specs.Maximal.{Maximal, Visible, Exactly, sampleIs}
 use Rattle.windows.specs.Windows.{largest, windowOf, violationWindows, visibilityWindows, Columns, written}
-use Rattle.windows.specs.Refusal.{beyond, badMark, badSeverity, differ, lengths, noRoom, windowsRefusal, violationRefusal, visibilityRefusal}
+use Rattle.windows.specs.Refusal.{mostLent, beyond, badMark, badSeverity, differ, lengths, noRoom, windowsRefusal, violationRefusal, visibilityRefusal}
 use Rattle.windows.specs.Expand.{Span, spans, Increasing, expanded, constraintResultVisibility, expandRefusal}
 use Rattle.windows.specs.Seconds.{totalSeconds, floatSeconds, durationRefusal}
 use Rattle.windows.specs.declared.Window.{Window}
@@ -170,7 +170,7 @@ module _ (mask : List ℕ) (times : List ℤ) (severities : List Float) (d : Col
       (any-map beyond (λ (r : Run). getD times (r .first) (pos 0)) (violationRuns mask) (λ r h. let b = in-row r h in any-getD beyond times (pos 0) (r .first) (facts .timely) (omega arith)))
       (any-map beyond (λ (r : Run). getD times (r .last) (pos 0)) (violationRuns mask) (λ r h. any-getD beyond times (pos 0) (r .last) (facts .timely) (in-row r h .1))))
     where
-      accept : (rs : List Run) → length rs ≤ 65_536 → any beyond (map (λ (r : Run). getD times (r .first) (pos 0)) rs) ≡ false → any beyond (map (λ (r : Run). getD times (r .last) (pos 0)) rs) ≡ false
+      accept : (rs : List Run) → length rs ≤ mostLent → any beyond (map (λ (r : Run). getD times (r .first) (pos 0)) rs) ≡ false → any beyond (map (λ (r : Run). getD times (r .last) (pos 0)) rs) ≡ false
           → expandRefusal (map (λ (r : Run). getD times (r .first) (pos 0)) rs) (map (λ (r : Run). getD times (r .last) (pos 0)) rs) times places ≡ 0
       accept rs few a b = expand-accepts (map (λ (r : Run). getD times (r .first) (pos 0)) rs) (map (λ (r : Run). getD times (r .last) (pos 0)) rs) times places
           (length-map rs _ ∙ sym (length-map rs _)) (rw (length-map rs (λ (r : Run). getD times (r .first) (pos 0))) few) (omega (arith, facts .few, timed)) a b (facts .timely) room

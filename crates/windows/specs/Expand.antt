@@ -11,7 +11,7 @@ use lib.Signed.{ltZ}
 use Rattle.buffers.specs.Ranges.{flag, any}
 use Rattle.buffers.specs.Refusal.{Conditions, first}
 use Rattle.windows.specs.Runs.{Run, visibilityRuns}
-use Rattle.windows.specs.Refusal.{beyond, differ}
+use Rattle.windows.specs.Refusal.{mostLent, beyond, differ}
 
 -- a window's first and last time
 pub record Span : Type 0 where
@@ -82,7 +82,7 @@ constraintResultVisibility ts ws = visibilityRuns (expanded ts ws)
 abbrev pub expandConditions : List ℤ → List ℤ → List ℤ → ℕ → Conditions
 expandConditions firsts lasts times places =
     (differ (length firsts ∷ length lasts ∷ []), 1)
-    ∷ (ltb 65_536 (length firsts) || ltb 65_536 (length times), 2)
+    ∷ (ltb mostLent (length firsts) || ltb mostLent (length times), 2)
     ∷ (any beyond firsts || (any beyond lasts || any beyond times), 8)
     ∷ (ltb places (length times), 7)
     ∷ []

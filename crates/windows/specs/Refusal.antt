@@ -13,6 +13,10 @@ use Rattle.float.specs.Arithmetic.{signBitOf, finite}
 use Rattle.windows.specs.Runs.{violationRuns, visibilityRuns}
 use Rattle.windows.specs.Windows.{Columns}
 
+-- the most samples of a row, and the most windows, that a call is lent
+abbrev pub mostLent : ℕ
+mostLent = 65_536
+
 -- a time beyond 4 * 10 ^ 18 nanoseconds either way
 unfoldable pub beyond : ℤ → Bool
 beyond t = ltZ t (negsuc 3_999_999_999_999_999_999) || ltZ (pos 4_000_000_000_000_000_000) t
@@ -44,7 +48,7 @@ noRoom (p ∷ ps) n = ltb p n
 abbrev pub windowsConditions : Bool → List ℕ → List ℤ → List Float → Bool → Conditions
 windowsConditions uneven mask times severities short =
     (uneven, 1)
-    ∷ (ltb 65_536 (length mask), 2)
+    ∷ (ltb mostLent (length mask), 2)
     ∷ (any beyond times, 8)
     ∷ (any badMark mask || any badSeverity severities, 14)
     ∷ (short, 7)

@@ -9,7 +9,7 @@ use lib.Signed.{quotZ}
 use lib.Ieee.{Float, binary64, ofInt, add}
 use Rattle.buffers.specs.Ranges.{any}
 use Rattle.buffers.specs.Refusal.{Conditions, first, Reply, refused, accepted}
-use Rattle.windows.specs.Refusal.{beyond, differ}
+use Rattle.windows.specs.Refusal.{mostLent, beyond, differ}
 use Rattle.windows.specs.declared.Duration.{Duration}
 use Rattle.windows.specs.declared.Duration.the-variants.{Seconds, Refused}
 
@@ -35,7 +35,7 @@ floatSeconds x (f ∷ fs) (l ∷ ls) = floatSeconds (add binary64 x (ofInt binar
 abbrev pub durationConditions : List ℤ → List ℤ → Conditions
 durationConditions firsts lasts =
     (differ (length firsts ∷ length lasts ∷ []), 1)
-    ∷ (ltb 65_536 (length firsts), 2)
+    ∷ (ltb mostLent (length firsts), 2)
     ∷ (any beyond firsts || any beyond lasts, 8)
     ∷ []
 

@@ -9,6 +9,7 @@ ghost use Rattle.buffers.specs.Lent.{over};
 ghost use Rattle.buffers.specs.Refusal.{replyOf};
 ghost use Rattle.windows.specs.Expand.{spans, inOrder, skip, inFirst, expandedInOrder, inSome, expandedReordered, expandRefusal};
 ghost use Rattle.windows.specs.Calls.{expandReply, expandMask};
+use crate::refusal::MOST_LENT;
 use crate::refusal::any_beyond;
 use buffers::Answer;
 
@@ -126,10 +127,10 @@ fn expand_refusal(first: &[i64], last: &[i64], times: &[i64], places: usize) -> 
     if last.len() != first.len() {
         return 1;
     }
-    if 65_536 < first.len() {
+    if MOST_LENT < first.len() {
         return 2;
     }
-    if 65_536 < times.len() {
+    if MOST_LENT < times.len() {
         return 2;
     }
     if any_beyond(first) {

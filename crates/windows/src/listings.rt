@@ -14,6 +14,7 @@ ghost use Rattle.windows.specs.Calls.{violationReply, violationColumns, 
 ghost use Rattle.windows.specs.Steps.{severityOf, runsLeft, windowsLeft, Row, Room, stored, countOf};
 use crate::Listing;
 use crate::Window;
+use crate::refusal::MOST_LENT;
 use crate::refusal::any_bad_mark;
 use crate::refusal::any_bad_severity;
 use crate::refusal::any_beyond;
@@ -211,7 +212,7 @@ fn answer_of(
     if uneven_places {
         return Answer::Refused(1);
     }
-    if 65_536 < mask.len() {
+    if MOST_LENT < mask.len() {
         return Answer::Refused(2);
     }
     if any_beyond(times) {

@@ -6,8 +6,10 @@ ghost use lib.ListN.{length, drop};
 ghost use lib.Dec.{eqb};
 ghost use Rattle.buffers.specs.Ranges.{flag};
 ghost use Rattle.windows.specs.Runs.{run, samplesAre, starts};
+ghost use Rattle.windows.specs.Refusal.{mostLent};
 ghost use Rattle.windows.specs.Steps.{leading, byteOf, keeps, runsLeft, IsNextRun};
 use crate::Listing;
+use crate::refusal::MOST_LENT;
 
 // The samples from first to end - 1.
 pub(crate) struct Stretch {
@@ -109,7 +111,7 @@ fn start_at(before: u8, byte: u8) -> u32
 // How many runs of marked samples start in a row. No turn of the loop waits for the one before it, so that it can run over many
 // samples at a time: over more of them with a counter of 32 bits, which a row's count fits, than with one of 64.
 fn count_starts(mask: &[u8]) -> u32
-    requires { ⌜ length (now mask) ≤ 65_536 ⌝ }
+    requires { ⌜ length (now mask) ≤ mostLent ⌝ }
     ensures { λ r. ⌜ r ≡ starts false (samplesAre 1 (now (mask .entry))) ⌝ }
 {
     if mask.len() == 0 {
@@ -132,7 +134,7 @@ pub(crate) fn count_runs(listing: Listing, mask: &[u8]) -> usize
 {
     match listing {
         Listing::Violations => {
-            if mask.len() <= 65_536 {
+            if mask.len() <= MOST_LENT {
                 return count_starts(mask) as usize;
             }
             count_listed(listing, mask)

@@ -9,6 +9,7 @@ ghost use Rattle.windows.specs.Refusal.{beyond};
 ghost use Rattle.windows.specs.Seconds.{seconds, totalSeconds, durationRefusal, replyOfDuration};
 ghost use Rattle.windows.specs.Calls.{durationReply};
 use crate::Duration;
+use crate::refusal::MOST_LENT;
 use crate::refusal::any_beyond;
 
 // Window k's length in whole seconds, toward zero.
@@ -44,7 +45,7 @@ fn duration_refusal(first: &[i64], last: &[i64]) -> u64
     if last.len() != first.len() {
         return 1;
     }
-    if 65_536 < first.len() {
+    if MOST_LENT < first.len() {
         return 2;
     }
     if any_beyond(first) {

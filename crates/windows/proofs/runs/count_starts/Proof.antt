@@ -8,13 +8,14 @@ use native.Mathlib.Omega.{arith}
 use lib.ListN.{length}
 use Rattle.buffers.specs.Ranges.{flag}
 use Rattle.windows.specs.Runs.{samplesAre, starts}
+use Rattle.windows.specs.Refusal.{mostLent}
 use Rattle.windows.proofs.MaximalRuns.{violation-count, violation-bound}
 use Rattle.windows.proofs.NextRun.{markedAt, startsLeft, starts-none, starts-first, starts-next, starts-end}
 use Rattle.windows.proofs.runs.count_starts.Statement.{statement}
 use Rattle.windows.proofs.runs.count_starts.Tie as tie
 
 -- at most every second sample starts a run
-few : (mask : List ℕ) → length mask ≤ 65_536 → starts false (samplesAre 1 mask) ≤ 32_768
+few : (mask : List ℕ) → length mask ≤ mostLent → starts false (samplesAre 1 mask) ≤ 32_768
 few mask h = omega (arith, violation-count mask, violation-bound mask)
 
 abbrev Inv-loop : tie.InvT-loop
