@@ -14,7 +14,8 @@ use crate::refusal::any_beyond;
 
 // Window k's length in whole seconds, toward zero.
 fn window_seconds(first: &[i64], last: &[i64], k: usize) -> f64
-    requires { ⌜ (k < length (now first)) × (k < length (now last)) × (beyond (getD (now first) k (pos 0)) ≡ false) × (beyond (getD (now last) k (pos 0)) ≡ false) ⌝ }
+    requires { ⌜ (k < length (now first)) × (k < length (now last))
+        × (beyond (getD (now first) k (pos 0)) ≡ false) × (beyond (getD (now last) k (pos 0)) ≡ false) ⌝ }
     ensures { λ r. ⌜ r ≡ ofInt binary64 (seconds (getD (now (first .entry)) k (pos 0)) (getD (now (last .entry)) k (pos 0))) ⌝ }
 {
     let start = first[k];
