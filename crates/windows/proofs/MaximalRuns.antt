@@ -13,7 +13,8 @@ use lib.ListN.{length, getD, length-map, List·getD-eq-default}
 use lib.Dec.{ltb, eqb}
 use borrow.Author.Tests.{ltb-true, lt-ltb, eq-eqb, eqb-true}
 use Rattle.buffers.specs.Ranges.{flag}
-use Rattle.windows.specs.Runs.{Run, run, Open, shut, since, runsFrom, samplesAre, filter, violationRuns, ruleV, visibilityRuns, starts}
+use Rattle.windows.specs.Runs.{Run, run, Open, shut, since, runsFrom, samplesAre, filter, violationRuns, ruleV, visibilityRuns}
+use Rattle.windows.specs.Steps.{starts}
 use Rattle.windows.specs.Maximal.{trueAt, sampleIs, Maximal, Visible, InOrder, Exactly}
 
 -- `m` are the samples of g from i on

@@ -12,8 +12,8 @@ use lib.Seq.{drop-cons, drop-drop, getD-drop}
 use lib.Dec.{ltb, eqb}
 use borrow.Author.Tests.{lt-ltb, le-ltb, eq-eqb, ne-eqb, eqb-true}
 use Rattle.buffers.specs.Ranges.{flag}
-use Rattle.windows.specs.Runs.{Run, run, Open, shut, since, runsFrom, samplesAre, filter, violationRuns, visibilityRuns, starts}
-use Rattle.windows.specs.Steps.{leading, byteOf, keeps, runsLeft, IsNextRun}
+use Rattle.windows.specs.Runs.{Run, run, Open, shut, since, runsFrom, samplesAre, filter, violationRuns, visibilityRuns}
+use Rattle.windows.specs.Steps.{leading, starts, byteOf, keeps, runsLeft, IsNextRun}
 use Rattle.windows.specs.declared.Listing.{Listing}
 use Rattle.windows.specs.declared.Listing.the-variants.{Violations, Visibility}
 

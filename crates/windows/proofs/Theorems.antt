@@ -18,12 +18,13 @@ use Rattle.buffers.specs.Refusal.{first}
 use Rattle.buffers.proofs.Tests.{or-left, or-right, or-none}
 use Rattle.buffers.proofs.Ranges.{any-getD}
 use Rattle.float.specs.Arithmetic.{zero·0}
-use Rattle.windows.specs.Runs.{Run, run, samplesAre, violationRuns, visibilityRuns, starts}
+use Rattle.windows.specs.Runs.{Run, run, samplesAre, violationRuns, visibilityRuns}
 use Rattle.windows.specs.Maximal.{Maximal, Visible, Exactly, sampleIs}
 use Rattle.windows.specs.Windows.{largest, windowOf, violationWindows, visibilityWindows, Columns, written}
 use Rattle.windows.specs.Refusal.{mostLent, beyond, badMark, badSeverity, differ, lengths, noRoom, windowsRefusal, violationRefusal, visibilityRefusal}
-use Rattle.windows.specs.Expand.{Span, spans, Increasing, expanded, constraintResultVisibility, expandRefusal}
+use Rattle.windows.specs.Expand.{spans, Increasing, expanded, constraintResultVisibility, expandRefusal}
 use Rattle.windows.specs.Seconds.{totalSeconds, floatSeconds, durationRefusal}
+use Rattle.windows.specs.Steps.{starts}
 use Rattle.windows.specs.declared.Window.{Window}
 use Rattle.windows.proofs.MaximalRuns.{violation-runs, visibility-runs, violation-count, violation-bound, visibility-bound, within, length-samples}
 use Rattle.windows.proofs.Severities.{Largest, severity-is-largest}
@@ -98,11 +99,6 @@ module _ (mask : List ℕ) (times : List ℤ) (severities : List Float) where
       → constraintResultVisibility times (spans (firstTimes (violationWindows mask times severities)) (lastTimes (violationWindows mask times severities))) ≡ visibilityRuns mask
   unfolding constraintResultVisibility
   constraint-result l e up = ap visibilityRuns (expand-gives-mask l e up)
-
--- of any windows and times: those of the expanded mask
-pub constraint-result-expanded : (times : List ℤ) (ws : List Span) → constraintResultVisibility times ws ≡ visibilityRuns (expanded times ws)
-unfolding constraintResultVisibility
-constraint-result-expanded times ws = refl
 
 -- ---- seconds
 

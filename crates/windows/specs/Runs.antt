@@ -1,11 +1,10 @@
 -- Section 5's runs of a row of samples: the maximal runs of marked samples, and of the clear ones those that rule V keeps, in time order. A run is
 -- its first and its last sample number. Definitions only. Assumes nothing.
-use mathlib.Core.Bool.{Bool, true, false, not, _&&_, _||_, cond}
+use mathlib.Core.Bool.{Bool, true, false, _||_, cond}
 use mathlib.Core.List.{List, [], _∷_, map}
 use Prim.Native.Nat.{ℕ, suc, _+_, _-_}
 use lib.ListN.{length}
 use lib.Dec.{ltb, eqb}
-use Rattle.buffers.specs.Ranges.{flag}
 
 pub record Run : Type 0 where
   pub first : ℕ
@@ -50,8 +49,3 @@ ruleV n r = ltb (r .first) (r .last) || eqb (r .last + 1) n
 unfoldable pub visibilityRuns : List ℕ → List Run
 unfolding runsFrom samplesAre filter ruleV
 visibilityRuns m = filter (ruleV (length m)) (runsFrom 0 shut (samplesAre 0 m))
-
--- how many samples are true with no true one directly before them; b is the sample before the first of the list
-unfoldable pub starts : Bool → List Bool → ℕ
-starts b [] = 0
-starts b (x ∷ m) = flag (x && not b) + starts x m

@@ -1,13 +1,14 @@
 -- What the private functions of the listings say to one another: which runs a listing gives, and what is left of them from a sample on. No public
 -- contract cites these. Definitions only. Assumes nothing.
 use mathlib.Core.Path.{_≡_}
-use mathlib.Core.Bool.{Bool, true, cond}
+use mathlib.Core.Bool.{Bool, true, not, _&&_, cond}
 use mathlib.Core.List.{List, [], _∷_, map}
-use Prim.Native.Nat.{ℕ, zero, suc, _-_, _≤_, _<_}
+use Prim.Native.Nat.{ℕ, zero, suc, _+_, _-_, _≤_, _<_}
 use lib.ListN.{length, drop, set}
 use lib.Dec.{leb}
 use lib.IntN.{ℤ}
 use lib.Ieee.{Float}
+use Rattle.buffers.specs.Ranges.{flag}
 use Rattle.buffers.specs.Refusal.{Reply, refused, accepted}
 use Rattle.float.specs.Arithmetic.{zero·0}
 use Rattle.windows.specs.Runs.{Run, run, shut, runsFrom, samplesAre, filter, ruleV}
@@ -24,6 +25,11 @@ topBit n = leb 0x8000_0000_0000_0000 n
 unfoldable pub leading : {A : Type 0} → (A → Bool) → List A → ℕ
 leading p [] = 0
 leading p (x ∷ xs) = cond (p x) (suc (leading p xs)) 0
+
+-- how many samples are true with no true one directly before them; b is the sample before the first of the list
+unfoldable pub starts : Bool → List Bool → ℕ
+starts b [] = 0
+starts b (x ∷ m) = flag (x && not b) + starts x m
 
 -- the byte whose runs a listing gives
 unfoldable pub byteOf : Listing → ℕ

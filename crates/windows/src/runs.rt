@@ -5,9 +5,9 @@ ghost use Prim.Native.Nat.{ℕ, _+_, _-_, _<_, _≤_};
 ghost use lib.ListN.{length, drop};
 ghost use lib.Dec.{eqb};
 ghost use Rattle.buffers.specs.Ranges.{flag};
-ghost use Rattle.windows.specs.Runs.{run, samplesAre, starts};
+ghost use Rattle.windows.specs.Runs.{run, samplesAre};
 ghost use Rattle.windows.specs.Refusal.{mostLent};
-ghost use Rattle.windows.specs.Steps.{leading, byteOf, keeps, runsLeft, IsNextRun};
+ghost use Rattle.windows.specs.Steps.{leading, starts, byteOf, keeps, runsLeft, IsNextRun};
 use crate::Listing;
 use crate::refusal::MOST_LENT;
 

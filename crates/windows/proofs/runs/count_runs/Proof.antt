@@ -5,8 +5,8 @@ use mathlib.Core.Bool.{false}
 use mathlib.Core.List.{List}
 use native.Mathlib.Omega.{arith}
 use lib.ListN.{length}
-use Rattle.windows.specs.Runs.{samplesAre, starts}
-use Rattle.windows.specs.Steps.{runsLeft}
+use Rattle.windows.specs.Runs.{samplesAre}
+use Rattle.windows.specs.Steps.{starts, runsLeft}
 use Rattle.windows.specs.declared.Listing.{Listing}
 use Rattle.windows.specs.declared.Listing.the-variants.{Violations}
 use Rattle.windows.proofs.MaximalRuns.{violation-count, violation-bound}

@@ -7,8 +7,9 @@ use mathlib.Core.List.{List}
 use native.Mathlib.Omega.{arith}
 use lib.ListN.{length}
 use Rattle.buffers.specs.Ranges.{flag}
-use Rattle.windows.specs.Runs.{samplesAre, starts}
+use Rattle.windows.specs.Runs.{samplesAre}
 use Rattle.windows.specs.Refusal.{mostLent}
+use Rattle.windows.specs.Steps.{starts}
 use Rattle.windows.proofs.MaximalRuns.{violation-count, violation-bound}
 use Rattle.windows.proofs.NextRun.{markedAt, startsLeft, starts-none, starts-first, starts-next, starts-end}
 use Rattle.windows.proofs.runs.count_starts.Statement.{statement}
