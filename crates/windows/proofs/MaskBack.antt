@@ -4,19 +4,19 @@ use Prim.Native.Nat.{ℕ, zero, suc, _+_, _-_, _≤_, _<_}
 use native.Mathlib.Nat.{eq-or-lt-of-le, add-zero}
 use native.Mathlib.Omega.{arith}
 use mathlib.Core.Path.{_≡_, refl, sym, _∙_, ap, subst}
-use mathlib.Core.Logic.{_⊎_, inl, inr, ⊎-elim}
+use mathlib.Core.Logic.{_⊎_, ⊎-elim}
 use mathlib.Core.Bool.{Bool, true, false, not, cond, _&&_, _||_, true≢false}
-use mathlib.Core.List.{List, [], _∷_, map, List·Memᴰ, List·Memᴰ·head, List·Memᴰ·tail, List·Memᴰ·not-nil, List·Memᴰ·cases-cons, List·Memᴰ·eq-of-singleton}
+use mathlib.Core.List.{List, [], _∷_, map, List·Memᴰ, List·Memᴰ·head, List·Memᴰ·not-nil, List·Memᴰ·cases-cons, List·Memᴰ·eq-of-singleton}
 use lib.ListN.{length, getD}
 use lib.Dec.{ltb, eqb}
 use lib.IntN.{ℤ, pos, negsuc}
 use lib.Signed.{ltZ}
-use borrow.Author.Tests.{lt-ltb, le-ltb, ltb-true, ltb-false}
+use borrow.Author.Tests.{le-ltb, ltb-true, ltb-false}
 use Rattle.buffers.specs.Ranges.{flag, any}
 use Rattle.windows.specs.Runs.{Run, Open, shut, since, runsFrom, run, samplesAre, violationRuns}
 use Rattle.windows.specs.Refusal.{badMark}
 use Rattle.windows.specs.Expand.{Span, span, spans, Increasing, inOrder, skip, inFirst, expandedInOrder, expandedReordered, expanded}
-use Rattle.windows.proofs.MaximalRuns.{From, Past, later, length-samples}
+use Rattle.windows.proofs.MaximalRuns.{Past, later, length-samples}
 
 -- ---- the order of times
 asym : (a b : ℤ) → ltZ a b ≡ true → ltZ b a ≡ false

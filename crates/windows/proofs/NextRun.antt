@@ -1,18 +1,18 @@
 -- The runs of a mask, one after the other: what the loops over a mask ask. In order: how many elements lead a list; a clear sample is passed, and a
 -- run ends; what is left of a listing's runs after each; how many runs start from a sample on. Assumes nothing.
 use Prim.Native.Nat.{ℕ, zero, suc, _+_, _-_, _≤_, _<_}
-use native.Mathlib.Nat.{add-zero, add-suc, suc-add}
+use native.Mathlib.Nat.{add-zero}
 use native.Mathlib.Numerals.{add-one}
 use native.Mathlib.Omega.{arith}
 use mathlib.Core.Path.{_≡_, refl, sym, _∙_, ap, subst}
-use mathlib.Core.Bool.{Bool, true, false, not, _&&_, _||_, cond, or-true, true≢false}
+use mathlib.Core.Bool.{Bool, true, false, not, _&&_, cond}
 use mathlib.Core.List.{List, [], _∷_, map}
 use lib.ListN.{length, getD, drop, length-drop, drop-of-length-le}
-use lib.Seq.{drop-cons, drop-drop, getD-drop}
-use lib.Dec.{ltb, eqb}
-use borrow.Author.Tests.{lt-ltb, le-ltb, eq-eqb, ne-eqb, eqb-true}
+use lib.Seq.{drop-cons, drop-drop}
+use lib.Dec.{eqb}
+use borrow.Author.Tests.{eq-eqb}
 use Rattle.buffers.specs.Ranges.{flag}
-use Rattle.windows.specs.Runs.{Run, run, Open, shut, since, runsFrom, samplesAre, filter, violationRuns, visibilityRuns}
+use Rattle.windows.specs.Runs.{Run, run, shut, since, runsFrom, samplesAre, filter, violationRuns, visibilityRuns}
 use Rattle.windows.specs.Steps.{leading, starts, byteOf, keeps, runsLeft, IsNextRun}
 use Rattle.windows.specs.declared.Listing.{Listing}
 use Rattle.windows.specs.declared.Listing.the-variants.{Violations, Visibility}

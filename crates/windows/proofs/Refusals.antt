@@ -1,21 +1,21 @@
 -- Refusals of the window calls: what an accepted call knows, and what follows from an answer for what is written. Assumes nothing.
-use mathlib.Core.Path.{_≡_, refl, sym, _∙_, ap, subst}
+use mathlib.Core.Path.{_≡_, refl, _∙_, ap}
 use mathlib.Core.Logic.{_⊎_, inl, inr}
-use mathlib.Core.Bool.{Bool, true, false, not, _||_, true≢false}
+use mathlib.Core.Bool.{Bool, true, false, not, _||_}
 use mathlib.Core.List.{List, [], _∷_}
 use Prim.Native.Nat.{ℕ, zero, suc, _≤_, _<_}
 use native.Mathlib.Omega.{arith}
 use lib.ListN.{length, getD}
-use lib.Dec.{ltb, eqb}
+use lib.Dec.{eqb}
 use lib.IntN.{ℤ}
 use lib.Ieee.{Float}
 use borrow.Author.Tests.{ltb-false, lt-ltb, le-ltb, eq-eqb, eqb-true, not-false}
 use Rattle.buffers.specs.Ranges.{any}
-use Rattle.buffers.specs.Refusal.{Conditions, first, Reply, refused, accepted, reply}
+use Rattle.buffers.specs.Refusal.{first, Reply, reply}
 use Rattle.buffers.proofs.Tests.{or-left, or-right}
 use Rattle.buffers.proofs.Ranges.{any-getD}
 use Rattle.buffers.proofs.Refusal.{first-clears}
-use Rattle.windows.specs.Refusal.{mostLent, beyond, badMark, badSeverity, differ, noRoom, windowsConditions, windowsRefusal}
+use Rattle.windows.specs.Refusal.{mostLent, beyond, badMark, badSeverity, differ, windowsConditions, windowsRefusal}
 use Rattle.windows.specs.Expand.{expandConditions, expandRefusal}
 use Rattle.windows.specs.Seconds.{durationConditions, durationRefusal}
 use Rattle.windows.specs.Steps.{countOf}

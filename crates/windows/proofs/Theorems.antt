@@ -1,27 +1,25 @@
 -- Section 5's theorems, about the definitions that the public contracts cite: what the violation windows and the visibility windows of a row are;
 -- that expanding the violation windows gives the mask back; `ConstraintResult`'s visibility windows; the sum of seconds. Last, what a row's listings
 -- and its expansion say together when they are accepted. Assumes nothing.
-use mathlib.Core.Path.{_≡_, refl, sym, _∙_, ap, subst}
-use mathlib.Core.Bool.{Bool, true, false, _||_}
-use mathlib.Core.List.{List, [], _∷_, _++_, map, map-map, List·Memᴰ, List·Memᴰ·head, List·Memᴰ·tail}
-use Prim.Native.Nat.{ℕ, zero, suc, _+_, _/_, _≤_, _<_}
+use mathlib.Core.Path.{_≡_, refl, sym, _∙_, ap}
+use mathlib.Core.Bool.{Bool, false, _||_}
+use mathlib.Core.List.{List, [], _∷_, map, map-map, List·Memᴰ, List·Memᴰ·head, List·Memᴰ·tail}
+use Prim.Native.Nat.{ℕ, _+_, _/_, _≤_, _<_}
 use native.Mathlib.Omega.{arith}
 use lib.ListN.{length, getD, take, length-map}
 use lib.Seq.{take-at}
-use lib.Dec.{ltb}
 use lib.IntN.{ℤ, pos}
 use lib.Ieee.{Float, nan, binary64, ofInt}
-use borrow.Author.Tests.{lt-ltb, le-ltb, eq-eqb}
 use Rattle.buffers.specs.Ranges.{any}
 use Rattle.buffers.specs.Lent.{over}
 use Rattle.buffers.specs.Refusal.{first}
-use Rattle.buffers.proofs.Tests.{or-left, or-right, or-none}
+use Rattle.buffers.proofs.Tests.{or-left, or-none}
 use Rattle.buffers.proofs.Ranges.{any-getD}
 use Rattle.float.specs.Arithmetic.{zero·0}
-use Rattle.windows.specs.Runs.{Run, run, samplesAre, violationRuns, visibilityRuns}
+use Rattle.windows.specs.Runs.{Run, samplesAre, violationRuns, visibilityRuns}
 use Rattle.windows.specs.Maximal.{Maximal, Visible, Exactly, sampleIs}
 use Rattle.windows.specs.Windows.{largest, windowOf, violationWindows, visibilityWindows, Columns, written}
-use Rattle.windows.specs.Refusal.{mostLent, beyond, badMark, badSeverity, differ, lengths, noRoom, windowsRefusal, violationRefusal, visibilityRefusal}
+use Rattle.windows.specs.Refusal.{mostLent, beyond, badMark, badSeverity, differ, lengths, noRoom, violationRefusal}
 use Rattle.windows.specs.Expand.{spans, Increasing, expanded, constraintResultVisibility, expandRefusal}
 use Rattle.windows.specs.Seconds.{totalSeconds, floatSeconds, durationRefusal}
 use Rattle.windows.specs.Steps.{starts}

@@ -1,5 +1,5 @@
 -- Section 5's seconds: each window's length divided by 1,000,000,000 toward zero, summed. Definitions only. Assumes nothing.
-use mathlib.Core.Bool.{Bool, _||_}
+use mathlib.Core.Bool.{_||_}
 use mathlib.Core.List.{List, [], _∷_}
 use Prim.Native.Nat.{ℕ}
 use lib.ListN.{length}

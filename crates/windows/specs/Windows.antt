@@ -1,7 +1,6 @@
 -- Section 5's window records: of each run its sample numbers, its times, its severity and its last flag; the lists of violation and of visibility
 -- windows; and these lists written as columns. Definitions only. Assumes nothing.
-use mathlib.Core.Path.{_≡_}
-use mathlib.Core.Bool.{Bool, cond}
+use mathlib.Core.Bool.{cond}
 use mathlib.Core.List.{List, map}
 use Prim.Native.Nat.{ℕ, zero, suc, _+_, _-_}
 use lib.ListN.{length, getD}

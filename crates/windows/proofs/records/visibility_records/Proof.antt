@@ -20,7 +20,7 @@ use ghost.Atoms.{Atoms, sem}
 use contract.Lifetimes.{Lfts, Shares}
 use contract.Monad.{Fun, fact}
 use contract.Running.{givenOf, tables, tablesOf}
-use types.Kit.{Given, Item, ‵, raw, ⋆, cut, _$_, _∵_, !, qed, by, move, join, suffices, frame, done}
+use types.Kit.{Given, Item, ‵, ⋆, cut, _$_, _∵_, !, qed, by, move, join, suffices, frame, done}
 use types.Part.{whole, sub, look-in}
 use types.Run.{look, init, forget, stop, fld, from, load, false-lit, of-opd, and-then, no-more, assigns, returns, enter, alloc1, alloc0, params1, pass1, pass0, free1}
 use sound.WpLaws.{fmOf, WpFn-mono}
