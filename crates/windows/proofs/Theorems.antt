@@ -8,8 +8,9 @@ use Prim.Native.Nat.{ℕ, _+_, _/_, _≤_, _<_}
 use native.Mathlib.Omega.{arith}
 use lib.ListN.{length, getD, take, length-map}
 use lib.Seq.{take-at}
-use lib.IntN.{ℤ, pos}
+use lib.IntN.{ℤ, pos, natAbs}
 use lib.Ieee.{Float, nan, binary64, ofInt}
+use lib.Ieee.Exact.{HasValue}
 use Rattle.buffers.specs.Ranges.{any}
 use Rattle.buffers.specs.Lent.{over}
 use Rattle.buffers.specs.Refusal.{first}
@@ -28,7 +29,7 @@ use Rattle.windows.proofs.MaximalRuns.{violation-runs, visibility-runs,
 use Rattle.windows.proofs.Severities.{Largest, severity-is-largest}
 use Rattle.windows.proofs.MaskBack.{mask-back}
 use Rattle.windows.proofs.Refusals.{WindowsAccepted, windows-accepted, expand-accepts, same-at}
-use Rattle.windows.proofs.Durations.{float-sum-exact}
+use Rattle.windows.proofs.Durations.{negative, float-sum-exact, total-exact}
 
 -- ---- violation windows
 
@@ -100,9 +101,15 @@ module _ (mask : List ℕ) (times : List ℤ) (severities : List Float) where
 
 -- ---- seconds
 
--- the seconds of accepted windows, summed as f64 in their order from zero, are the whole-number sum
-pub seconds-exact : (firsts lasts : List ℤ) → durationRefusal firsts lasts ≡ 0 → floatSeconds zero·0 firsts lasts ≡ ofInt binary64 (totalSeconds firsts lasts)
-seconds-exact = float-sum-exact
+-- "summed as f64, exactly": the seconds of the windows, summed as f64 in their order from zero, are their whole-number sum as an f64, and that f64 is
+-- exactly this number
+pub record SecondsExact (firsts lasts : List ℤ) : Type 0 where
+  pub summed : floatSeconds zero·0 firsts lasts ≡ ofInt binary64 (totalSeconds firsts lasts)
+  pub exactly : HasValue (ofInt binary64 (totalSeconds firsts lasts)) (negative (totalSeconds firsts lasts)) (natAbs (totalSeconds firsts lasts)) 1
+
+-- of accepted windows
+pub seconds-exact : (firsts lasts : List ℤ) → durationRefusal firsts lasts ≡ 0 → SecondsExact firsts lasts
+seconds-exact firsts lasts ok = record { summed = float-sum-exact firsts lasts ok; exactly = total-exact firsts lasts ok }
 
 -- ---- a row: both listings and the expansion, accepted
 

@@ -18,6 +18,7 @@ pub record Span : Type 0 where
   pub first : ℤ
   pub last : ℤ
 
+-- the window from time f to time l
 abbrev pub span : ℤ → ℤ → Span
 span f l = record { first = f; last = l }
 
@@ -67,8 +68,9 @@ unfoldable pub expandedReordered : List ℤ → List Span → List ℕ
 unfolding inSome
 expandedReordered ts ws = map (λ (t : ℤ). flag (inSome t ws)) ts
 
--- ---- the mask of the times, a byte a time
+-- ---- both branches
 
+-- the mask of the times, a byte a time: 1 where a window holds it
 unfoldable pub expanded : List ℤ → List Span → List ℕ
 unfolding inOrder expandedInOrder expandedReordered
 expanded ts ws = cond (inOrder ts) (expandedInOrder ts ws) (expandedReordered ts ws)
@@ -87,6 +89,7 @@ expandConditions firsts lasts times places =
     ∷ (ltb places (length times), 7)
     ∷ []
 
+-- the number of the first of these that holds, 0 for none
 unfoldable pub expandRefusal : List ℤ → List ℤ → List ℤ → ℕ → ℕ
 unfolding first
 expandRefusal firsts lasts times places = first (expandConditions firsts lasts times places)

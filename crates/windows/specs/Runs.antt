@@ -1,15 +1,17 @@
--- Section 5's runs of a row of samples: the maximal runs of marked samples, and of the clear ones those that rule V keeps, in time order. A run is
--- its first and its last sample number. Definitions only. Assumes nothing.
+-- Section 5's runs of a row of samples: the maximal runs of marked samples, and of the clear ones those that rule V keeps, in time order. Definitions
+-- only. Assumes nothing.
 use mathlib.Core.Bool.{Bool, true, false, _||_, cond}
 use mathlib.Core.List.{List, [], _∷_, map}
 use Prim.Native.Nat.{ℕ, suc, _+_, _-_}
 use lib.ListN.{length}
 use lib.Dec.{ltb, eqb}
 
+-- a run of samples: the numbers of its first and of its last
 pub record Run : Type 0 where
   pub first : ℕ
   pub last : ℕ
 
+-- the run from sample f to sample l
 abbrev pub run : ℕ → ℕ → Run
 run f l = record { first = f; last = l }
 

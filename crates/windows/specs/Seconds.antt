@@ -39,6 +39,7 @@ durationConditions firsts lasts =
     ∷ (any beyond firsts || any beyond lasts, 8)
     ∷ []
 
+-- the number of the first of these that holds, 0 for none
 unfoldable pub durationRefusal : List ℤ → List ℤ → ℕ
 unfolding first
 durationRefusal firsts lasts = first (durationConditions firsts lasts)

@@ -53,6 +53,7 @@ unfoldable pub runsLeft : Listing → List ℕ → ℕ → List Run
 unfolding filter keeps runsFrom samplesAre byteOf
 runsLeft l mask i = filter (keeps l (length mask)) (runsFrom i shut (samplesAre (byteOf l) (drop i mask)))
 
+-- and their windows
 unfoldable pub windowsLeft : Listing → List ℕ → List ℤ → List Float → ℕ → List Window
 unfolding windowOf severityOf runsLeft
 windowsLeft l mask times severities i = map (windowOf times (severityOf l severities)) (runsLeft l mask i)

@@ -39,6 +39,7 @@ windowOf times severity r = record {
   «is_last» = flag (eqb (r .last + 1) (length times));
 }
 
+-- violation windows have the largest severity in their run
 unfoldable pub violationWindows : List ℕ → List ℤ → List Float → List Window
 unfolding windowOf largest violationRuns
 violationWindows mask times severities = map (windowOf times (largest severities)) (violationRuns mask)
@@ -48,8 +49,9 @@ unfoldable pub visibilityWindows : List ℕ → List ℤ → List Window
 unfolding windowOf visibilityRuns
 visibilityWindows mask times = map (windowOf times (λ (r : Run). zero·0)) (visibilityRuns mask)
 
--- ---- columns: a lent list for each field of the record
+-- ---- columns
 
+-- a lent list for each field of the record
 pub record Columns : Type 0 where
   pub first : List ℕ
   pub last : List ℕ
@@ -58,6 +60,7 @@ pub record Columns : Type 0 where
   pub severity : List Float
   pub isLast : List ℕ
 
+-- the columns of six lists, in the order in which a listing is lent them
 abbrev pub columns : List ℕ → List ℕ → List ℤ → List ℤ → List Float → List ℕ → Columns
 columns f l ft lt s il = record { first = f; last = l; firstTime = ft; lastTime = lt; severity = s; isLast = il }
 
