@@ -54,7 +54,7 @@ visibilityRecords mask times out = unlessRefused (visibilityRefusal mask times (
 
 -- ---- expand, of windows by their first and last times
 
--- 0
+-- 0 where it accepts
 abbrev pub expandReply : List ℤ → List ℤ → List ℤ → List ℕ → Reply ℕ
 expandReply firsts lasts times mask = reply (expandRefusal firsts lasts times (length mask)) 0
 
