@@ -4,7 +4,7 @@ use crate::plans::asked;
 use crate::plans::settings;
 ghost use mathlib.Core.Path.{_≡_};
 ghost use lib.ListN.{length};
-ghost use Rattle.solar_roll.specs.Plan.{Plan, planOf, samplingOrNone};
+ghost use Rattle.solar_roll.specs.Plan.{Plan, planOf, samplesOrNoneRefusal};
 ghost use Rattle.solar_masks.specs.Mask.{atRoll, atConfigured, atEveryRoll, cellsReply, maskAfter, valuesAfter};
 ghost use Rattle.solar_masks.specs.Row.{rowReply, rowMaskAfter, severitiesAfter};
 ghost use Rattle.solar_masks.specs.Field.{fieldReply, fieldAfter};
@@ -97,8 +97,8 @@ pub extern "C" fn wilfnusk_constrained_at_every_roll(
 ) -> u64
     ensures { λ r. let p : Plan = planOf (now (targets .entry)) (now (suns .entry)) (now (observers .entry))
         (settings «tolerance_deg» «has_roll» «roll_deg» «panel_x» «panel_y» «panel_z») in
-        ⌜ (r ≡ int64 (cellsReply p (samplingOrNone n) (length (now (mask .entry)))))
-        × (now (mask .exit) ≡ maskAfter p (samplingOrNone n) (atEveryRoll n) (now (mask .entry))) ⌝ }
+        ⌜ (r ≡ int64 (cellsReply p (samplesOrNoneRefusal n) (length (now (mask .entry)))))
+        × (now (mask .exit) ≡ maskAfter p (samplesOrNoneRefusal n) (atEveryRoll n) (now (mask .entry))) ⌝ }
 {
     let config = settings(tolerance_deg, has_roll, roll_deg, panel_x, panel_y, panel_z);
     int64(solar_masks::in_constraint_batch_constrained_at_every_roll(
@@ -153,8 +153,8 @@ pub extern "C" fn wilfnusk_field_of_regard_violated_batch(
 ) -> u64
     ensures { λ r. let p : Plan = planOf (now (targets .entry)) (now (suns .entry)) (now (observers .entry))
         (settings «tolerance_deg» «has_roll» «roll_deg» «panel_x» «panel_y» «panel_z») in
-        ⌜ (r ≡ int64 (fieldReply p (samplingOrNone n) time (length (now (mask .entry)))))
-        × (now (mask .exit) ≡ fieldAfter p (samplingOrNone n) time (atEveryRoll n) (now (mask .entry))) ⌝ }
+        ⌜ (r ≡ int64 (fieldReply p (samplesOrNoneRefusal n) time (length (now (mask .entry)))))
+        × (now (mask .exit) ≡ fieldAfter p (samplesOrNoneRefusal n) time (atEveryRoll n) (now (mask .entry))) ⌝ }
 {
     let config = settings(tolerance_deg, has_roll, roll_deg, panel_x, panel_y, panel_z);
     int64(solar_masks::field_of_regard_violated_batch(

@@ -6,9 +6,10 @@ use lib.ListN.{length}
 use lib.Dec.{ltb}
 use lib.IntN.{ℤ, pos, _+ℤ_, _-ℤ_}
 use lib.Signed.{quotZ}
-use lib.Ieee.{Float, binary64, ofInt, add}
+use lib.Ieee.{Float, binary64, ofInt}
 use Rattle.buffers.specs.Ranges.{any}
 use Rattle.buffers.specs.Refusal.{Conditions, first, Reply, refused, accepted}
+use Rattle.float.specs.Arithmetic.{_⊕_}
 use Rattle.windows.specs.Refusal.{mostLent, beyond, differ}
 use Rattle.windows.specs.declared.Duration.{Duration}
 use Rattle.windows.specs.declared.Duration.the-variants.{Seconds, Refused}
@@ -29,7 +30,7 @@ unfoldable pub floatSeconds : Float → List ℤ → List ℤ → Float
 unfolding seconds
 floatSeconds x [] ls = x
 floatSeconds x (f ∷ fs) [] = x
-floatSeconds x (f ∷ fs) (l ∷ ls) = floatSeconds (add binary64 x (ofInt binary64 (seconds f l))) fs ls
+floatSeconds x (f ∷ fs) (l ∷ ls) = floatSeconds (x ⊕ ofInt binary64 (seconds f l)) fs ls
 
 -- *Seconds*: windows of two columns of times
 abbrev pub durationConditions : List ℤ → List ℤ → Conditions
