@@ -16,8 +16,8 @@ use Rattle.buffers.proofs.Lent.{put-first, over-all}
 use Rattle.buffers.proofs.Tests.{or-right}
 use Rattle.solar_roll.specs.Vectors.{Vector, x, y, z}
 use Rattle.solar_roll.specs.declared.cell.ConfiguredRoll.{ConfiguredRoll}
-use Rattle.solar_roll.specs.Plan.{Plan, rowsOf, timesOf, headTolerance, planConfigured, planPanel, unlikeLengths, samplingOf, planRefusal, sunAt, violatesAt, mostSamples, PlanFacts}
-use Rattle.solar_roll.proofs.Accepted.{plan-facts}
+use Rattle.solar_roll.specs.Plan.{Plan, rowsOf, timesOf, headTolerance, planConfigured, planPanel, unlikeLengths, samplesRefusal, planRefusal, sunAt, violatesAt, mostSamples, PlanFacts}
+use Rattle.solar_roll.proofs.PlanFacts.{plan-facts}
 use Rattle.roll_sweep.specs.Sweep.{chunks, cellsIn}
 use Rattle.roll_sweep.specs.Rolls.{evenRolls}
 use Rattle.roll_sweep.specs.Chunk.{violatesBy, sampleRoll, sweptBy, sweptOf, chunkRefusal, sweptReply}
@@ -48,7 +48,7 @@ length-settings targets times n tolerance configured panel =
 
 module _ (p : Plan) (n : ℕ) where
   -- the refusal that the plan's call gave, k, is the sweep's
-  pub refusal-said : (m k : ℕ) (beyond : Bool) → m ≡ samplingOf n → k ≡ planRefusal p m beyond → k ≡ sweepOf p n .refusal beyond
+  pub refusal-said : (m k : ℕ) (beyond : Bool) → m ≡ samplesRefusal n → k ≡ planRefusal p m beyond → k ≡ sweepOf p n .refusal beyond
   unfolding sweepOf
   refusal-said m k beyond e f = f ∙ ap (λ (x : ℕ). planRefusal p x beyond) e
 
@@ -61,7 +61,7 @@ module _ (p : Plan) (n : ℕ) where
       let c3 = carried-clear _ _ (c2 .1) in
       let k = samples-within n (c3 .0) in
       record {
-        facts = plan-facts p (samplingOf n) (ltb room u) h;
+        facts = plan-facts p (samplesRefusal n) (ltb room u) h;
         one = k .0;
         most = k .1;
         used = ltb-false room u (or-right unlike (ltb room u) (c1 .0));
@@ -78,7 +78,7 @@ module _ (p : Plan) (n : ℕ) where
   accepted-sweep room u e =
       let f = passed room u e in
       record {
-        plan = ap (planRefusal p (samplingOf n)) (sym (le-ltb room u (f .used))) ∙ e;
+        plan = ap (planRefusal p (samplesRefusal n)) (sym (le-ltb room u (f .used))) ∙ e;
         few = f .facts .few-cells;
         one = f .one;
         most = f .most;
@@ -112,14 +112,14 @@ module _ (p : Plan) (n : ℕ) where
 
 -- ---- the sweep of a chunk of an accepted plan, at n even rolls, is not refused, and gives what the plan's sweep has
 
-sampling-passed : (n : ℕ) → 1 ≤ n → n ≤ mostSamples → samplingOf n ≡ 0
-unfolding samplingOf
-sampling-passed n h l = simp (le-leb 1 n h, le-leb n mostSamples l)
+samples-passed : (n : ℕ) → 1 ≤ n → n ≤ mostSamples → samplesRefusal n ≡ 0
+unfolding samplesRefusal
+samples-passed n h l = simp (le-leb 1 n h, le-leb n mostSamples l)
 
 module _ (p : Plan) (n c : ℕ) (f : PlanFacts p) (one : 1 ≤ n) (most : n ≤ mostSamples) (exists : c < chunks (rowsOf p * timesOf p)) (rolls : List Float) (even : rolls ≡ evenRolls n) where
   not-refused : (units : ℕ) → 0 < units → chunkRefusal (rowsOf p) (timesOf p) units (length rolls) c ≡ 0
   not-refused units u =
-      chunk-accepted p units (length rolls) c f u (ap samplingOf (ap length even ∙ length-even n) ∙ sampling-passed n one most) exists
+      chunk-accepted p units (length rolls) c f u (ap samplesRefusal (ap length even ∙ length-even n) ∙ samples-passed n one most) exists
 
   -- its cells
   pub chunk-held : (w : ℕ) → w ≡ cellsIn (rowsOf p * timesOf p) c → Held (rowsOf p) (timesOf p) c w

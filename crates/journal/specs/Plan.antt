@@ -6,7 +6,7 @@ use lib.ListN.{length}
 use lib.Ieee.{Float}
 use Rattle.buffers.specs.Ranges.{tab}
 use Rattle.solar_roll.specs.Vectors.{Vector}
-use Rattle.solar_roll.specs.Plan.{Plan, planOf, rowsOf, timesOf, sunAt, violatesAt, samplingOf, planRefusal}
+use Rattle.solar_roll.specs.Plan.{Plan, planOf, rowsOf, timesOf, sunAt, violatesAt, samplesRefusal, planRefusal}
 use Rattle.solar_roll.specs.declared.plan.SolarRollConfig.{SolarRollConfig}
 use Rattle.roll_sweep.specs.Sweep.{Sweep}
 use Rattle.roll_sweep.specs.Rolls.{evenRoll}
@@ -15,10 +15,10 @@ use Rattle.journal.specs.Header.{headerOf}
 -- the sweep of a plan over n even rolls. Cell number = row · times + time; a sample is taken as a Sweep roll (`violatesAt`), so a configured roll
 -- stands for every sample
 unfoldable pub sweepOf : Plan → ℕ → Sweep
-unfolding evenRoll planRefusal samplingOf headerOf
+unfolding evenRoll planRefusal samplesRefusal headerOf
 sweepOf p n =
     record {
-      refusal = planRefusal p (samplingOf n);
+      refusal = planRefusal p (samplesRefusal n);
       rows = rowsOf p;
       times = timesOf p;
       samples = n;

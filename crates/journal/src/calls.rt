@@ -17,7 +17,7 @@ use crate::range::append_lines;
 use buffers::Answer;
 use solar_roll::SolarRollConfig;
 use solar_roll::plan_refusal;
-use solar_roll::sampling;
+use solar_roll::samples_refusal;
 
 // Makes the journal the header, and gives the used length.
 pub fn begin(
@@ -35,7 +35,14 @@ pub fn begin(
         × (now (journal .exit) ≡ beginBytes s (now (journal .entry)) used) ⌝ }
 {
     let room = journal.len() as u64;
-    let refusal = plan_refusal(targets, suns, observers, config, sampling(n), room < used);
+    let refusal = plan_refusal(
+        targets,
+        suns,
+        observers,
+        config,
+        samples_refusal(n),
+        room < used,
+    );
     if refusal != 0 {
         return Answer::Refused(refusal);
     }

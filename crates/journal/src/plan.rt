@@ -8,7 +8,7 @@ use crate::header::HEADER_LENGTH;
 use crate::header::write_header;
 use solar_roll::SolarRollConfig;
 use solar_roll::plan_refusal;
-use solar_roll::sampling;
+use solar_roll::samples_refusal;
 
 // The number of the plan's refusal, 0 for none; and where it is 0, how many cells the plan has, and its header.
 pub struct LentPlan {
@@ -31,7 +31,14 @@ pub(crate) fn lent_plan(
         let s : Sweep = lentSweep (now (targets .entry)) (now (suns .entry)) (now (observers .entry)) config n in
         ⌜ (r .refusal ≡ s .refusal (ltb room used)) × (r .refusal ≡ 0 → Passed s (r .cells) n (r .header) room used) ⌝ }
 {
-    let refusal = plan_refusal(targets, suns, observers, config, sampling(n), room < used);
+    let refusal = plan_refusal(
+        targets,
+        suns,
+        observers,
+        config,
+        samples_refusal(n),
+        room < used,
+    );
     let mut header = [0u8; HEADER_LENGTH];
     if refusal != 0 {
         return LentPlan {

@@ -16,7 +16,7 @@ use Rattle.buffers.specs.Refusal.{accepted}
 use Rattle.buffers.proofs.Ranges.{sum-ext, sum-rows, length-tab, getD-tab, any-tab}
 use Rattle.buffers.proofs.Rows.{cell-below}
 use Rattle.buffers.proofs.Tests.{flag-le, flag-one}
-use Rattle.solar_roll.specs.Plan.{mostTimes, Plan, rowsOf, timesOf, violatesAt, samplingOf, planRefusal}
+use Rattle.solar_roll.specs.Plan.{mostTimes, Plan, rowsOf, timesOf, violatesAt, samplesRefusal, planRefusal}
 use Rattle.roll_sweep.specs.Sweep.{tried, marked, cellProbes, sweepMask, sweepProbes}
 use Rattle.roll_sweep.specs.Rolls.{evenRoll}
 use Rattle.roll_sweep.proofs.Chunks.{marked-iff}
@@ -101,7 +101,7 @@ module _ (p : Plan) (n : ℕ) where
 
 -- ---- "Take one accepted plan of 1 to 3,600 rolls, with strictly increasing times in document 01's range."
 
-module _ (p : Plan) (n : ℕ) (plan : planRefusal p (samplingOf n) false ≡ 0) (times : List ℤ) (t : Times (timesOf p) times) where
+module _ (p : Plan) (n : ℕ) (plan : planRefusal p (samplesRefusal n) false ≡ 0) (times : List ℤ) (t : Times (timesOf p) times) where
   -- from every start
   pub demand3-from : (l : Ledger) → Start (sweepOf p n) l → (es : List Entry) → Demand3 p n times l es
   demand3-from l h es =
@@ -155,6 +155,6 @@ module _ (p : Plan) (n : ℕ) (plan : planRefusal p (samplingOf n) false ≡ 0) 
 -- ---- work over a range, for an accepted plan, after any list from every start: its whole write, cut at byte k, leaves the journal of the ledger after
 -- the first k / 33 works and a cut of k % 33 of the next
 
-module _ (p : Plan) (n : ℕ) (plan : planRefusal p (samplingOf n) false ≡ 0) where
+module _ (p : Plan) (n : ℕ) (plan : planRefusal p (samplesRefusal n) false ≡ 0) where
   pub range-cut : (l : Ledger) → Start (sweepOf p n) l → (es : List Entry) (from to : ℕ) (x : List ℕ) → RangeKept (sweepOf p n) l es from to x
   range-cut l h es from to x = range-is (sweepOf p n) (accepted-plan p n plan) l h es from to x

@@ -3,18 +3,18 @@ use mathlib.Core.Path.{_≡_, ap₂}
 use mathlib.Core.Bool.{false}
 use Prim.Native.Nat.{ℕ, _+_, _*_, _≤_, _<_}
 use Rattle.buffers.proofs.Rows.{cell-row, cell-time}
-use Rattle.solar_roll.specs.Plan.{mostTimes, Plan, timesOf, violatesAt, samplingOf, planRefusal}
+use Rattle.solar_roll.specs.Plan.{mostTimes, Plan, timesOf, violatesAt, samplesRefusal, planRefusal}
 use Rattle.roll_sweep.specs.Rolls.{evenRoll}
 use Rattle.journal.specs.Plan.{sweepOf}
 use Rattle.journal.proofs.Planned.{passed, accepted-sweep}
 use Rattle.journal.proofs.Written.{SweepFacts}
 
 module _ (p : Plan) (n : ℕ) where
-  pub accepted-plan : planRefusal p (samplingOf n) false ≡ 0 → SweepFacts (sweepOf p n)
+  pub accepted-plan : planRefusal p (samplesRefusal n) false ≡ 0 → SweepFacts (sweepOf p n)
   unfolding sweepOf
   accepted-plan e = accepted-sweep p n 0 0 e
 
-  pub few-times : planRefusal p (samplingOf n) false ≡ 0 → timesOf p ≤ mostTimes
+  pub few-times : planRefusal p (samplesRefusal n) false ≡ 0 → timesOf p ≤ mostTimes
   unfolding sweepOf
   few-times e = passed p n 0 0 e .facts .few-times
 

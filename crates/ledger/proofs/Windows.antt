@@ -16,7 +16,7 @@ use Rattle.buffers.specs.Refusal.{first, accepted, reply, unlessRefused}
 use Rattle.buffers.proofs.Refusal.{reply-none, reply-accepted, written-none}
 use Rattle.solar_roll.specs.Plan.{mostTimes}
 use Rattle.windows.specs.Runs.{Run, run, violationRuns, visibilityRuns}
-use Rattle.windows.specs.Maximal.{is, Maximal, Visible, Exactly}
+use Rattle.windows.specs.Maximal.{sampleIs, Maximal, Visible, Exactly}
 use Rattle.windows.specs.Windows.{largest, windowOf, violationWindows, visibilityWindows, Columns, columns, written}
 use Rattle.windows.specs.Refusal.{beyond, badMark, badSeverity, differ, lengths, noRoom, windowsRefusal, violationRefusal, visibilityRefusal}
 use Rattle.windows.specs.Expand.{Increasing, spans, expanded, expandRefusal}
@@ -71,7 +71,7 @@ module _ (times : List ℤ) (severity : Run → Float) where
 pub row-windows : (times : List ℤ) → Increasing times → (part : List ℕ) → RowWindows times part
 unfolding violationWindows visibilityWindows
 row-windows times up part = record {
-  violations = λ severities room n e. listed times (largest severities) (Maximal (is 1 part)) (violationRuns part) (violation-runs part) room (violationRefusal part times severities (lengths room)) n e;
+  violations = λ severities room n e. listed times (largest severities) (Maximal (sampleIs 1 part)) (violationRuns part) (violation-runs part) room (violationRefusal part times severities (lengths room)) n e;
   expand = λ severities room n e mask enough. expands severities room n e mask enough;
   visible = λ room n e. listed times _ (Visible part) (visibilityRuns part) (visibility-runs part) room (visibilityRefusal part times (lengths room)) n e;
 }

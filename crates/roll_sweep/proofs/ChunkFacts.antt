@@ -8,7 +8,7 @@ use borrow.Author.Tests.{eqb-false, ltb-false, leb-true, leb-false, ne-eqb, le-l
 use Rattle.buffers.specs.Refusal.{accepted}
 use Rattle.buffers.proofs.Refusal.{first-none, first-skip, first-clear, carried-skip, carried-clear}
 use Rattle.buffers.proofs.Tests.{and-left, and-right, or-left, or-right}
-use Rattle.solar_roll.specs.Plan.{Plan, rowsOf, timesOf, mostRows, mostTimes, mostCells, mostSamples, tooMany, samplingOf, PlanFacts}
+use Rattle.solar_roll.specs.Plan.{Plan, rowsOf, timesOf, mostRows, mostTimes, mostCells, mostSamples, tooMany, samplesRefusal, PlanFacts}
 use Rattle.roll_sweep.specs.Sweep.{chunks, cellsIn}
 use Rattle.roll_sweep.specs.Chunk.{chunkRefusal, chunkReply}
 use Rattle.roll_sweep.specs.declared.chunk.Swept.{Swept}
@@ -25,8 +25,8 @@ pub record ChunkFacts (rows times units samples c : ℕ) : Type 0 where
   pub exists : c < chunks (rows * times)
 
 -- 1 to 3,600 samples
-pub samples-within : (n : ℕ) → samplingOf n ≡ 0 → (1 ≤ n) × (n ≤ mostSamples)
-unfolding samplingOf
+pub samples-within : (n : ℕ) → samplesRefusal n ≡ 0 → (1 ≤ n) × (n ≤ mostSamples)
+unfolding samplesRefusal
 samples-within n e =
     let b = go (leb 1 n && leb n mostSamples) e in
     (leb-true _ _ (and-left (leb 1 n) (leb n mostSamples) b), leb-true _ _ (and-right (leb 1 n) (leb n mostSamples) b))
@@ -84,7 +84,7 @@ held rows times units samples c w f e =
     go (suc t) h = omega arith
 
 -- a chunk of a plan that is not refused, with a unit or more
-pub chunk-accepted : (p : Plan) (units samples c : ℕ) → PlanFacts p → 0 < units → samplingOf samples ≡ 0 → c < chunks (rowsOf p * timesOf p)
+pub chunk-accepted : (p : Plan) (units samples c : ℕ) → PlanFacts p → 0 < units → samplesRefusal samples ≡ 0 → c < chunks (rowsOf p * timesOf p)
     → chunkRefusal (rowsOf p) (timesOf p) units samples c ≡ 0
 unfolding chunkRefusal tooMany
 chunk-accepted p units samples c f u s h =

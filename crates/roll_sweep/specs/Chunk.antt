@@ -10,7 +10,7 @@ use Rattle.buffers.specs.Refusal.{first, carried, Reply, refused, accepted, rep
 use Rattle.solar_roll.specs.Vectors.{Vector}
 use Rattle.solar_roll.specs.Roll.{bodyAxes, panelOf}
 use Rattle.solar_roll.specs.Cell.{rollIn, violates, inForce}
-use Rattle.solar_roll.specs.Plan.{count, rowDirection, rowConfig, tooMany, samplingOf}
+use Rattle.solar_roll.specs.Plan.{count, rowDirection, rowConfig, tooMany, samplesRefusal}
 use Rattle.solar_roll.specs.declared.cell.CellRoll.{CellRoll}
 use Rattle.solar_roll.specs.declared.cell.ConfiguredRoll.{ConfiguredRoll}
 use Rattle.solar_roll.specs.declared.cell.EvaluationRoll.the-variants.{Sweep as SweepRoll}
@@ -49,7 +49,7 @@ unfoldable pub chunkRefusal : ℕ → ℕ → ℕ → ℕ → ℕ → ℕ
 chunkRefusal rows times units samples c =
     first ((eqb units 0, 1)
     ∷ (tooMany rows times, 2)
-    ∷ carried (samplingOf samples)
+    ∷ carried (samplesRefusal samples)
     ∷ (leb (chunks (rows * times)) c, 9)
     ∷ [])
 

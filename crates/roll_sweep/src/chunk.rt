@@ -1,6 +1,9 @@
 // The sweep of one chunk of cells.
 use buffers::smaller;
 use solar_roll::ConfiguredRoll;
+use solar_roll::MOST_CELLS;
+use solar_roll::MOST_ROWS;
+use solar_roll::MOST_TIMES;
 use solar_roll::Panel;
 use solar_roll::SolarRollConfig;
 use solar_roll::body_axes;
@@ -9,7 +12,7 @@ use solar_roll::free_or_at;
 use solar_roll::panel_of;
 use solar_roll::rolls_deg_in;
 use solar_roll::row_config;
-use solar_roll::sampling;
+use solar_roll::samples_refusal;
 use solar_roll::violated;
 ghost use mathlib.Core.Path.{_≡_};
 ghost use mathlib.Core.Bool.{Bool};
@@ -23,13 +26,6 @@ ghost use Rattle.solar_roll.specs.Plan.{mostTimes, mostCells, mostSamples};
 ghost use Rattle.solar_roll.specs.declared.cell.CellRoll.{CellRoll};
 ghost use Rattle.roll_sweep.specs.Sweep.{cellsIn};
 ghost use Rattle.roll_sweep.specs.Chunk.{violatesBy, sampleRoll, sweptBy, chunkRefusal, chunkReply, sweptReply};
-
-// The largest plan, as *Plan* bounds it: rows, times and cells.
-const MOST_ROWS: usize = 65_536;
-
-const MOST_TIMES: usize = 65_536;
-
-const MOST_CELLS: usize = 1_048_576;
 
 // What the sweep of cells gives: bit k of the mask is cell k, set where every sample violates it;
 // probes is how many samples were tried.
@@ -190,9 +186,9 @@ fn chunk_refusal(rows: usize, times: usize, units: usize, samples: usize, chunk:
     if MOST_CELLS < cells {
         return 2;
     }
-    let no_sampling = sampling(samples as u64);
-    if no_sampling != 0 {
-        return no_sampling;
+    let said = samples_refusal(samples as u64);
+    if said != 0 {
+        return said;
     }
     if (cells + 63) / 64 <= chunk as usize {
         return 9;

@@ -27,7 +27,7 @@ said : (c : tie.After-plan-refusal) →
     c .plan-refusal .result ≡ (sweep x) .refusal (ltb (length (x .args .journal .now)) (x .args .used))
 said c =
     let a = c .before .before .before .before .before .before .args in
-    refusal-said _ (a .n) _ (c .plan-refusal .result) _ (c .before .sampling .ensures) (c .plan-refusal .ensures)
+    refusal-said _ (a .n) _ (c .plan-refusal .result) _ (c .before .samples-refusal .ensures) (c .plan-refusal .ensures)
 
 -- the plan has passed
 passes : (c : tie.Else1) →
@@ -35,8 +35,8 @@ passes : (c : tie.Else1) →
     (sweep x) .refusal (ltb (length (x .args .journal .now)) (x .args .used)) ≡ 0
 passes c = sym (said (c .before)) ∙ c .if1 .left
 
-sampling-requires : tie.Need-sampling-requires
-sampling-requires c κs = search needs
+samples-refusal-requires : tie.Need-samples-refusal-requires
+samples-refusal-requires c κs = search needs
 
 plan-refusal-requires : tie.Need-plan-refusal-requires
 plan-refusal-requires c κs = search needs
@@ -79,7 +79,7 @@ pub begin-spec : {M : Type 1} → statement M
 begin-spec =
     tie.close
     (tie.spec
-    sampling-requires
+    samples-refusal-requires
     plan-refusal-requires
     returns
     returns-2

@@ -20,7 +20,7 @@ said : (c : tie.After-plan-refusal) →
     c .plan-refusal .result ≡ sweepOf (plan x) (x .args .n) .refusal (ltb (x .args .room) (x .args .used))
 said c =
     let x = c .before .before .before .before .before in
-    refusal-said (plan x) (x .args .n) _ (c .plan-refusal .result) _ (c .before .sampling .ensures) (c .plan-refusal .ensures)
+    refusal-said (plan x) (x .args .n) _ (c .plan-refusal .result) _ (c .before .samples-refusal .ensures) (c .plan-refusal .ensures)
 
 -- it is none
 passes : (c : tie.Else1) →
@@ -28,8 +28,8 @@ passes : (c : tie.Else1) →
     sweepOf (plan x) (x .args .n) .refusal (ltb (x .args .room) (x .args .used)) ≡ 0
 passes c = sym (said (c .before)) ∙ c .if1 .left
 
-sampling-requires : tie.Need-sampling-requires
-sampling-requires c κs = search needs
+samples-refusal-requires : tie.Need-samples-refusal-requires
+samples-refusal-requires c κs = search needs
 
 plan-refusal-requires : tie.Need-plan-refusal-requires
 plan-refusal-requires c κs = search needs
@@ -60,7 +60,7 @@ pub lent-plan-spec : {M : Type 1} → statement M
 lent-plan-spec =
     tie.close
     (tie.spec
-    sampling-requires
+    samples-refusal-requires
     plan-refusal-requires
     returns
     slice-aggregate-write-header

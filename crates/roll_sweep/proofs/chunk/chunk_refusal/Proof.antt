@@ -37,14 +37,14 @@ returns-4 : tie.Need-returns-4
 unfolding chunkRefusal first tooMany
 returns-4 c = simp (ne-eqb _ _ (c .before .before .before .if1 .left), le-ltb _ _ (c .before .before .if2 .left), le-ltb _ _ (c .before .if3 .left), lt-ltb _ _ (c .if4 .taken))
 
-sampling-requires : tie.Need-sampling-requires
-sampling-requires c κs = search needs
+samples-refusal-requires : tie.Need-samples-refusal-requires
+samples-refusal-requires c κs = search needs
 
 returns-5 : tie.Need-returns-5
 unfolding chunkRefusal first carried
 returns-5 c =
     let d = c .before .before in
-    simp (ne-eqb _ _ (d .before .before .before .if1 .left), few _ _ (d .before .before .if2 .left) (d .before .if3 .left) (d .if4 .left), sym (c .before .sampling .ensures), ne-eqb _ _ (c .if5 .taken))
+    simp (ne-eqb _ _ (d .before .before .before .if1 .left), few _ _ (d .before .before .if2 .left) (d .before .if3 .left) (d .if4 .left), sym (c .before .samples-refusal .ensures), ne-eqb _ _ (c .if5 .taken))
 
 add-if6 : tie.Need-add-if6
 add-if6 c = search needs
@@ -53,13 +53,13 @@ returns-6 : tie.Need-returns-6
 unfolding chunkRefusal first carried chunks
 returns-6 c =
     let d = c .before .before .before in
-    simp (ne-eqb _ _ (d .before .before .before .if1 .left), few _ _ (d .before .before .if2 .left) (d .before .if3 .left) (d .if4 .left), sym (c .before .before .sampling .ensures), eq-eqb _ _ (c .before .if5 .left), le-leb _ _ (c .if6 .taken))
+    simp (ne-eqb _ _ (d .before .before .before .if1 .left), few _ _ (d .before .before .if2 .left) (d .before .if3 .left) (d .if4 .left), sym (c .before .before .samples-refusal .ensures), eq-eqb _ _ (c .before .if5 .left), le-leb _ _ (c .if6 .taken))
 
 returns-7 : tie.Need-returns-7
 unfolding chunkRefusal first carried chunks
 returns-7 c =
     let d = c .before .before .before in
-    simp (ne-eqb _ _ (d .before .before .before .if1 .left), few _ _ (d .before .before .if2 .left) (d .before .if3 .left) (d .if4 .left), sym (c .before .before .sampling .ensures), eq-eqb _ _ (c .before .if5 .left), lt-leb _ _ (c .if6 .left))
+    simp (ne-eqb _ _ (d .before .before .before .if1 .left), few _ _ (d .before .before .if2 .left) (d .before .if3 .left) (d .if4 .left), sym (c .before .before .samples-refusal .ensures), eq-eqb _ _ (c .before .if5 .left), lt-leb _ _ (c .if6 .left))
 
 pub chunk-refusal-spec : {M : Type 1} → statement M
 chunk-refusal-spec =
@@ -70,7 +70,7 @@ chunk-refusal-spec =
     returns-3
     mul-cells
     returns-4
-    sampling-requires
+    samples-refusal-requires
     returns-5
     add-if6
     returns-6
