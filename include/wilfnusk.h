@@ -54,11 +54,12 @@
  *    tolerance_deg  how far, in degrees, a roll may be from the optimal one; any double. NaN: no cell is violated. Below 0: every cell
  *                   that is not Free is violated, at a finite roll
  *    has_roll       0: no configured roll, and roll_deg is ignored. Anything else: roll_deg is the configured roll
- *    roll_deg       in degrees; any double. NaN violates nothing
+ *    roll_deg       in degrees; any double. One that is not finite violates nothing
  *    panel_x, panel_y, panel_z   the panel's normal in the body's axes, see FRAME. Need not have length 1. The usual: 0, 1, 0
  *
  * A cell is a target i and a time j; its number is i * times + j. A mask has one byte a cell, in this order: 1 marked (violated), 0 clear.
- * A cell is Free if no roll is better than another: the Sun is on the boresight's line, or the panel's normal has no part across it.
+ * A cell is Free if no roll is better than another: the Sun is on the boresight's line, ahead or behind, or the panel's normal has no part
+ * across it (both to about 1e-12).
  *
  *
  * FRAME
@@ -134,9 +135,9 @@ int64_t wilfnusk_in_constraint_batch(WILFNUSK_PLAN, uint8_t *mask, size_t mask_l
  * Answers 0. Refuses: -1, -2, -4, -5, -6; -7 if mask_len is below the number of cells. */
 int64_t wilfnusk_in_constraint_batch_at_roll(WILFNUSK_PLAN, uint64_t fixed, double roll_at_deg, uint8_t *mask, size_t mask_len);
 
-/* Marks the cells whose optimal roll is further than the tolerance from the nearest multiple of 360 / n; n = 0 marks none. With a
- * configured roll, whatever n is, the cells that are violated at it. Answers 0. Where rounding decides, this is not always the mask of
- * the journal's sweep, which tries each roll.
+/* Marks the cells that are not Free and whose optimal roll is further than the tolerance from the nearest multiple of 360 / n; n = 0
+ * marks none. With a configured roll, whatever n is, the cells that are violated at it. Answers 0. Where rounding decides, this is not
+ * always the mask of the journal's sweep, which tries each roll.
  * Refuses: -1, -2, -3 if n is over 3,600, -4, -5, -6; -7 if mask_len is below the number of cells. */
 int64_t wilfnusk_constrained_at_every_roll(WILFNUSK_PLAN, uint64_t n, uint8_t *mask, size_t mask_len);
 
@@ -234,7 +235,8 @@ typedef struct wilfnusk_window {
 } wilfnusk_window;
 
 /* Lists the maximal runs of marked samples, in order: those with no marked sample directly before or after them. A window's severity is
- * the largest of its samples'. A row of s samples has at most (s + 1) / 2 windows. Answers their number.
+ * the largest of its samples'; severities are those of wilfnusk_evaluate, and for collect's mask lend severities of zero. A row of s
+ * samples has at most (s + 1) / 2 windows. Answers their number.
  * Refuses: -1 if mask, times and severities, or the six columns, are not equally long; -2; -8; -14; -7 if there are more windows than
  * places. */
 int64_t wilfnusk_violation_windows(const uint8_t *mask, size_t mask_len, const int64_t *times, size_t times_len,

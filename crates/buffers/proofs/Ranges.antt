@@ -13,7 +13,7 @@ use lib.Arith.{lt-of-le-ne}
 use lib.ListN.{length, getD, take, drop, length-append, List·getD-append, drop-of-length-le}
 use lib.Seq.{getD-at, drop-cons, take-at, drop-append-add}
 use borrow.Author.Tests.{eqb-true, eqb-false, ne-eqb}
-use Rattle.buffers.specs.Ranges.{flag, sum, tab, allBelow, anyBelow, any}
+use Rattle.buffers.specs.Ranges.{sum, tab, allBelow, anyBelow, any}
 use Rattle.buffers.proofs.Tests.{and-left, and-right, and-both, and-stop, or-none, or-left, or-right}
 
 -- below n + 1: below n, or n itself

@@ -1,12 +1,12 @@
 -- Laws of refusals: a step along a chain of conditions, and back from an accepted call to what it knows. Assumes nothing.
 use mathlib.Core.Path.{_≡_, refl, sym, ap, _∙_}
 use mathlib.Core.Bool.{Bool, true, false, cond, not, _&&_}
-use mathlib.Core.List.{List, [], _∷_}
+use mathlib.Core.List.{[], _∷_}
 use Prim.Native.Nat.{ℕ, zero, suc, _<_}
 use native.Mathlib.Omega.{arith}
 use lib.Dec.{ltb}
 use borrow.Author.Tests.{ne-eqb, ltb-true}
-use Rattle.buffers.specs.Refusal.{Conditions, first, carried, Reply, refused, accepted, reply, unlessRefused, replyOf}
+use Rattle.buffers.specs.Refusal.{Conditions, first, carried, refused, accepted, reply, unlessRefused, replyOf}
 use Rattle.buffers.proofs.Tests.{and-left, and-right}
 use Rattle.buffers.specs.declared.Answer.the-variants.{Accepted, Refused}
 

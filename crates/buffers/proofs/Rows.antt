@@ -13,7 +13,7 @@ use lib.Seq.{ext-getD}
 use borrow.Author.Tests.{ltb-true, ltb-false, eqb-true, eqb-false}
 use Rattle.buffers.specs.Ranges.{tab}
 use Rattle.buffers.specs.Lent.{filled, put}
-use Rattle.buffers.specs.Rows.{Columns}
+use Rattle.buffers.specs.Rows.{ColumnsWritten}
 use Rattle.buffers.proofs.Ranges.{length-tab, getD-tab}
 use Rattle.buffers.proofs.Lent.{length-put, getD-before, getD-inside, getD-after, length-filled, getD-filled, getD-filled-beyond}
 
@@ -43,7 +43,7 @@ cell-below rows times i j h g = row-before times i j rows h g
 -- ---- columns
 
 module _ {A : Type 0} (rows times from count : ℕ) (f : ℕ → ℕ → A) (d : A) where
-  pub columns-none : (l : List A) → Columns rows times 0 from count f d l l
+  pub columns-none : (l : List A) → ColumnsWritten rows times 0 from count f d l l
   columns-none l = record { same = refl; inside = λ r j h a b. absurd (not-suc-le-zero h); before = λ r j h g. refl; beyond = λ k h. refl }
 
   -- the columns of one row more: put in at their place
@@ -78,8 +78,8 @@ module _ {A : Type 0} (rows times from count : ℕ) (f : ℕ → ℕ → A) (d :
     other r j h (inl l) = low (r * times + j) (omega (arith, row-before times r j row l h))
     other r j h (inr l) = high (r * times + j) (omega (arith, mul-le-mul-right times l, suc-mul row times))
 
-    pub columns-row : (old : List A) → ((t : ℕ) → t < count → g t ≡ f row (from + t)) → Columns rows times row from count f d old m →
-        Columns rows times (row + 1) from count f d old new
+    pub columns-row : (old : List A) → ((t : ℕ) → t < count → g t ≡ f row (from + t)) → ColumnsWritten rows times row from count f d old m →
+        ColumnsWritten rows times (row + 1) from count f d old new
     columns-row old e c = record {
       same = length-put start (tab count g) m fits ∙ c .same;
       inside = λ r j h a b. inside r j (eqb r row) refl h a b;
@@ -104,17 +104,17 @@ module _ {A : Type 0} (rows times from count : ℕ) (f : ℕ → ℕ → A) (d :
             low (r * times + j) (omega (arith, ap (λ (k : ℕ). k * times) i)) ∙ c .before r j h b
 
   pub columns-ext : (done : ℕ) (g : ℕ → ℕ → A) (old new : List A) → ((r j : ℕ) → r < done → from ≤ j → j < from + count → f r j ≡ g r j) →
-      Columns rows times done from count f d old new → Columns rows times done from count g d old new
+      ColumnsWritten rows times done from count f d old new → ColumnsWritten rows times done from count g d old new
   columns-ext done g old new e c = record { same = c .same; inside = λ r j h a b. c .inside r j h a b ∙ e r j h a b; before = c .before; beyond = c .beyond }
 
 module _ {A : Type 0} (rows times : ℕ) (f : ℕ → ℕ → A) (d : A) where
   -- no columns yet
-  pub columns-zero : (done : ℕ) (l : List A) → Columns rows times done 0 0 f d l l
+  pub columns-zero : (done : ℕ) (l : List A) → ColumnsWritten rows times done 0 0 f d l l
   columns-zero done l = record { same = refl; inside = λ r j h a b. absurd (not-suc-le-zero b); before = λ r j h g. refl; beyond = λ k h. refl }
 
   -- columns, and the columns directly after them
-  pub columns-add : (from count : ℕ) (old m new : List A) → Columns rows times rows 0 from f d old m → Columns rows times rows from count f d m new →
-      Columns rows times rows 0 (from + count) f d old new
+  pub columns-add : (from count : ℕ) (old m new : List A) → ColumnsWritten rows times rows 0 from f d old m → ColumnsWritten rows times rows from count f d m new →
+      ColumnsWritten rows times rows 0 (from + count) f d old new
   columns-add from count old m new c e = record {
     same = e .same ∙ c .same;
     inside = λ r j h a b. inside r j (ltb j from) refl h b;
@@ -127,7 +127,7 @@ module _ {A : Type 0} (rows times : ℕ) (f : ℕ → ℕ → A) (d : A) where
       inside r j false q h b = e .inside r j h (ltb-false j from q) (omega arith)
 
   -- every column is written
-  pub columns-all : (old new : List A) → rows * times ≤ length old → Columns rows times rows 0 times f d old new →
+  pub columns-all : (old new : List A) → rows * times ≤ length old → ColumnsWritten rows times rows 0 times f d old new →
       new ≡ filled (rows * times) (λ k. f (k / times) (k % times)) old
   columns-all old new h c =
       let F : ℕ → A = λ k. f (k / times) (k % times) in

@@ -1,10 +1,10 @@
 -- Tests joined by && and ||, taken apart and put together. Not here: tests of numbers (`borrow.Author.Tests`). Assumes nothing.
-use mathlib.Core.Path.{_≡_, refl, sym, ap, _∙_}
+use mathlib.Core.Path.{_≡_, refl, ap, _∙_}
 use mathlib.Core.Logic.{_↔_}
 use mathlib.Core.Bool.{Bool, true, false, _&&_, _||_, not, and-eq-true-iff, true≢false, false≢true}
 use native.Mathlib.Omega.{arith}
 use Rattle.buffers.specs.Ranges.{flag}
-use Prim.Native.Nat.{ℕ, _≤_}
+use Prim.Native.Nat.{_≤_}
 
 pub and-left : (a b : Bool) → a && b ≡ true → a ≡ true
 and-left a b h = (and-eq-true-iff a b) .0 h .0

@@ -1,6 +1,6 @@
 -- Refusals. A refusal is document 01's number, 0 for none: conditions are tried in order, and the first that holds gives it. What a call
 -- answers and what it leaves follow from that number. Definitions only. Assumes nothing.
-use mathlib.Core.Bool.{Bool, true, false, cond, not}
+use mathlib.Core.Bool.{Bool, cond, not}
 use mathlib.Core.List.{List, [], _∷_}
 use Prim.Native.Nat.{ℕ, zero, suc}
 use lib.Dec.{eqb}

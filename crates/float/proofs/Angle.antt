@@ -9,7 +9,7 @@ use lib.IntN.{ℤ, pos}
 use lib.Dec.{ltb, eqb, lit<, lit≤}
 use lib.Ieee.{Float, nan, inf, fin, binary64, up, down, round, sub, mul, div, neg, lt, eq, ofBits, ofInt}
 use Rattle.float.specs.Arithmetic.{zero·0, one, two, eight, halfTurn, PI, signBitOf, absOf, finite, toDegrees}
-use Rattle.float.specs.Arctangent.{coefficient, halved, series, seriesAngle, ratio, quadrantAngle, turnedAngle, arctangent}
+use Rattle.float.specs.Arctangent.{coefficient, halved, series, seriesAngle, ratio, quadrantAngle, arctangent}
 use Rattle.float.proofs.Bounds.{Within, within-add, within-mul, within-quotient, within-neg, within-sub, weaken, Size, Least, loose, size-of, div-sign, size-mul, size-add, size-div, size-one, least-round, least-add, root-keeps}
 
 -- ---- the steps of the arctangent
@@ -114,7 +114,7 @@ within-quadrant m n e d = go (ltb (n * up d * down e) (m * up e * down d)) refl
 
 -- the arctangent of finite numbers is finite
 pub within-arctangent : (y z : Float) → finite y ≡ true → finite z ≡ true → Within 13 (arctangent y z)
-unfolding finite arctangent turnedAngle absOf signBitOf
+unfolding finite arctangent quadrantAngle ratio seriesAngle absOf signBitOf
 within-arctangent nan z h g = absurd (true≢false (sym h))
 within-arctangent (inf s) z h g = absurd (true≢false (sym h))
 within-arctangent (fin s m e) nan h g = absurd (true≢false (sym g))

@@ -7,7 +7,8 @@ use native.Mathlib.Omega.{arith}
 use lib.Dec.{eqb}
 use lib.Ieee.{nearest}
 use borrow.Author.Tests.{ne-eqb}
-use Rattle.float.specs.Root.{isqrt, halfway, roundedRoot}
+use Rattle.float.specs.Root.{isqrt}
+use Rattle.float.specs.RootSteps.{halfway, roundedRoot}
 use Rattle.float.proofs.Isqrt.{sq-cancel, isqrt-root, Root}
 
 -- r is the floor of the root of n, which lies between the squares of 2 * d + 1 and 2 * d + 3; h is r's last digit

@@ -8,7 +8,7 @@ use lib.Count.{leadingZeros}
 use lib.Pow.{pow-pos, pow-add}
 use lib.Ieee.{size}
 use lib.Ieee.Digits.{size-le}
-use Rattle.float.specs.Root.{magnitude, pairedOf, scaledFrom, scaledOf}
+use Rattle.float.specs.RootSteps.{magnitude, pairedOf, scaledFrom, scaledOf}
 use Rattle.float.specs.declared.root.Scaled.{Scaled}
 use Rattle.float.proofs.Patterns.{size-gt, subnormal, subnormal-magnitude, normal-magnitude}
 use Rattle.float.proofs.Rooted.{four-pow, four-pos}

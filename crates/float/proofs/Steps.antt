@@ -10,7 +10,8 @@ use lib.Ieee.Fits.{down-pos}
 use lib.Ieee.Positive.{positive}
 use borrow.Author.Tests.{ltb-true, lt-ltb}
 use Rattle.float.specs.Arithmetic.{zero·0}
-use Rattle.float.specs.Root.{isqrt, sqrtOf, operandOf, magnitude, halfway, roundedRoot}
+use Rattle.float.specs.Root.{isqrt, sqrtOf}
+use Rattle.float.specs.RootSteps.{operandOf, magnitude, halfway, roundedRoot}
 use Rattle.float.specs.declared.root.Operand.the-variants.{Answer, Positive}
 use Rattle.float.proofs.Patterns.{pattern-lt, pattern-pos, own-magnitude}
 use Rattle.float.proofs.Scaling.{Scales}

@@ -1,8 +1,26 @@
--- Section 1's arithmetic on f64, but for the root and the arctangent: constants, the sign bit and the size, the remainder and degrees. Over the toolchain's
--- account of IEEE 754, `lib.Ieee`, which also has the operators, and `toBits` and `ofBits`: the bit pattern of a number, 7ff8000000000000 for every NaN,
--- and the number of a bit pattern. Definitions only. Assumes nothing.
+-- Section 1's arithmetic on f64, but for the root and the arctangent: operators, constants, the sign bit and the size, the remainder and degrees. Over the
+-- toolchain's account of IEEE 754, `lib.Ieee`, which also has the comparisons, and `toBits` and `ofBits`: the bit pattern of a number, 7ff8000000000000 for
+-- every NaN, and the number of a bit pattern. Definitions only. Assumes nothing.
 use mathlib.Core.Bool.{Bool, true, false, cond}
-use lib.Ieee.{Float, nan, inf, fin, binary64, add, mul, div, rem, lt, ofBits}
+use lib.Ieee.{Float, nan, inf, fin, binary64, add, sub, mul, div, rem, lt, ofBits}
+
+-- ---- the operators of f64, each rounded once: +, -, · and /, grouped as in the Rust
+
+infixl 60 _⊕_
+abbrev pub _⊕_ : Float → Float → Float
+_⊕_ a b = add binary64 a b
+
+infixl 60 _⊖_
+abbrev pub _⊖_ : Float → Float → Float
+_⊖_ a b = sub binary64 a b
+
+infixl 70 _⊗_
+abbrev pub _⊗_ : Float → Float → Float
+_⊗_ a b = mul binary64 a b
+
+infixl 70 _⊘_
+abbrev pub _⊘_ : Float → Float → Float
+_⊘_ a b = div binary64 a b
 
 -- ---- constants, by their bit patterns
 
@@ -55,8 +73,8 @@ finite (fin s m e) = true
 
 -- r = a % b; if r < 0, r + |b|
 unfoldable pub remEuclid : Float → Float → Float
-remEuclid a b = let r = rem binary64 a b in cond (lt r zero·0) (add binary64 r (absOf b)) r
+remEuclid a b = let r = rem binary64 a b in cond (lt r zero·0) (r ⊕ absOf b) r
 
 -- a times (180 / P)
 unfoldable pub toDegrees : Float → Float
-toDegrees a = mul binary64 a (div binary64 halfTurn PI)
+toDegrees a = a ⊗ (halfTurn ⊘ PI)

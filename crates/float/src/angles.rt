@@ -1,12 +1,12 @@
 // The arctangents of many points, step by step of all of them: no point waits for another, so the processor overlaps
 // them, and works several at once where no branch stands.
 ghost use mathlib.Core.Path.{_≡_};
-ghost use Prim.Native.Nat.{_≤_, min};
-ghost use lib.Ieee.{binary64, nan, add, mul};
+ghost use Prim.Native.Nat.{ℕ, _≤_, min};
+ghost use lib.Ieee.{Float, nan};
 ghost use lib.ListN.{length, getD};
 ghost use Rattle.buffers.specs.Lent.{filled};
 ghost use Rattle.float.specs.Root.{sqrtOf};
-ghost use Rattle.float.specs.Arithmetic.{one, absOf};
+ghost use Rattle.float.specs.Arithmetic.{_⊕_, _⊗_, one, absOf};
 ghost use Rattle.float.specs.Arctangent.{halved, ratio, turnedAngle, arctangent};
 use crate::abs;
 use crate::arctangent::cosine;
@@ -36,7 +36,8 @@ fn guess_roots(qs: &[f64], count: usize, roots: &mut [f64])
 // Makes of each guess the root of 1 + q * q.
 fn check_roots(qs: &[f64], count: usize, roots: &mut [f64])
     requires { ⌜ (count ≤ length (now qs)) × (count ≤ length (now roots)) ⌝ }
-    ensures { λ _. ⌜ now (roots .exit) ≡ filled count (λ k. sqrtOf (add binary64 one (mul binary64 (getD (now (qs .entry)) k nan) (getD (now (qs .entry)) k nan)))) (now (roots .entry)) ⌝ }
+    ensures { λ _. let q : ℕ → Float = λ k. getD (now (qs .entry)) k nan in
+        ⌜ now (roots .exit) ≡ filled count (λ k. sqrtOf (one ⊕ q k ⊗ q k)) (now (roots .entry)) ⌝ }
 {
     let mut k = 0;
     while k < count {
@@ -50,7 +51,8 @@ fn check_roots(qs: &[f64], count: usize, roots: &mut [f64])
 // The first q of each point.
 fn ratio_each(ys: &[f64], zs: &[f64], count: usize, qs: &mut [f64])
     requires { ⌜ (count ≤ length (now ys)) × (count ≤ length (now zs)) × (count ≤ length (now qs)) ⌝ }
-    ensures { λ _. ⌜ now (qs .exit) ≡ filled count (λ k. ratio (absOf (getD (now (ys .entry)) k nan)) (absOf (getD (now (zs .entry)) k nan))) (now (qs .entry)) ⌝ }
+    ensures { λ _. let y : ℕ → Float = λ k. getD (now (ys .entry)) k nan in let z : ℕ → Float = λ k. getD (now (zs .entry)) k nan in
+        ⌜ now (qs .exit) ≡ filled count (λ k. ratio (absOf (y k)) (absOf (z k))) (now (qs .entry)) ⌝ }
 {
     let mut k = 0;
     while k < count {
@@ -81,7 +83,8 @@ fn halve_each(count: usize, qs: &mut [f64])
 // The angle of each point, from its last q.
 fn turn_each(ys: &[f64], zs: &[f64], count: usize, qs: &mut [f64])
     requires { ⌜ (count ≤ length (now ys)) × (count ≤ length (now zs)) × (count ≤ length (now qs)) ⌝ }
-    ensures { λ _. ⌜ now (qs .exit) ≡ filled count (λ k. turnedAngle (getD (now (ys .entry)) k nan) (getD (now (zs .entry)) k nan) (getD (now (qs .entry)) k nan)) (now (qs .entry)) ⌝ }
+    ensures { λ _. let y : ℕ → Float = λ k. getD (now (ys .entry)) k nan in let z : ℕ → Float = λ k. getD (now (zs .entry)) k nan in
+        ⌜ now (qs .exit) ≡ filled count (λ k. turnedAngle (y k) (z k) (getD (now (qs .entry)) k nan)) (now (qs .entry)) ⌝ }
 {
     let mut k = 0;
     while k < count {
@@ -95,7 +98,9 @@ fn turn_each(ys: &[f64], zs: &[f64], count: usize, qs: &mut [f64])
 
 // Writes the arctangent of each point (z, y): as many as the shortest list has, and at most 64.
 pub fn atan2_each(ys: &[f64], zs: &[f64], angles: &mut [f64])
-    ensures { λ _. ⌜ now (angles .exit) ≡ filled (min 64 (min (length (now (angles .entry))) (min (length (now (ys .entry))) (length (now (zs .entry)))))) (λ k. arctangent (getD (now (ys .entry)) k nan) (getD (now (zs .entry)) k nan)) (now (angles .entry)) ⌝ }
+    ensures { λ _. let y : ℕ → Float = λ k. getD (now (ys .entry)) k nan in let z : ℕ → Float = λ k. getD (now (zs .entry)) k nan in
+        let count : ℕ = min 64 (min (length (now (angles .entry))) (min (length (now (ys .entry))) (length (now (zs .entry))))) in
+        ⌜ now (angles .exit) ≡ filled count (λ k. arctangent (y k) (z k)) (now (angles .entry)) ⌝ }
 {
     let shortest = smaller(angles.len(), smaller(ys.len(), zs.len()));
     let count = smaller(BLOCK, shortest);

@@ -3,8 +3,8 @@ ghost use mathlib.Core.Path.{_≡_};
 ghost use Rattle.float.specs.Arctangent.{halved, series, ratio, seriesAngle, quadrantAngle, turnedAngle, arctangent};
 use crate::PI;
 use crate::abs;
-use crate::is_finite;
-use crate::is_sign_negative;
+use crate::arithmetic::is_finite;
+use crate::arithmetic::is_sign_negative;
 use crate::root::sqrt_by_inverse;
 
 // About the cosines of an angle, of its half and of its quarter, from u, the square of its tangent, from 0 to 1: to 5e-7,

@@ -5,7 +5,7 @@ ghost use Rattle.float.specs.Arithmetic.{fullTurn, signBitOf, absOf, fin
 use crate::PI;
 
 // Whether the sign bit is set. A NaN's is not read: false.
-pub fn is_sign_negative(x: f64) -> bool
+pub(crate) fn is_sign_negative(x: f64) -> bool
     ensures { λ r. ⌜ r ≡ signBitOf x ⌝ }
 {
     if x != x {
@@ -25,7 +25,7 @@ pub fn abs(x: f64) -> f64
 }
 
 // Whether x is neither an infinity nor a NaN.
-pub fn is_finite(x: f64) -> bool
+pub(crate) fn is_finite(x: f64) -> bool
     ensures { λ r. ⌜ r ≡ finite x ⌝ }
 {
     abs(x) < 1.0 / 0.0
@@ -40,7 +40,7 @@ pub fn rem_euclid(a: f64, b: f64) -> f64
 }
 
 // x % 360, without a division where x lies between -360 and 720.
-pub fn rem_turn(x: f64) -> f64
+fn rem_turn(x: f64) -> f64
     ensures { λ r. ⌜ r ≡ rem binary64 x fullTurn ⌝ }
 {
     if x > -360.0 {

@@ -11,12 +11,9 @@ pub use angles::atan2_each;
 pub use arctangent::atan2;
 pub use arithmetic::abs;
 pub use arithmetic::bits;
-pub use arithmetic::is_finite;
-pub use arithmetic::is_sign_negative;
 pub use arithmetic::of_bits;
 pub use arithmetic::rem_euclid;
 pub use arithmetic::rem_euclid_turn;
-pub use arithmetic::rem_turn;
 pub use arithmetic::to_degrees;
 pub use root::sqrt;
 

@@ -7,7 +7,8 @@ ghost use mathlib.Core.Bool.{true, false};
 ghost use Prim.Native.Nat.{_+_, _*_, _/_, _%_, _^_, _<_, _≤_};
 ghost use lib.Dec.{eqb};
 ghost use lib.Ieee.{binary64, nearest, units};
-ghost use Rattle.float.specs.Root.{isqrt, sqrtOf, operandOf, pairedOf, scaledOf, halfway, roundedRoot};
+ghost use Rattle.float.specs.Root.{isqrt, sqrtOf};
+ghost use Rattle.float.specs.RootSteps.{operandOf, pairedOf, scaledOf, halfway, roundedRoot};
 use std::num::wrapping_sub_u64;
 
 // What the root of an operand asks: nothing more, or the root of a number finite and above 0.

@@ -14,24 +14,24 @@ use Rattle.buffers.proofs.Lent.{length-put}
 use Rattle.buffers.proofs.Refusal.{written-none, written-some}
 use Rattle.buffers.proofs.Tests.{or-left, or-right}
 use Rattle.roll_sweep.specs.Sweep.{Sweep, cells, chunks}
-use Rattle.journal.specs.Lines.{lineOf, hasChunk}
+use Rattle.journal.specs.Lines.{lineLength, lineOf, hasChunk}
 use Rattle.journal.specs.Right.{wholeLines, torn, right}
 use Rattle.journal.specs.Calls.{wrong, workRefusal, workBytes}
-use Rattle.journal.specs.Pass.{Flags, Ready}
+use Rattle.journal.specs.Pass.{mostChunks, Flags, Ready}
 use Rattle.journal.specs.Range.{Ran, ranTo, oneMore, ran}
 use Rattle.journal.proofs.Chains.{work-9, work-10, work-7, work-0, work-clear}
 use Rattle.journal.proofs.Scan.{chunks-le, flag-zero, flag-some}
-use Rattle.journal.proofs.Written.{Accepted, length-line}
+use Rattle.journal.proofs.Written.{SweepFacts, length-line}
 use Rattle.journal.proofs.Appended.{torn-more, length-more, has-more, right-more}
 
 -- ---- the chunks, one by one
 
 module _ (s : Sweep) (b : List ℕ) (u c : ℕ) where
-  pub ran-next : (m : ℕ) → workRefusal s c b u ≡ 0 → ran s (suc m) (ranTo b u c) ≡ ran s m (ranTo (put u (lineOf s c) b) (u + 33) (c + 1))
+  pub ran-next : (m : ℕ) → workRefusal s c b u ≡ 0 → ran s (suc m) (ranTo b u c) ≡ ran s m (ranTo (put u (lineOf s c) b) (u + lineLength) (c + 1))
   unfolding ran oneMore workBytes
   ran-next m e =
       written-none (workRefusal s c b u) (ran s m (oneMore s (ranTo b u c))) (ranTo b u c) e
-      ∙ ap (λ (o : List ℕ). ran s m (ranTo o (u + 33) (c + 1))) (written-none (workRefusal s c b u) (put u (lineOf s c) b) b e)
+      ∙ ap (λ (o : List ℕ). ran s m (ranTo o (u + lineLength) (c + 1))) (written-none (workRefusal s c b u) (put u (lineOf s c) b) b e)
 
   pub ran-stop : (m : ℕ) → 0 < workRefusal s c b u → ran s m (ranTo b u c) ≡ ranTo b u c
   unfolding ran
@@ -46,7 +46,7 @@ take-before i t b h = take-at (take i b) (t ++ drop (i + length t) b) i (length-
 -- what holds of a range wherever it stopped: each chunk took 33 bytes, and there was room for them
 pub record Came (b : List ℕ) (u c : ℕ) (r : Ran) : Type 0 where
   pub since : c ≤ r .next
-  pub used : r .used ≡ u + 33 * (r .next - c)
+  pub used : r .used ≡ u + lineLength * (r .next - c)
   pub within : r .used ≤ length b
   pub room : length (r .bytes) ≡ length b
 
@@ -55,7 +55,7 @@ came-here : (b : List ℕ) (u c : ℕ) → u ≤ length b → Came b u c (ranTo 
 came-here b u c h = record { since = omega arith; used = omega arith; within = h; room = refl }
 
 -- one chunk, and then more
-came-next : (s : Sweep) (b : List ℕ) (u c : ℕ) (r : Ran) → u + 33 ≤ length b → Came (put u (lineOf s c) b) (u + 33) (c + 1) r → Came b u c r
+came-next : (s : Sweep) (b : List ℕ) (u c : ℕ) (r : Ran) → u + lineLength ≤ length b → Came (put u (lineOf s c) b) (u + lineLength) (c + 1) r → Came b u c r
 came-next s b u c r h f =
     let n : length (put u (lineOf s c) b) ≡ length b = length-put u (lineOf s c) b (omega (arith, length-line s c)) in
     record { since = omega (arith, f .since); used = omega (arith, f .used, f .since); within = omega (arith, f .within); room = f .room ∙ n }
@@ -63,11 +63,11 @@ came-next s b u c r h f =
 pub came : (s : Sweep) (m : ℕ) (b : List ℕ) (u c : ℕ) → u ≤ length b → Came b u c (ran s m (ranTo b u c))
 unfolding ran
 came s zero b u c h = came-here b u c h
-came s (suc m) b u c h = go (workRefusal s c b u) refl (λ g. came s m (put u (lineOf s c) b) (u + 33) (c + 1) (omega (arith, g, length-put u (lineOf s c) b (omega (arith, g, length-line s c)))))
+came s (suc m) b u c h = go (workRefusal s c b u) refl (λ g. came s m (put u (lineOf s c) b) (u + lineLength) (c + 1) (omega (arith, g, length-put u (lineOf s c) b (omega (arith, g, length-line s c)))))
   where
-    go : (k : ℕ) → workRefusal s c b u ≡ k → (u + 33 ≤ length b → Came (put u (lineOf s c) b) (u + 33) (c + 1) (ran s m (ranTo (put u (lineOf s c) b) (u + 33) (c + 1)))) → Came b u c (ran s (suc m) (ranTo b u c))
+    go : (k : ℕ) → workRefusal s c b u ≡ k → (u + lineLength ≤ length b → Came (put u (lineOf s c) b) (u + lineLength) (c + 1) (ran s m (ranTo (put u (lineOf s c) b) (u + lineLength) (c + 1)))) → Came b u c (ran s (suc m) (ranTo b u c))
     go zero e more =
-        let room : u + 33 ≤ length b = (work-clear s b u c e) .room in
+        let room : u + lineLength ≤ length b = (work-clear s b u c e) .room in
         subst (Came b u c) (sym (ran-next s b u c m e)) (came-next s b u c _ room (more room))
     go (suc k) e more = subst (Came b u c) (sym (ran-stop s b u c (suc m) (omega arith))) (came-here b u c h)
 
@@ -75,24 +75,24 @@ came s (suc m) b u c h = go (workRefusal s c b u) refl (λ g. came s m (put u (l
 pub ran-keeps : (s : Sweep) (m : ℕ) (b : List ℕ) (u c : ℕ) → u ≤ length b → take u ((ran s m (ranTo b u c)) .bytes) ≡ take u b
 unfolding ran
 ran-keeps s zero b u c h = refl
-ran-keeps s (suc m) b u c h = go (workRefusal s c b u) refl (λ g. ran-keeps s m (put u (lineOf s c) b) (u + 33) (c + 1) (omega (arith, g, length-put u (lineOf s c) b (omega (arith, g, length-line s c)))))
+ran-keeps s (suc m) b u c h = go (workRefusal s c b u) refl (λ g. ran-keeps s m (put u (lineOf s c) b) (u + lineLength) (c + 1) (omega (arith, g, length-put u (lineOf s c) b (omega (arith, g, length-line s c)))))
   where
     go : (k : ℕ) → workRefusal s c b u ≡ k
-        → (u + 33 ≤ length b → take (u + 33) ((ran s m (ranTo (put u (lineOf s c) b) (u + 33) (c + 1))) .bytes) ≡ take (u + 33) (put u (lineOf s c) b))
+        → (u + lineLength ≤ length b → take (u + lineLength) ((ran s m (ranTo (put u (lineOf s c) b) (u + lineLength) (c + 1))) .bytes) ≡ take (u + lineLength) (put u (lineOf s c) b))
         → take u ((ran s (suc m) (ranTo b u c)) .bytes) ≡ take u b
     go zero e more =
-        let room : u + 33 ≤ length b = (work-clear s b u c e) .room in
+        let room : u + lineLength ≤ length b = (work-clear s b u c e) .room in
         let o : List ℕ = put u (lineOf s c) b in
-        let r : List ℕ = (ran s m (ranTo o (u + 33) (c + 1))) .bytes in
+        let r : List ℕ = (ran s m (ranTo o (u + lineLength) (c + 1))) .bytes in
         ap (λ (x : Ran). take u (x .bytes)) (ran-next s b u c m e)
-        ∙ sym (take-take u (u + 33) r (omega arith))
+        ∙ sym (take-take u (u + lineLength) r (omega arith))
         ∙ ap (take u) (more room)
-        ∙ take-take u (u + 33) o (omega arith)
+        ∙ take-take u (u + lineLength) o (omega arith)
         ∙ take-before u (lineOf s c) b h
     go (suc k) e more = ap (λ (x : Ran). take u (x .bytes)) (ran-stop s b u c (suc m) (omega arith))
 
 -- a range of one chunk is its work
-pub ran-one : (s : Sweep) (b : List ℕ) (u c : ℕ) → workRefusal s c b u ≡ 0 → ran s (c + 1 - c) (ranTo b u c) ≡ ranTo (workBytes s c b u) (u + 33) (c + 1)
+pub ran-one : (s : Sweep) (b : List ℕ) (u c : ℕ) → workRefusal s c b u ≡ 0 → ran s (c + 1 - c) (ranTo b u c) ≡ ranTo (workBytes s c b u) (u + lineLength) (c + 1)
 unfolding ran oneMore
 ran-one s b u c e =
     let n : c + 1 - c ≡ 1 = omega arith in
@@ -102,14 +102,14 @@ ran-one s b u c e =
 
 pub record Along (s : Sweep) (from to : ℕ) (seen b₀ : List ℕ) (u₀ c : ℕ) (b : List ℕ) (u : ℕ) : Type 0 where
   pub since : from ≤ c
-  pub used : u ≡ u₀ + 33 * (c - from)
+  pub used : u ≡ u₀ + lineLength * (c - from)
   pub within : u ≤ length b
   pub room : length b ≡ length b₀
   pub is-right : right (cells s) (s .samples) (s .header) b u ≡ true
   pub whole : torn u ≡ false
   -- the flags of the chunks to come
-  pub count : length seen ≡ 16384
-  pub flags : (d : ℕ) → c ≤ d → d < 16384 → getD seen d 0 ≡ flag (hasChunk b (wholeLines u) d)
+  pub count : length seen ≡ mostChunks
+  pub flags : (d : ℕ) → c ≤ d → d < mostChunks → getD seen d 0 ≡ flag (hasChunk b (wholeLines u) d)
   pub rest : ran s (to - c) (ranTo b u c) ≡ ran s (to - from) (ranTo b₀ u₀ from)
 
 -- the journal after work's checks
@@ -118,9 +118,9 @@ ready s b u c seen e f = let q = work-clear s b u c e in record { plan = q .plan
 
 -- work refuses the next chunk: it does not exist, it has a line, or there is no room
 abbrev pub isRefused : ℕ → List ℕ → ℕ → ℕ → Bool
-isRefused m seen free c = leb m c || (not (eqb (getD seen c 0) 0) || ltb free 33)
+isRefused m seen free c = leb m c || (not (eqb (getD seen c 0) 0) || ltb free lineLength)
 
-module _ (s : Sweep) (a : Accepted s) (from to : ℕ) (seen b₀ : List ℕ) (u₀ : ℕ) where
+module _ (s : Sweep) (a : SweepFacts s) (from to : ℕ) (seen b₀ : List ℕ) (u₀ : ℕ) where
   pub along-start : Ready s b₀ u₀ seen → u₀ ≤ length b₀ → Along s from to seen b₀ u₀ from b₀ u₀
   unfolding wrong
   along-start r h = record {
@@ -148,7 +148,7 @@ module _ (s : Sweep) (a : Accepted s) (from to : ℕ) (seen b₀ : List ℕ) (u�
     next-flag h = t .flags c (omega arith) (omega (arith, chunks-le (cells s) (a .few)))
 
     -- the next chunk is refused
-    refused-by : (x y z : Bool) → leb (chunks (cells s)) c ≡ x → not (eqb (getD seen c 0) 0) ≡ y → ltb (length b - u) 33 ≡ z → x || (y || z) ≡ true → 0 < workRefusal s c b u
+    refused-by : (x y z : Bool) → leb (chunks (cells s)) c ≡ x → not (eqb (getD seen c 0) 0) ≡ y → ltb (length b - u) lineLength ≡ z → x || (y || z) ≡ true → 0 < workRefusal s c b u
     refused-by true y z ex ey ez h = omega (arith, work-9 s b u c plan-passes (leb-true (chunks (cells s)) c ex))
     refused-by false true z ex ey ez h =
         let g = leb-false (chunks (cells s)) c ex in
@@ -157,7 +157,7 @@ module _ (s : Sweep) (a : Accepted s) (from to : ℕ) (seen b₀ : List ℕ) (u�
     refused-by false false true ex ey ez h =
         let g = leb-false (chunks (cells s)) c ex in
         let new = flag-zero (hasChunk b (wholeLines u) c) (sym (next-flag g) ∙ eqb-true (getD seen c 0) 0 (not-false (eqb (getD seen c 0) 0) ey)) in
-        omega (arith, work-7 s b u c plan-passes g not-wrong (t .whole) new (omega (arith, ltb-true (length b - u) 33 ez, t .within)))
+        omega (arith, work-7 s b u c plan-passes g not-wrong (t .whole) new (omega (arith, ltb-true (length b - u) lineLength ez, t .within)))
     refused-by false false false ex ey ez h = absurd (false≢true h)
 
     pub along-stop : isRefused (chunks (cells s)) seen (length b - u) c ≡ true → ranTo b u c ≡ ran s (to - from) (ranTo b₀ u₀ from)
@@ -166,22 +166,22 @@ module _ (s : Sweep) (a : Accepted s) (from to : ℕ) (seen b₀ : List ℕ) (u�
     -- the next chunk is not refused
     module _ (h : isRefused (chunks (cells s)) seen (length b - u) c ≡ false) where
       pub next-exists : c < chunks (cells s)
-      next-exists = leb-false (chunks (cells s)) c (or-left (leb (chunks (cells s)) c) (not (eqb (getD seen c 0) 0) || ltb (length b - u) 33) h)
+      next-exists = leb-false (chunks (cells s)) c (or-left (leb (chunks (cells s)) c) (not (eqb (getD seen c 0) 0) || ltb (length b - u) lineLength) h)
 
-      pub next-room : u + 33 ≤ length b
+      pub next-room : u + lineLength ≤ length b
       next-room =
-          let r = or-right (leb (chunks (cells s)) c) (not (eqb (getD seen c 0) 0) || ltb (length b - u) 33) h in
-          omega (arith, ltb-false (length b - u) 33 (or-right (not (eqb (getD seen c 0) 0)) (ltb (length b - u) 33) r), t .within)
+          let r = or-right (leb (chunks (cells s)) c) (not (eqb (getD seen c 0) 0) || ltb (length b - u) lineLength) h in
+          omega (arith, ltb-false (length b - u) lineLength (or-right (not (eqb (getD seen c 0) 0)) (ltb (length b - u) lineLength) r), t .within)
 
       next-new : hasChunk b (wholeLines u) c ≡ false
       next-new =
-          let r = or-right (leb (chunks (cells s)) c) (not (eqb (getD seen c 0) 0) || ltb (length b - u) 33) h in
+          let r = or-right (leb (chunks (cells s)) c) (not (eqb (getD seen c 0) 0) || ltb (length b - u) lineLength) h in
           flag-zero (hasChunk b (wholeLines u) c)
-          (sym (next-flag next-exists) ∙ eqb-true (getD seen c 0) 0 (not-false (eqb (getD seen c 0) 0) (or-left (not (eqb (getD seen c 0) 0)) (ltb (length b - u) 33) r)))
+          (sym (next-flag next-exists) ∙ eqb-true (getD seen c 0) 0 (not-false (eqb (getD seen c 0) 0) (or-left (not (eqb (getD seen c 0) 0)) (ltb (length b - u) lineLength) r)))
 
       -- its line is appended
-      pub along-next : (o : List ℕ) → c < to → o ≡ put u (lineOf s c) b → Along s from to seen b₀ u₀ (c + 1) o (u + 33)
-      along-next o l e = subst (λ (x : List ℕ). Along s from to seen b₀ u₀ (c + 1) x (u + 33)) (sym e) (record {
+      pub along-next : (o : List ℕ) → c < to → o ≡ put u (lineOf s c) b → Along s from to seen b₀ u₀ (c + 1) o (u + lineLength)
+      along-next o l e = subst (λ (x : List ℕ). Along s from to seen b₀ u₀ (c + 1) x (u + lineLength)) (sym e) (record {
         since = omega (arith, t .since);
         used = omega (arith, t .used, t .since);
         within = omega (arith, length-more s a b u c (t .whole) next-exists next-room, next-room);

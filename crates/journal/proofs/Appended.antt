@@ -15,9 +15,9 @@ use Rattle.buffers.proofs.Ranges.{any-ext, any-step, all-ext, all-step}
 use Rattle.buffers.proofs.Tests.{and-left, and-right, and-both, or-left, or-right, or-none}
 use Rattle.roll_sweep.specs.Sweep.{Sweep, cells, chunks}
 use Rattle.journal.specs.Hex.{areDigits, hexValue, digitValue, isDigit}
-use Rattle.journal.specs.Lines.{lineOf, lineStart, chunkAt, maskAt, probesAt, hasChunk}
-use Rattle.journal.specs.Right.{wholeLines, torn, agree, possible, lineFits, lineRight, linesRight, right}
-use Rattle.journal.proofs.Written.{Accepted, length-line, LineAt, read-line, line-right}
+use Rattle.journal.specs.Lines.{lineLength, headerLength, lineOf, lineStart, chunkAt, maskAt, probesAt, hasChunk}
+use Rattle.journal.specs.Right.{wholeLines, torn, agree, possible, lineAt, fits, lineFits, lineRight, linesRight, right}
+use Rattle.journal.proofs.Written.{SweepFacts, length-line, LineAt, read-line, line-right}
 
 -- ---- two buffers with the same first m bytes
 
@@ -41,16 +41,16 @@ module _ (m : ℕ) (b d : List ℕ) (e : Same m b d) where
   module _ (l : ℕ) where
     chunk-same : lineStart (l + 1) ≤ m → chunkAt b l ≡ chunkAt d l
     unfolding chunkAt lineStart
-    chunk-same h = value-same (107 + 33 * l) 8 (omega arith)
+    chunk-same h = value-same (headerLength + lineLength * l) 8 (omega arith)
 
     has-same : (c : ℕ) → lineStart l ≤ m → hasChunk b l c ≡ hasChunk d l c
     unfolding hasChunk lineStart chunkAt
-    has-same c h = any-ext l _ (λ j. eqb (chunkAt d j) c) (λ j g. ap (λ (x : ℕ). eqb x c) (value-same (107 + 33 * j) 8 (omega arith)))
+    has-same c h = any-ext l _ (λ j. eqb (chunkAt d j) c) (λ j g. ap (λ (x : ℕ). eqb x c) (value-same (headerLength + lineLength * j) 8 (omega arith)))
 
     fits-same : (n k : ℕ) → lineStart (l + 1) ≤ m → lineFits n k b l ≡ lineFits n k d l
-    unfolding lineFits chunkAt maskAt probesAt lineStart
+    unfolding fits lineAt chunkAt maskAt probesAt lineStart
     fits-same n k h =
-        let at : ℕ = 107 + 33 * l in
+        let at : ℕ = headerLength + lineLength * l in
         let digits : areDigits b at 32 ≡ areDigits d at 32 = digits-same at 32 (omega arith) in
         let newline : getD b (at + 32) 0 ≡ getD d (at + 32) 0 = e (at + 32) (omega arith) in
         let chunk : hexValue b at 8 ≡ hexValue d at 8 = value-same at 8 (omega arith) in
@@ -74,23 +74,23 @@ module _ (u : ℕ) (w : torn u ≡ false) where
   pub at-line : u ≡ lineStart (wholeLines u)
   unfolding torn lineStart wholeLines
   at-line =
-      let short = ltb-false u 107 (or-left (ltb u 107) (not (eqb ((u - 107) % 33) 0)) w) in
-      let tail = eqb-true ((u - 107) % 33) 0 (not-false (eqb ((u - 107) % 33) 0) (or-right (ltb u 107) (not (eqb ((u - 107) % 33) 0)) w)) in
+      let short = ltb-false u headerLength (or-left (ltb u headerLength) (not (eqb ((u - headerLength) % lineLength) 0)) w) in
+      let tail = eqb-true ((u - headerLength) % lineLength) 0 (not-false (eqb ((u - headerLength) % lineLength) 0) (or-right (ltb u headerLength) (not (eqb ((u - headerLength) % lineLength) 0)) w)) in
       omega arith
 
-  pub line-more : wholeLines (u + 33) ≡ wholeLines u + 1
+  pub line-more : wholeLines (u + lineLength) ≡ wholeLines u + 1
   unfolding wholeLines lineStart
   line-more = omega (arith, at-line)
 
-  pub torn-more : torn (u + 33) ≡ false
+  pub torn-more : torn (u + lineLength) ≡ false
   unfolding torn lineStart wholeLines
   torn-more =
-      or-none (ltb (u + 33) 107) (not (eqb ((u + 33 - 107) % 33) 0)) (le-ltb (u + 33) 107 (omega (arith, at-line)))
-      (ap not (eq-eqb ((u + 33 - 107) % 33) 0 (omega (arith, at-line))))
+      or-none (ltb (u + lineLength) headerLength) (not (eqb ((u + lineLength - headerLength) % lineLength) 0)) (le-ltb (u + lineLength) headerLength (omega (arith, at-line)))
+      (ap not (eq-eqb ((u + lineLength - headerLength) % lineLength) 0 (omega (arith, at-line))))
 
 -- ---- a journal that is right, and work's line of chunk c at its end
 
-module _ (s : Sweep) (a : Accepted s) (b : List ℕ) (u c : ℕ) (w : torn u ≡ false) (exists : c < chunks (cells s)) (room : u + 33 ≤ length b) where
+module _ (s : Sweep) (a : SweepFacts s) (b : List ℕ) (u c : ℕ) (w : torn u ≡ false) (exists : c < chunks (cells s)) (room : u + lineLength ≤ length b) where
   room-for : u + length (lineOf s c) ≤ length b
   room-for = omega (arith, length-line s c)
 
@@ -108,7 +108,7 @@ module _ (s : Sweep) (a : Accepted s) (b : List ℕ) (u c : ℕ) (w : torn u ≡
   has-before d = has-same u _ b before (wholeLines u) d (omega (arith, at-line u w))
 
   -- chunk c has a line more, and no other
-  pub has-more : (d : ℕ) → hasChunk (put u (lineOf s c) b) (wholeLines (u + 33)) d ≡ (hasChunk b (wholeLines u) d || eqb c d)
+  pub has-more : (d : ℕ) → hasChunk (put u (lineOf s c) b) (wholeLines (u + lineLength)) d ≡ (hasChunk b (wholeLines u) d || eqb c d)
   unfolding hasChunk
   has-more d =
       ap (λ (n : ℕ). hasChunk (put u (lineOf s c) b) n d) (line-more u w)
@@ -116,16 +116,16 @@ module _ (s : Sweep) (a : Accepted s) (b : List ℕ) (u c : ℕ) (w : torn u ≡
       ∙ ap₂ (λ (x : Bool) (y : ℕ). x || eqb y d) (has-before d) (line-here .chunk)
 
   pub right-more : right (cells s) (s .samples) (s .header) b u ≡ true → hasChunk b (wholeLines u) c ≡ false
-      → right (cells s) (s .samples) (s .header) (put u (lineOf s c) b) (u + 33) ≡ true
+      → right (cells s) (s .samples) (s .header) (put u (lineOf s c) b) (u + lineLength) ≡ true
   unfolding right linesRight lineStart
   right-more r f =
       let n : ℕ = wholeLines u in
       let o : List ℕ = put u (lineOf s c) b in
-      let e : min u 107 ≡ min (u + 33) 107 = omega (arith, at-line u w) in
-      let header : agree o (s .header) (min (u + 33) 107) ≡ true =
-      ap (agree o (s .header)) (sym e) ∙ agree-same u o b before (s .header) (min u 107) (omega arith) ∙ and-left (agree b (s .header) (min u 107)) (linesRight (cells s) (s .samples) b n) r in
+      let e : min u headerLength ≡ min (u + lineLength) headerLength = omega (arith, at-line u w) in
+      let header : agree o (s .header) (min (u + lineLength) headerLength) ≡ true =
+      ap (agree o (s .header)) (sym e) ∙ agree-same u o b before (s .header) (min u headerLength) (omega arith) ∙ and-left (agree b (s .header) (min u headerLength)) (linesRight (cells s) (s .samples) b n) r in
       let lines : linesRight (cells s) (s .samples) o n ≡ true =
-      lines-same u o b before (cells s) (s .samples) n (omega (arith, at-line u w)) ∙ and-right (agree b (s .header) (min u 107)) (linesRight (cells s) (s .samples) b n) r in
+      lines-same u o b before (cells s) (s .samples) n (omega (arith, at-line u w)) ∙ and-right (agree b (s .header) (min u headerLength)) (linesRight (cells s) (s .samples) b n) r in
       and-both _ _ header
       (ap (linesRight (cells s) (s .samples) o) (line-more u w)
       ∙ all-step n (lineRight (cells s) (s .samples) o)

@@ -11,8 +11,9 @@ use Rattle.buffers.specs.Ranges.{flag, tab, allBelow}
 use Rattle.buffers.specs.Lent.{filled, put}
 use Rattle.buffers.proofs.Ranges.{tab-ext, all-ext}
 use Rattle.buffers.proofs.Lent.{filled-put}
+use Rattle.solar_roll.specs.Plan.{mostCells}
 use Rattle.journal.specs.Lines.{bitOf, hasChunk, hasChunks, heldMask}
-use Rattle.journal.specs.Pass.{Tables}
+use Rattle.journal.specs.Pass.{mostChunks, Tables}
 
 -- one bit less
 pub half-next : (m v k : ℕ) → v ≡ m / 2 ^ k → v / 2 ≡ m / 2 ^ (k + 1)
@@ -43,13 +44,13 @@ not-flag true = refl
 not-flag false = refl
 
 module _ (b seen masks : List ℕ) (l : ℕ) (t : Tables b l seen masks) where
-  pub all-have-lines : (m : ℕ) → m ≤ 16384 → allBelow m (λ c. not (eqb (getD seen c 0) 0)) ≡ hasChunks b l m
+  pub all-have-lines : (m : ℕ) → m ≤ mostChunks → allBelow m (λ c. not (eqb (getD seen c 0) 0)) ≡ hasChunks b l m
   unfolding hasChunks
   all-have-lines m h =
       all-ext m (λ c. not (eqb (getD seen c 0) 0)) (hasChunk b l)
       (λ c k. ap (λ (x : ℕ). not (eqb x 0)) (t .flags .chunk c (omega arith)) ∙ not-flag (hasChunk b l c))
 
-  pub held-bits : (n : ℕ) (o : List ℕ) → n ≤ 1048576 → filled n (cellBit masks) o ≡ filled n (λ i. bitOf (heldMask b l (i / 64)) (i % 64)) o
+  pub held-bits : (n : ℕ) (o : List ℕ) → n ≤ mostCells → filled n (cellBit masks) o ≡ filled n (λ i. bitOf (heldMask b l (i / 64)) (i % 64)) o
   unfolding filled
   held-bits n o h =
       ap (λ (s : List ℕ). s ++ drop n o)

@@ -1,5 +1,5 @@
 -- The refusals of the calls, condition by condition, and what a call answers and leaves by them. Assumes nothing.
-use mathlib.Core.Path.{_≡_, refl, sym, ap, ap₂, _∙_}
+use mathlib.Core.Path.{_≡_, refl, sym, ap, _∙_}
 use mathlib.Core.Bool.{Bool, true, false, not}
 use mathlib.Core.List.{List, [], _∷_}
 use Prim.Native.Nat.{ℕ, zero, suc, _+_, _-_, _≤_, _<_}
@@ -8,25 +8,29 @@ use lib.Dec.{ltb, leb}
 use lib.ListN.{length}
 use borrow.Author.Tests.{lt-ltb, le-ltb, le-leb, lt-leb, eq-eqb, ne-eqb, leb-false, ltb-false}
 use Rattle.buffers.specs.Lent.{filled, put}
-use Rattle.buffers.specs.Refusal.{first, carried, refused, accepted, reply, unlessRefused}
-use Rattle.buffers.proofs.Refusal.{first-none, first-clear, carried-here, carried-skip, carried-clear, reply-none, reply-some, written-none, written-some}
+use Rattle.buffers.specs.Refusal.{Conditions, first, carried, replyOf}
+use Rattle.buffers.specs.declared.Answer.the-variants.{Accepted, Refused}
+use Rattle.buffers.proofs.Refusal.{first-none, first-here, first-skip, first-clear, first-clears, carried-here, carried-skip, carried-clear, written-none, accepted-with, refused-leaves, accepted-leaves}
 use Rattle.roll_sweep.specs.Sweep.{Sweep, cells, chunks}
-use Rattle.journal.specs.Lines.{lineOf, hasChunk, hasChunks, heldProbes}
+use Rattle.journal.specs.Lines.{headerLength, lineLength, lineOf, hasChunk, hasChunks, heldProbes}
 use Rattle.journal.specs.Right.{wholeLines, torn, right}
 use Rattle.journal.specs.Pass.{Passed}
-use Rattle.journal.specs.Calls.{planFirst, wrong, beginShort, workShort, beginRefusal, beginReply, beginBytes, workRefusal, workReply, workBytes, kept, recoverRefusal, recoverReply, collectRefusal, collectReply, heldBit, collectMask}
-use Rattle.journal.specs.Range.{Ran, ranTo, ran, rangeRefusal, rangeRan, rangeReply, rangeBytes, rangeStopped}
+use Rattle.journal.specs.Calls.{afterPlan, wrong, beginShort, beginRefusal, beginReply, beginBytes, workConditions, workRefusal, workReply, workBytes, kept, recoverRefusal, recoverReply, collectRefusal, collectReply, heldBit, collectMask}
+use Rattle.journal.specs.Range.{Ran, ranTo, ran, rangeConditions, rangeRefusal, rangeRan, rangeReply, rangeBytes, rangeStopped}
 
--- work's chain refuses nothing: none of its conditions holds
-chain-clear : (k : ℕ) (x y z v w : Bool) → first (carried k ∷ (x, 9) ∷ (y, 11) ∷ (z, 12) ∷ (v, 10) ∷ (w, 7) ∷ []) ≡ 0
-    → (k ≡ 0) × (x ≡ false) × (y ≡ false) × (z ≡ false) × (v ≡ false) × (w ≡ false)
-chain-clear k x y z v w e =
-    let c0 = carried-clear k ((x, 9) ∷ (y, 11) ∷ (z, 12) ∷ (v, 10) ∷ (w, 7) ∷ []) e in
-    let c1 = first-clear x 9 ((y, 11) ∷ (z, 12) ∷ (v, 10) ∷ (w, 7) ∷ []) (omega arith) (c0 .1) in
-    let c2 = first-clear y 11 ((z, 12) ∷ (v, 10) ∷ (w, 7) ∷ []) (omega arith) (c1 .1) in
-    let c3 = first-clear z 12 ((v, 10) ∷ (w, 7) ∷ []) (omega arith) (c2 .1) in
-    let c4 = first-clear v 10 ((w, 7) ∷ []) (omega arith) (c3 .1) in
-    (c0 .0, c1 .0, c2 .0, c3 .0, c4 .0, first-clear w 7 [] (omega arith) (c4 .1) .0)
+-- ---- the plan's refusal, before a call's own conditions
+
+module _ (s : Sweep) (b : List ℕ) (u : ℕ) (own : Conditions) where
+  -- it is the call's
+  pub plan-refused : (k : ℕ) → k ≡ s .refusal (ltb (length b) u) → (k ≡ 0 → ⊥) → k ≡ first (afterPlan s b u own)
+  plan-refused zero e h = absurd (h refl)
+  plan-refused (suc k) e h = sym (ap (λ (n : ℕ). first (carried n ∷ own)) (sym e) ∙ carried-here (suc k) own (omega arith))
+
+  -- there is none: the call's own decide
+  pub plan-clear : s .refusal (ltb (length b) u) ≡ 0 → first (afterPlan s b u own) ≡ first own
+  plan-clear e = carried-skip _ own e
+
+-- ---- condition by condition
 
 -- what is known where work refuses nothing
 pub record WorkClear (s : Sweep) (c : ℕ) (b : List ℕ) (u : ℕ) : Type 0 where
@@ -35,54 +39,40 @@ pub record WorkClear (s : Sweep) (c : ℕ) (b : List ℕ) (u : ℕ) : Type 0 whe
   pub right : wrong s b u ≡ false
   pub whole : torn u ≡ false
   pub new : hasChunk b (wholeLines u) c ≡ false
-  pub room : u + 33 ≤ length b
+  pub room : u + lineLength ≤ length b
 
 -- by the sweep's cells, samples and header
-pub wrong-of : (s : Sweep) (n k : ℕ) (h b : List ℕ) (u : ℕ) (t : Bool) → Passed s n k h b u → right n k h b u ≡ t → wrong s b u ≡ not t
+pub wrong-of : (s : Sweep) (n k : ℕ) (h b : List ℕ) (u : ℕ) (t : Bool) → Passed s n k h (length b) u → right n k h b u ≡ t → wrong s b u ≡ not t
 unfolding wrong
 wrong-of s n k h b u t p e = ap not ((λ i. right (p .all i) (p .samples i) (p .header i) b u) ∙ e)
 
 module _ (s : Sweep) (b : List ℕ) (u : ℕ) where
   -- ---- begin
 
-  pub begin-plan : (k : ℕ) → k ≡ s .refusal (ltb (length b) u) → 0 < k → beginRefusal s b u ≡ k
-  unfolding beginRefusal
-  begin-plan k e h = simp (sym e, ne-eqb k 0 (λ z. omega arith))
-
   module _ (p : s .refusal (ltb (length b) u) ≡ 0) where
     pub begin-13 : (u ≡ 0 → ⊥) → beginRefusal s b u ≡ 13
     unfolding beginRefusal
     begin-13 h = simp (p, ne-eqb u 0 h)
 
-    pub begin-7 : u ≡ 0 → length b < 107 → beginRefusal s b u ≡ 7
+    pub begin-7 : u ≡ 0 → length b < headerLength → beginRefusal s b u ≡ 7
     unfolding beginRefusal beginShort
-    begin-7 z h = simp (p, eq-eqb u 0 z, lt-ltb (length b) 107 h)
+    begin-7 z h = simp (p, eq-eqb u 0 z, lt-ltb (length b) headerLength h)
 
-    pub begin-0 : u ≡ 0 → 107 ≤ length b → beginRefusal s b u ≡ 0
+    pub begin-0 : u ≡ 0 → headerLength ≤ length b → beginRefusal s b u ≡ 0
     unfolding beginRefusal beginShort
-    begin-0 z h = simp (p, eq-eqb u 0 z, le-ltb (length b) 107 h)
+    begin-0 z h = simp (p, eq-eqb u 0 z, le-ltb (length b) headerLength h)
 
-  pub begin-refused : (k : ℕ) → 0 < k → beginRefusal s b u ≡ k → (refused k ≡ beginReply s b u) × (b ≡ beginBytes s b u)
+  pub begin-refused : (k : ℕ) → k ≡ beginRefusal s b u → (k ≡ 0 → ⊥) → (replyOf (Refused k) ≡ beginReply s b u) × (b ≡ beginBytes s b u)
   unfolding beginReply beginBytes
-  begin-refused k h e = (
-    sym (ap (λ (n : ℕ). reply n 107) e ∙ reply-some k 107 h),
-    sym (ap (λ (n : ℕ). unlessRefused n (put 0 (s .header) b) b) e ∙ written-some k (put 0 (s .header) b) b h),
-  )
+  begin-refused k e h = refused-leaves k _ headerLength (put 0 (s .header) b) b e h
 
-  pub begin-accepted : (o : List ℕ) → o ≡ put 0 (s .header) b → beginRefusal s b u ≡ 0 → (accepted 107 ≡ beginReply s b u) × (o ≡ beginBytes s b u)
+  pub begin-accepted : (o : List ℕ) → o ≡ put 0 (s .header) b → beginRefusal s b u ≡ 0 → (replyOf (Accepted headerLength) ≡ beginReply s b u) × (o ≡ beginBytes s b u)
   unfolding beginReply beginBytes
-  begin-accepted o w e = (
-    sym (reply-none (beginRefusal s b u) 107 e),
-    w ∙ sym (written-none (beginRefusal s b u) (put 0 (s .header) b) b e),
-  )
+  begin-accepted o w e = accepted-leaves 0 _ headerLength (put 0 (s .header) b) b o (sym e) refl w
 
   -- ---- work
 
   module _ (c : ℕ) where
-    pub work-plan : (k : ℕ) → k ≡ s .refusal (ltb (length b) u) → 0 < k → workRefusal s c b u ≡ k
-    unfolding workRefusal
-    work-plan k e h = simp (sym e, ne-eqb k 0 (λ z. omega arith))
-
     module _ (p : s .refusal (ltb (length b) u) ≡ 0) where
       pub work-9 : chunks (cells s) ≤ c → workRefusal s c b u ≡ 9
       unfolding workRefusal
@@ -104,33 +94,37 @@ module _ (s : Sweep) (b : List ℕ) (u : ℕ) where
             work-10 a = simp (p, lt-leb (chunks (cells s)) c g, w, t, a)
 
             module _ (a : hasChunk b (wholeLines u) c ≡ false) where
-              pub work-7 : length b < u + 33 → workRefusal s c b u ≡ 7
+              pub work-7 : length b < u + lineLength → workRefusal s c b u ≡ 7
               unfolding workRefusal
-              work-7 h = simp (p, lt-leb (chunks (cells s)) c g, w, t, a, lt-ltb (length b) (u + 33) h)
+              work-7 h = simp (p, lt-leb (chunks (cells s)) c g, w, t, a, lt-ltb (length b) (u + lineLength) h)
 
-              pub work-0 : u + 33 ≤ length b → workRefusal s c b u ≡ 0
+              pub work-0 : u + lineLength ≤ length b → workRefusal s c b u ≡ 0
               unfolding workRefusal
-              work-0 h = simp (p, lt-leb (chunks (cells s)) c g, w, t, a, le-ltb (length b) (u + 33) h)
+              work-0 h = simp (p, lt-leb (chunks (cells s)) c g, w, t, a, le-ltb (length b) (u + lineLength) h)
 
     pub work-clear : workRefusal s c b u ≡ 0 → WorkClear s c b u
     unfolding workRefusal
     work-clear e =
-        let q =
-        chain-clear (s .refusal (ltb (length b) u)) (leb (chunks (cells s)) c) (wrong s b u) (torn u) (hasChunk b (wholeLines u) c) (workShort (length b) u) e in
-        record { plan = q .0; exists = leb-false (chunks (cells s)) c (q .1); right = q .2; whole = q .3; new = q .4; room = ltb-false (length b) (u + 33) (q .5) }
+        let p = carried-clear (s .refusal (ltb (length b) u)) (workConditions s c b u) e in
+        let q = first-clears (workConditions s c b u) refl (p .1) in
+        record {
+          plan = p .0;
+          exists = leb-false (chunks (cells s)) c (q .0);
+          right = q .1 .0;
+          whole = q .1 .1 .0;
+          new = q .1 .1 .1 .0;
+          room = ltb-false (length b) (u + lineLength) (q .1 .1 .1 .1 .0);
+        }
 
-    pub work-refused : (k : ℕ) → 0 < k → workRefusal s c b u ≡ k → (refused k ≡ workReply s c b u) × (b ≡ workBytes s c b u)
+    pub work-refused : (k : ℕ) → k ≡ workRefusal s c b u → (k ≡ 0 → ⊥) → (replyOf (Refused k) ≡ workReply s c b u) × (b ≡ workBytes s c b u)
     unfolding workReply workBytes
-    work-refused k h e = (
-      sym (ap (λ (n : ℕ). reply n (u + 33)) e ∙ reply-some k (u + 33) h),
-      sym (ap (λ (n : ℕ). unlessRefused n (put u (lineOf s c) b) b) e ∙ written-some k (put u (lineOf s c) b) b h),
-    )
+    work-refused k e h = refused-leaves k _ (u + lineLength) (put u (lineOf s c) b) b e h
+
+    pub work-accepted : workRefusal s c b u ≡ 0 → replyOf (Accepted (u + lineLength)) ≡ workReply s c b u
+    unfolding workReply
+    work-accepted e = accepted-with (u + lineLength) _ _ e refl
 
   -- ---- recover
-
-  pub recover-plan : (k : ℕ) → k ≡ s .refusal (ltb (length b) u) → 0 < k → recoverRefusal s b u ≡ k
-  unfolding recoverRefusal
-  recover-plan k e h = simp (sym e, ne-eqb k 0 (λ z. omega arith))
 
   module _ (p : s .refusal (ltb (length b) u) ≡ 0) where
     pub recover-11 : wrong s b u ≡ true → recoverRefusal s b u ≡ 11
@@ -141,21 +135,17 @@ module _ (s : Sweep) (b : List ℕ) (u : ℕ) where
     unfolding recoverRefusal
     recover-0 w = simp (p, w)
 
-  pub recover-refused : (k : ℕ) → 0 < k → recoverRefusal s b u ≡ k → refused k ≡ recoverReply s b u
+  pub recover-refused : (k : ℕ) → k ≡ recoverRefusal s b u → (k ≡ 0 → ⊥) → replyOf (Refused k) ≡ recoverReply s b u
   unfolding recoverReply
-  recover-refused k h e = sym (ap (λ (n : ℕ). reply n (kept u)) e ∙ reply-some k (kept u) h)
+  recover-refused k e h = refused-leaves k _ (kept u) b b e h .0
 
-  pub recover-accepted : (k : ℕ) → k ≡ kept u → recoverRefusal s b u ≡ 0 → accepted k ≡ recoverReply s b u
+  pub recover-accepted : (k : ℕ) → k ≡ kept u → recoverRefusal s b u ≡ 0 → replyOf (Accepted k) ≡ recoverReply s b u
   unfolding recoverReply
-  recover-accepted k f e = ap (λ (n : ℕ). accepted n) f ∙ sym (reply-none (recoverRefusal s b u) (kept u) e)
+  recover-accepted k f e = accepted-with k _ _ e f
 
   -- ---- collect
 
   module _ (o : List ℕ) where
-    pub collect-plan : (k : ℕ) → k ≡ s .refusal (ltb (length b) u) → 0 < k → collectRefusal s b u o ≡ k
-    unfolding collectRefusal
-    collect-plan k e h = simp (sym e, ne-eqb k 0 (λ z. omega arith))
-
     module _ (p : s .refusal (ltb (length b) u) ≡ 0) where
       pub collect-11 : wrong s b u ≡ true → collectRefusal s b u o ≡ 11
       unfolding collectRefusal
@@ -180,20 +170,14 @@ module _ (s : Sweep) (b : List ℕ) (u : ℕ) where
             unfolding collectRefusal
             collect-0 h = simp (p, w, t, a, le-ltb (length o) (cells s) h)
 
-    pub collect-refused : (k : ℕ) → 0 < k → collectRefusal s b u o ≡ k → (refused k ≡ collectReply s b u o) × (o ≡ collectMask s b u o)
+    pub collect-refused : (k : ℕ) → k ≡ collectRefusal s b u o → (k ≡ 0 → ⊥) → (replyOf (Refused k) ≡ collectReply s b u o) × (o ≡ collectMask s b u o)
     unfolding collectReply collectMask
-    collect-refused k h e = (
-      sym (ap (λ (n : ℕ). reply n (heldProbes b (wholeLines u))) e ∙ reply-some k (heldProbes b (wholeLines u)) h),
-      sym (ap (λ (n : ℕ). unlessRefused n (filled (cells s) (heldBit b u) o) o) e ∙ written-some k (filled (cells s) (heldBit b u) o) o h),
-    )
+    collect-refused k e h = refused-leaves k _ (heldProbes b (wholeLines u)) (filled (cells s) (heldBit b u) o) o e h
 
     pub collect-accepted : (q : ℕ) (m : List ℕ) → q ≡ heldProbes b (wholeLines u) → m ≡ filled (cells s) (heldBit b u) o → collectRefusal s b u o ≡ 0
-        → (accepted q ≡ collectReply s b u o) × (m ≡ collectMask s b u o)
+        → (replyOf (Accepted q) ≡ collectReply s b u o) × (m ≡ collectMask s b u o)
     unfolding collectReply collectMask
-    collect-accepted q m f g e = (
-      ap (λ (n : ℕ). accepted n) f ∙ sym (reply-none (collectRefusal s b u o) (heldProbes b (wholeLines u)) e),
-      g ∙ sym (written-none (collectRefusal s b u o) (filled (cells s) (heldBit b u) o) o e),
-    )
+    collect-accepted q m f g e = (accepted-with q _ _ e f, g ∙ sym (written-none _ _ o e))
 
 -- ---- work over a range
 
@@ -202,36 +186,41 @@ carried-only zero = carried-skip 0 [] refl ∙ first-none
 carried-only (suc k) = carried-here (suc k) [] (omega arith)
 
 module _ (s : Sweep) (from to : ℕ) (b : List ℕ) (u : ℕ) where
-  pub range-plan : (k : ℕ) → k ≡ s .refusal (ltb (length b) u) → 0 < k → rangeRefusal s from to b u ≡ k
-  unfolding rangeRefusal
-  range-plan k e h = simp (sym e, ne-eqb k 0 (λ z. omega arith))
-
   module _ (p : s .refusal (ltb (length b) u) ≡ 0) where
     pub range-9 : to ≤ from → rangeRefusal s from to b u ≡ 9
     unfolding rangeRefusal
-    range-9 h = simp (p, le-leb to from h)
+    range-9 h = plan-clear s b u (rangeConditions s from to b u) p ∙ first-here (leb to from) 9 (carried (workRefusal s from b u) ∷ []) (le-leb to from h)
 
     pub range-work : from < to → rangeRefusal s from to b u ≡ workRefusal s from b u
-    unfolding rangeRefusal planFirst
-    range-work h = ap₂ (λ (k : ℕ) (t : Bool). first (carried k ∷ (t, 9) ∷ carried (workRefusal s from b u) ∷ [])) p (lt-leb to from h) ∙ carried-only (workRefusal s from b u)
+    unfolding rangeRefusal
+    range-work h =
+        plan-clear s b u (rangeConditions s from to b u) p
+        ∙ first-skip (leb to from) 9 (carried (workRefusal s from b u) ∷ []) (lt-leb to from h)
+        ∙ carried-only (workRefusal s from b u)
 
+  -- a range that is not refused has a chunk, and its work is not refused
+  pub range-clear : rangeRefusal s from to b u ≡ 0 → (from < to) × (workRefusal s from b u ≡ 0)
+  unfolding rangeRefusal
+  range-clear e =
+      let p = carried-clear (s .refusal (ltb (length b) u)) (rangeConditions s from to b u) e in
+      let q = first-clear (leb to from) 9 (carried (workRefusal s from b u) ∷ []) (omega arith) (p .1) in
+      (leb-false to from (q .0), carried-clear (workRefusal s from b u) [] (q .1) .0)
+
+  -- what the call answers and leaves, with the lent number
   module _ (old : ℕ) where
-    pub range-refused : (k : ℕ) → 0 < k → rangeRefusal s from to b u ≡ k
-        → (refused k ≡ rangeReply s from to b u) × (b ≡ rangeBytes s from to b u) × (old ≡ rangeStopped s from to b u old)
+    pub range-refused : (k : ℕ) → k ≡ rangeRefusal s from to b u → (k ≡ 0 → ⊥)
+        → (replyOf (Refused k) ≡ rangeReply s from to b u) × (b ≡ rangeBytes s from to b u) × (old ≡ rangeStopped s from to b u old)
     unfolding rangeReply rangeBytes rangeStopped
-    range-refused k h e =
-        let r : Ran = rangeRan s from to b u in (
-          sym (ap (λ (n : ℕ). reply n (r .used)) e ∙ reply-some k (r .used) h),
-          sym (ap (λ (n : ℕ). unlessRefused n (r .bytes) b) e ∙ written-some k (r .bytes) b h),
-          sym (ap (λ (n : ℕ). unlessRefused n (r .next) old) e ∙ written-some k (r .next) old h),
-        )
+    range-refused k e h =
+        let r : Ran = rangeRan s from to b u in
+        let q = refused-leaves k _ (r .used) (r .bytes) b e h in
+        (q .0, q .1, refused-leaves k _ 0 (r .next) old e h .1)
 
     pub range-accepted : (o : List ℕ) (v c : ℕ) → ranTo o v c ≡ ran s (to - from) (ranTo b u from) → rangeRefusal s from to b u ≡ 0
-        → (accepted v ≡ rangeReply s from to b u) × (o ≡ rangeBytes s from to b u) × (c ≡ rangeStopped s from to b u old)
+        → (replyOf (Accepted v) ≡ rangeReply s from to b u) × (o ≡ rangeBytes s from to b u) × (c ≡ rangeStopped s from to b u old)
     unfolding rangeReply rangeBytes rangeStopped rangeRan
-    range-accepted o v c f e =
-        let r : Ran = ran s (to - from) (ranTo b u from) in (
-          ap (λ (x : Ran). accepted (x .used)) f ∙ sym (reply-none (rangeRefusal s from to b u) (r .used) e),
-          ap (λ (x : Ran). x .bytes) f ∙ sym (written-none (rangeRefusal s from to b u) (r .bytes) b e),
-          ap (λ (x : Ran). x .next) f ∙ sym (written-none (rangeRefusal s from to b u) (r .next) old e),
-        )
+    range-accepted o v c f e = (
+      accepted-with v _ _ e (ap (λ (x : Ran). x .used) f),
+      ap (λ (x : Ran). x .bytes) f ∙ sym (written-none _ _ b e),
+      ap (λ (x : Ran). x .next) f ∙ sym (written-none _ _ old e),
+    )

@@ -8,6 +8,7 @@ use lib.Pow.{pow-pos}
 use lib.Count.{ones, ones-le}
 use lib.Dec.{leb, ltb, eqb}
 use borrow.Author.Tests.{ltb-true, ltb-false, eq-eqb, ne-eqb}
+use Rattle.solar_roll.specs.Plan.{mostSamples}
 use Rattle.roll_sweep.specs.Sweep.{cellsIn}
 use Rattle.journal.specs.Right.{possible}
 
@@ -30,12 +31,8 @@ pub marked-le : (m w : ℕ) → ltb m (2 ^ w) ≡ true → ones m ≤ w
 marked-le m w e = ones-le w m (ltb-true m (2 ^ w) e)
 
 -- sizes, for 3,600 samples at most
-pub least-le : (m k w : ℕ) → k ≤ 3600 → w ≤ 64 → ones m ≤ w → w - ones m + k * ones m ≤ 230464
+pub least-le : (m k w : ℕ) → k ≤ mostSamples → w ≤ 64 → ones m ≤ w → w - ones m + k * ones m ≤ 230464
 least-le m k w h l o = omega (arith, mul-le-mul h o)
 
-pub most-le : (k w : ℕ) → k ≤ 3600 → w ≤ 64 → k * w ≤ 230400
+pub most-le : (k w : ℕ) → k ≤ mostSamples → w ≤ 64 → k * w ≤ 230400
 most-le k w h l = mul-le-mul h l
-
-pub cells-le : (n c : ℕ) → cellsIn n c ≤ 64
-unfolding cellsIn
-cells-le n c = omega arith

@@ -13,31 +13,27 @@ use Rattle.buffers.specs.Ranges.{flag}
 use Rattle.buffers.proofs.Tests.{and-left, and-right, and-both}
 use Rattle.buffers.proofs.Ranges.{any-step, all-next, all-stop, all-iff, sum-next, sum-mono, sum-same}
 use Rattle.buffers.proofs.Distinct.{distinct-le}
+use Rattle.solar_roll.specs.Plan.{mostCells}
 use Rattle.roll_sweep.specs.Sweep.{chunks}
 use Rattle.journal.specs.Hex.{areDigits}
-use Rattle.journal.specs.Lines.{lineStart, chunkAt, maskAt, probesAt, hasChunk, heldMask, heldProbes}
-use Rattle.journal.specs.Right.{wholeLines, agree, possible, lineFits, lineRight, linesRight, right}
-use Rattle.journal.specs.Pass.{lineAt, fits, checkedOf, Flags, Tables}
+use Rattle.journal.specs.Lines.{headerLength, lineStart, chunkAt, maskAt, probesAt, hasChunk, heldMask, heldProbes}
+use Rattle.journal.specs.Right.{wholeLines, agree, possible, lineAt, fits, lineFits, lineRight, linesRight, right}
+use Rattle.journal.specs.Pass.{mostChunks, checkedOf, Flags, Tables}
 use Rattle.journal.specs.declared.pass.Checked.{Checked}
 use Rattle.journal.specs.declared.pass.Checked.the-variants.{Right, Wrong}
 use Rattle.journal.proofs.Text.{value-lt}
 
 -- ---- one line
 
--- the line that was read fits exactly when the line in the journal does
-pub fits-read : (n k : ℕ) (b : List ℕ) (l : ℕ) → fits n k (lineAt b l) ≡ lineFits n k b l
-unfolding fits lineAt lineFits
-fits-read n k b l = refl
-
--- it then names a chunk that exists, so one of 16384
+-- a line that fits names a chunk that exists, so one of 16,384
 pub fits-exists : (n k : ℕ) (b : List ℕ) (l : ℕ) → lineFits n k b l ≡ true → chunkAt b l < chunks n
-unfolding lineFits
+unfolding fits lineAt
 fits-exists n k b l e =
     let d : Bool = areDigits b (lineStart l) 32 && eqb (getD b (lineStart l + 32) 0) 10 in
     let f : (d && ltb (chunkAt b l) (chunks n)) ≡ true = and-left (d && ltb (chunkAt b l) (chunks n)) (possible n k (chunkAt b l) (maskAt b l) (probesAt b l)) e in
     ltb-true (chunkAt b l) (chunks n) (and-right d (ltb (chunkAt b l) (chunks n)) f)
 
-pub chunks-le : (n : ℕ) → n ≤ 1048576 → chunks n ≤ 16384
+pub chunks-le : (n : ℕ) → n ≤ mostCells → chunks n ≤ mostChunks
 unfolding chunks
 chunks-le n h = omega arith
 
@@ -89,17 +85,17 @@ probes-fit b l = omega (arith, sum-mono l (probesAt b) (λ j. 4294967296) (λ j 
 
 -- ---- the tables
 
-pub tables-zero : (b seen masks : List ℕ) → seen ≡ replicate 16384 0 → masks ≡ replicate 16384 0 → Tables b 0 seen masks
+pub tables-zero : (b seen masks : List ℕ) → seen ≡ replicate mostChunks 0 → masks ≡ replicate mostChunks 0 → Tables b 0 seen masks
 unfolding hasChunk heldMask
 tables-zero b seen masks e f =
     record {
       flags =
           record {
-            count = ap length e ∙ length-replicate {A = ℕ} 16384 0;
-            chunk = λ c h. ap (λ (s : List ℕ). getD s c 0) e ∙ getD-replicate {A = ℕ} 16384 c 0 0 h;
+            count = ap length e ∙ length-replicate {A = ℕ} mostChunks 0;
+            chunk = λ c h. ap (λ (s : List ℕ). getD s c 0) e ∙ getD-replicate {A = ℕ} mostChunks c 0 0 h;
           };
-      words = ap length f ∙ length-replicate {A = ℕ} 16384 0;
-      mask = λ c h. ap (λ (s : List ℕ). getD s c 0) f ∙ getD-replicate {A = ℕ} 16384 c 0 0 h;
+      words = ap length f ∙ length-replicate {A = ℕ} mostChunks 0;
+      mask = λ c h. ap (λ (s : List ℕ). getD s c 0) f ∙ getD-replicate {A = ℕ} mostChunks c 0 0 h;
     }
 
 -- what stands at place c once v is stored at place d
@@ -116,7 +112,7 @@ flag-or true false = refl
 flag-or false true = refl
 flag-or false false = refl
 
-pub tables-next : (b seen masks : List ℕ) (l d m : ℕ) → d ≡ chunkAt b l → m ≡ maskAt b l → d < 16384
+pub tables-next : (b seen masks : List ℕ) (l d m : ℕ) → d ≡ chunkAt b l → m ≡ maskAt b l → d < mostChunks
     → Tables b l seen masks → Tables b (l + 1) (set seen d 1) (set masks d m)
 unfolding hasChunk heldMask
 tables-next b seen masks l d m e f h t =
@@ -146,7 +142,7 @@ flag-some true e = refl
 flag-some false e = absurd (e refl)
 
 -- a chunk without a flag has no line, and one with a flag has one
-module _ (b seen : List ℕ) (l c : ℕ) (t : Flags b l seen) (h : c < 16384) where
+module _ (b seen : List ℕ) (l c : ℕ) (t : Flags b l seen) (h : c < mostChunks) where
   pub unseen : getD seen c 0 ≡ 0 → hasChunk b l c ≡ false
   unseen z = flag-zero (hasChunk b l c) (sym (t .chunk c h) ∙ z)
 
@@ -175,16 +171,16 @@ told-right true p q e = (refl, cc)
 told-right false p q e = let z : _≡_ {A = ℕ} 0 1 = cc in absurd (omega arith)
 
 -- the tables keep their length
-pub blank-length : (t blank : List ℕ) → length t ≡ 16384 → blank ≡ replicate 16384 0 → length t ≡ length blank
-blank-length t blank n e = n ∙ sym (ap length e ∙ length-replicate {A = ℕ} 16384 0)
+pub blank-length : (t blank : List ℕ) → length t ≡ mostChunks → blank ≡ replicate mostChunks 0 → length t ≡ length blank
+blank-length t blank n e = n ∙ sym (ap length e ∙ length-replicate {A = ℕ} mostChunks 0)
 
 -- ---- a whole journal: its header, and its lines
 
-module _ (n k : ℕ) (h b : List ℕ) (u m : ℕ) (e : m ≡ min u 107) where
-  pub right-off : agree b h m ≡ false → right n k h b u ≡ false
+module _ (n k : ℕ) (h b : List ℕ) (u m : ℕ) (e : m ≡ min u headerLength) where
+  pub header-differs : agree b h m ≡ false → right n k h b u ≡ false
   unfolding right
-  right-off f = ap (λ (t : Bool). t && linesRight n k b (wholeLines u)) (ap (agree b h) (sym e) ∙ f)
+  header-differs f = ap (λ (t : Bool). t && linesRight n k b (wholeLines u)) (ap (agree b h) (sym e) ∙ f)
 
-  pub right-on : agree b h m ≡ true → right n k h b u ≡ linesRight n k b (wholeLines u)
+  pub header-agrees : agree b h m ≡ true → right n k h b u ≡ linesRight n k b (wholeLines u)
   unfolding right
-  right-on f = ap (λ (t : Bool). t && linesRight n k b (wholeLines u)) (ap (agree b h) (sym e) ∙ f)
+  header-agrees f = ap (λ (t : Bool). t && linesRight n k b (wholeLines u)) (ap (agree b h) (sym e) ∙ f)

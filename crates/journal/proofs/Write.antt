@@ -9,7 +9,7 @@ use lib.Seq.{drop-cons, set-append-left, take-at, getD-at, getD-take, take-take,
 use Rattle.buffers.specs.Lent.{over, put}
 use Rattle.buffers.proofs.Lent.{put-first, put-put, over-next, length-over}
 use Rattle.journal.specs.Hex.{hexDigit, hexText}
-use Rattle.journal.specs.Lines.{lineText}
+use Rattle.journal.specs.Lines.{lineLength, headerLength, lineText}
 use Rattle.journal.specs.Header.{headerText}
 use Rattle.journal.proofs.Text.{length-hex}
 
@@ -125,7 +125,7 @@ ended o s out j e n h =
       length-set out j 10 ∙ ap length f ∙ length-over s o (omega arith),
     )
 
-pub line-written : (o o₁ : List ℕ) (c m p : ℕ) → 33 ≤ length o → o₁ ≡ put 0 (hexText 8 c ++ (hexText 16 m ++ hexText 8 p)) o
+pub line-written : (o o₁ : List ℕ) (c m p : ℕ) → lineLength ≤ length o → o₁ ≡ put 0 (hexText 8 c ++ (hexText 16 m ++ hexText 8 p)) o
     → (set o₁ 32 10 ≡ over (lineText c m p) o) × (length (set o₁ 32 10) ≡ length o)
 unfolding lineText
 line-written o o₁ c m p h e =
@@ -133,7 +133,7 @@ line-written o o₁ c m p h e =
     let s : hexText 8 c ++ (hexText 16 m ++ hexText 8 p) ++ (10 ∷ []) ≡ lineText c m p = simp append-assoc in
     (r .0 ∙ ap (λ (t : List ℕ). over t o) s, r .1)
 
-pub header-written : (o o₁ o₂ o₃ : List ℕ) (rows times n tolerance configured roll x y z : ℕ) → 107 ≤ length o
+pub header-written : (o o₁ o₂ o₃ : List ℕ) (rows times n tolerance configured roll x y z : ℕ) → headerLength ≤ length o
     → o₁ ≡ put 0 (hexText 8 rows ++ (hexText 8 times ++ hexText 8 n)) o
     → o₂ ≡ put 24 (hexText 16 tolerance ++ (hexText 2 configured ++ hexText 16 roll)) o₁
     → o₃ ≡ put 58 (hexText 16 x ++ (hexText 16 y ++ hexText 16 z)) o₂
@@ -154,6 +154,6 @@ header-written o o₁ o₂ o₃ rows times n tolerance configured roll x y z h e
     let s : a ++ b ++ c ++ (10 ∷ []) ≡ headerText rows times n tolerance configured roll x y z = simp append-assoc in
     (r .0 ∙ ap (λ (t : List ℕ). over t o) s, r .1)
 
-pub length-header : (rows times n tolerance configured roll x y z : ℕ) → length (headerText rows times n tolerance configured roll x y z) ≡ 107
+pub length-header : (rows times n tolerance configured roll x y z : ℕ) → length (headerText rows times n tolerance configured roll x y z) ≡ headerLength
 unfolding headerText
 length-header rows times n tolerance configured roll x y z = simp (length-append, length-hex) refl

@@ -11,21 +11,22 @@ use lib.Seq.{getD-at}
 use lib.Dec.{ltb}
 use borrow.Author.Tests.{lt-ltb, le-leb, eq-eqb}
 use Rattle.buffers.proofs.Tests.{and-both}
+use Rattle.solar_roll.specs.Plan.{mostCells, mostSamples}
 use Rattle.roll_sweep.specs.Sweep.{Sweep, cells, chunks, chunkMask, chunkProbes}
 use Rattle.roll_sweep.proofs.Chunks.{cells-le, mask-lt, probes-low, probes-high}
 use Rattle.journal.specs.Hex.{hexText, areDigits, hexValue}
-use Rattle.journal.specs.Lines.{lineText, lineOf, lineStart, chunkAt, maskAt, probesAt, hasChunk}
-use Rattle.journal.specs.Right.{possible, lineFits, lineRight}
+use Rattle.journal.specs.Lines.{lineLength, headerLength, lineText, lineOf, lineStart, chunkAt, maskAt, probesAt, hasChunk}
+use Rattle.journal.specs.Right.{possible, fits, lineAt, lineRight}
 use Rattle.journal.proofs.Text.{value-hex, digits-hex, digits-add}
 
 -- what is known of the sweep of an accepted plan
-pub record Accepted (s : Sweep) : Type 0 where
+pub record SweepFacts (s : Sweep) : Type 0 where
   -- its refusals pass where the used length lies in its buffer
   pub plan : s .refusal false ≡ 0
-  pub few : cells s ≤ 1048576
+  pub few : cells s ≤ mostCells
   pub one : 1 ≤ s .samples
-  pub most : s .samples ≤ 3600
-  pub header : length (s .header) ≡ 107
+  pub most : s .samples ≤ mostSamples
+  pub header : length (s .header) ≡ headerLength
 
 -- ---- what a line holds fits its digits
 
@@ -33,7 +34,7 @@ module _ (s : Sweep) where
   mask-fits : (c : ℕ) → chunkMask s c < 16 ^ 16
   mask-fits c = lt-of-lt-of-le (mask-lt s c) (pow-mono {j = 64} (cells-le (cells s) c))
 
-  module _ (a : Accepted s) (c : ℕ) where
+  module _ (a : SweepFacts s) (c : ℕ) where
     chunk-fits : c < chunks (cells s) → c < 16 ^ 8
     unfolding chunks
     chunk-fits h = omega (arith, a .few)
@@ -47,7 +48,7 @@ module _ (s : Sweep) where
 
 -- ---- a line that work wrote is read back
 
-pub length-line : (s : Sweep) (c : ℕ) → length (lineOf s c) ≡ 33
+pub length-line : (s : Sweep) (c : ℕ) → length (lineOf s c) ≡ lineLength
 unfolding lineOf
 length-line s c = simp length-append refl
 
@@ -65,7 +66,7 @@ value-at w x i b p q e n h = ap₂ (λ (a : List ℕ) (j : ℕ). hexValue a j w)
 digits-at : (w x i : ℕ) (b p q : List ℕ) → b ≡ p ++ (hexText w x ++ q) → length p ≡ i → areDigits b i w ≡ true
 digits-at w x i b p q e n = ap₂ (λ (a : List ℕ) (j : ℕ). areDigits a j w) e (sym n) ∙ digits-hex w x p q
 
-pub read-line : (s : Sweep) → Accepted s → (c l : ℕ) (p q : List ℕ) → c < chunks (cells s) → length p ≡ lineStart l → LineAt s (p ++ (lineOf s c ++ q)) l c
+pub read-line : (s : Sweep) → SweepFacts s → (c l : ℕ) (p q : List ℕ) → c < chunks (cells s) → length p ≡ lineStart l → LineAt s (p ++ (lineOf s c ++ q)) l c
 unfolding lineOf lineText chunkAt maskAt probesAt
 read-line s a c l p q h n =
     let x : List ℕ = hexText 8 c in
@@ -91,11 +92,11 @@ read-line s a c l p q h n =
     }
 
 -- and it is right, where no line before it is its chunk's
-pub line-right : (s : Sweep) → Accepted s → (b : List ℕ) (l c : ℕ) → LineAt s b l c → c < chunks (cells s) → hasChunk b l c ≡ false → lineRight (cells s) (s .samples) b l ≡ true
-unfolding lineRight lineFits
+pub line-right : (s : Sweep) → SweepFacts s → (b : List ℕ) (l c : ℕ) → LineAt s b l c → c < chunks (cells s) → hasChunk b l c ≡ false → lineRight (cells s) (s .samples) b l ≡ true
+unfolding lineRight fits lineAt
 line-right s a b l c n h f =
     let new : not (hasChunk b l (chunkAt b l)) ≡ true = ap not (ap (hasChunk b l) (n .chunk) ∙ f) in
     let exists : ltb (chunkAt b l) (chunks (cells s)) ≡ true = ap (λ (x : ℕ). ltb x (chunks (cells s))) (n .chunk) ∙ lt-ltb c (chunks (cells s)) h in
-    let fits : possible (cells s) (s .samples) (chunkAt b l) (maskAt b l) (probesAt b l) ≡ true =
+    let can : possible (cells s) (s .samples) (chunkAt b l) (maskAt b l) (probesAt b l) ≡ true =
     (λ i. possible (cells s) (s .samples) (n .chunk i) (n .mask i) (n .probes i)) ∙ possible-line s a c in
-    and-both _ _ (and-both _ _ (and-both _ _ (and-both _ _ (n .digits) (eq-eqb _ _ (n .newline))) exists) fits) new
+    and-both _ _ (and-both _ _ (and-both _ _ (and-both _ _ (n .digits) (eq-eqb _ _ (n .newline))) exists) can) new

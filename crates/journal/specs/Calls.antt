@@ -1,5 +1,5 @@
--- Section 4: begin, work, recover and collect. Of each, the refusals in the order in which they are tried, the answer, and the bytes that it leaves:
--- for every lent buffer b and used length u. Definitions only. Assumes nothing.
+-- Section 4: begin, work, recover and collect. Of each, the conditions that refuse it in the order in which they are tried, the answer, and the bytes
+-- that it leaves: for every lent buffer b and used length u. Definitions only. Assumes nothing.
 use mathlib.Core.Bool.{Bool, cond, not}
 use mathlib.Core.List.{List, [], _∷_, _++_}
 use Prim.Native.Nat.{ℕ, _+_, _*_, _/_, _%_}
@@ -7,15 +7,14 @@ use lib.Dec.{leb, ltb, eqb}
 use lib.ListN.{length}
 use Rattle.buffers.specs.Ranges.{tab}
 use Rattle.buffers.specs.Lent.{filled, put}
-use Rattle.buffers.specs.Refusal.{first, carried, Reply, reply, unlessRefused}
+use Rattle.buffers.specs.Refusal.{Conditions, first, carried, Reply, reply, unlessRefused}
 use Rattle.roll_sweep.specs.Sweep.{Sweep, cells, chunks}
 use Rattle.journal.specs.Lines.{headerLength, lineLength, lineOf, hasChunk, hasChunks, heldMask, heldProbes, bitOf}
 use Rattle.journal.specs.Right.{wholeLines, torn, right}
 
--- the plan's refusals, which every call tries first: a used length beyond the buffer is part of 1
-unfoldable pub planFirst : Sweep → List ℕ → ℕ → Bool × ℕ
-unfolding carried
-planFirst s b u = carried (s .refusal (ltb (length b) u))
+-- *Plan* is tried before a call's own conditions: a used length beyond the buffer is part of 1
+abbrev pub afterPlan : Sweep → List ℕ → ℕ → Conditions → Conditions
+afterPlan s b u own = carried (s .refusal (ltb (length b) u)) ∷ own
 
 -- the journal is not right for the plan
 unfoldable pub wrong : Sweep → List ℕ → ℕ → Bool
@@ -35,13 +34,15 @@ collectShort s room = ltb room (cells s)
 
 -- ---- begin makes the journal the header
 
-unfoldable pub beginRefusal : Sweep → List ℕ → ℕ → ℕ
-unfolding first planFirst beginShort
-beginRefusal s b u =
-    first (planFirst s b u
-    ∷ (not (eqb u 0), 13)
+abbrev pub beginConditions : List ℕ → ℕ → Conditions
+beginConditions b u =
+    (not (eqb u 0), 13)
     ∷ (beginShort (length b), 7)
-    ∷ [])
+    ∷ []
+
+unfoldable pub beginRefusal : Sweep → List ℕ → ℕ → ℕ
+unfolding first carried beginShort
+beginRefusal s b u = first (afterPlan s b u (beginConditions b u))
 
 -- the used length that it leaves
 unfoldable pub beginReply : Sweep → List ℕ → ℕ → Reply ℕ
@@ -54,16 +55,18 @@ beginBytes s b u = unlessRefused (beginRefusal s b u) (put 0 (s .header) b) b
 
 -- ---- work c appends the line of chunk c
 
-unfoldable pub workRefusal : Sweep → ℕ → List ℕ → ℕ → ℕ
-unfolding first planFirst chunks wrong torn hasChunk workShort
-workRefusal s c b u =
-    first (planFirst s b u
-    ∷ (leb (chunks (cells s)) c, 9)
+abbrev pub workConditions : Sweep → ℕ → List ℕ → ℕ → Conditions
+workConditions s c b u =
+    (leb (chunks (cells s)) c, 9)
     ∷ (wrong s b u, 11)
     ∷ (torn u, 12)
     ∷ (hasChunk b (wholeLines u) c, 10)
     ∷ (workShort (length b) u, 7)
-    ∷ [])
+    ∷ []
+
+unfoldable pub workRefusal : Sweep → ℕ → List ℕ → ℕ → ℕ
+unfolding first carried chunks wrong torn hasChunk workShort
+workRefusal s c b u = first (afterPlan s b u (workConditions s c b u))
 
 unfoldable pub workReply : Sweep → ℕ → List ℕ → ℕ → Reply ℕ
 unfolding workRefusal reply
@@ -80,12 +83,12 @@ unfoldable pub kept : ℕ → ℕ
 unfolding wholeLines
 kept u = cond (ltb u headerLength) 0 (headerLength + lineLength * wholeLines u)
 
+abbrev pub recoverConditions : Sweep → List ℕ → ℕ → Conditions
+recoverConditions s b u = (wrong s b u, 11) ∷ []
+
 unfoldable pub recoverRefusal : Sweep → List ℕ → ℕ → ℕ
-unfolding first planFirst wrong
-recoverRefusal s b u =
-    first (planFirst s b u
-    ∷ (wrong s b u, 11)
-    ∷ [])
+unfolding first carried wrong
+recoverRefusal s b u = first (afterPlan s b u (recoverConditions s b u))
 
 unfoldable pub recoverReply : Sweep → List ℕ → ℕ → Reply ℕ
 unfolding recoverRefusal reply kept
@@ -93,15 +96,17 @@ recoverReply s b u = reply (recoverRefusal s b u) (kept u)
 
 -- ---- collect, with the lent mask o
 
-unfoldable pub collectRefusal : Sweep → List ℕ → ℕ → List ℕ → ℕ
-unfolding first planFirst wrong torn hasChunks chunks collectShort
-collectRefusal s b u o =
-    first (planFirst s b u
-    ∷ (wrong s b u, 11)
+abbrev pub collectConditions : Sweep → List ℕ → ℕ → List ℕ → Conditions
+collectConditions s b u o =
+    (wrong s b u, 11)
     ∷ (torn u, 12)
     ∷ (not (hasChunks b (wholeLines u) (chunks (cells s))), 15)
     ∷ (collectShort s (length o), 7)
-    ∷ [])
+    ∷ []
+
+unfoldable pub collectRefusal : Sweep → List ℕ → ℕ → List ℕ → ℕ
+unfolding first carried wrong torn hasChunks chunks collectShort
+collectRefusal s b u o = first (afterPlan s b u (collectConditions s b u o))
 
 -- the sum of the lines' probes
 unfoldable pub collectReply : Sweep → List ℕ → ℕ → List ℕ → Reply ℕ

@@ -3,10 +3,10 @@
 use mathlib.Core.List.{List, [], _∷_}
 use Prim.Native.Nat.{ℕ, zero, suc, _+_, _-_}
 use lib.Dec.{leb}
-use Rattle.buffers.specs.Refusal.{first, carried, Reply, reply, unlessRefused}
+use Rattle.buffers.specs.Refusal.{Conditions, first, carried, Reply, reply, unlessRefused}
 use Rattle.roll_sweep.specs.Sweep.{Sweep}
 use Rattle.journal.specs.Lines.{lineLength}
-use Rattle.journal.specs.Calls.{planFirst, workRefusal, workBytes}
+use Rattle.journal.specs.Calls.{afterPlan, workRefusal, workBytes}
 
 -- how far a range has come: the buffer, its used length, and the chunk that is next
 pub record Ran : Type 0 where
@@ -30,13 +30,15 @@ ran s (suc m) r = unlessRefused (workRefusal s (r .next) (r .bytes) (r .used)) (
 
 -- ---- work_range from to: plan, 9 if from is not below to, then what work of from refuses
 
-unfoldable pub rangeRefusal : Sweep → ℕ → ℕ → List ℕ → ℕ → ℕ
-unfolding first carried planFirst workRefusal
-rangeRefusal s from to b u =
-    first (planFirst s b u
-    ∷ (leb to from, 9)
+abbrev pub rangeConditions : Sweep → ℕ → ℕ → List ℕ → ℕ → Conditions
+rangeConditions s from to b u =
+    (leb to from, 9)
     ∷ carried (workRefusal s from b u)
-    ∷ [])
+    ∷ []
+
+unfoldable pub rangeRefusal : Sweep → ℕ → ℕ → List ℕ → ℕ → ℕ
+unfolding first carried workRefusal
+rangeRefusal s from to b u = first (afterPlan s b u (rangeConditions s from to b u))
 
 -- how far it comes
 unfoldable pub rangeRan : Sweep → ℕ → ℕ → List ℕ → ℕ → Ran

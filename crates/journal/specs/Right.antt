@@ -10,6 +10,7 @@ use Rattle.buffers.specs.Ranges.{allBelow}
 use Rattle.roll_sweep.specs.Sweep.{chunks, cellsIn}
 use Rattle.journal.specs.Hex.{areDigits}
 use Rattle.journal.specs.Lines.{headerLength, lineLength, lineStart, chunkAt, maskAt, probesAt, hasChunk}
+use Rattle.journal.specs.declared.line.Line.{Line}
 
 -- how many whole lines stand in u used bytes
 unfoldable pub wholeLines : ℕ → ℕ
@@ -29,17 +30,28 @@ unfoldable pub possible : ℕ → ℕ → ℕ → ℕ → ℕ → Bool
 unfolding cellsIn
 possible n k c m p = ltb m (2 ^ cellsIn n c) && leb (cellsIn n c - ones m + k * ones m) p && leb p (k * cellsIn n c)
 
--- line l has 32 digits and 0a, a chunk that exists, and a possible mask and probes
-unfoldable pub lineFits : ℕ → ℕ → List ℕ → ℕ → Bool
-unfolding areDigits lineStart chunkAt maskAt probesAt chunks possible
-lineFits n k b l =
-    areDigits b (lineStart l) 32 && eqb (getD b (lineStart l + 32) 0) 10
-    && ltb (chunkAt b l) (chunks n)
-    && possible n k (chunkAt b l) (maskAt b l) (probesAt b l)
+-- line l, as it is read: it is framed if it has 32 digits and 0a
+unfoldable pub lineAt : List ℕ → ℕ → Line
+unfolding areDigits lineStart chunkAt maskAt probesAt
+lineAt b l =
+    record {
+      framed = areDigits b (lineStart l) 32 && eqb (getD b (lineStart l + 32) 0) 10;
+      chunk = chunkAt b l;
+      mask = maskAt b l;
+      probes = probesAt b l;
+    }
+
+-- a line has 32 digits and 0a, a chunk that exists, and a possible mask and probes
+unfoldable pub fits : ℕ → ℕ → Line → Bool
+unfolding chunks possible
+fits n k line = line .framed && ltb (line .chunk) (chunks n) && possible n k (line .chunk) (line .mask) (line .probes)
+
+abbrev pub lineFits : ℕ → ℕ → List ℕ → ℕ → Bool
+lineFits n k b l = fits n k (lineAt b l)
 
 -- line l fits, and no line before it is its chunk's
 unfoldable pub lineRight : ℕ → ℕ → List ℕ → ℕ → Bool
-unfolding lineFits hasChunk chunkAt
+unfolding fits lineAt hasChunk chunkAt
 lineRight n k b l = lineFits n k b l && not (hasChunk b l (chunkAt b l))
 
 -- the first l lines are right

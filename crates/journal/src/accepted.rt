@@ -1,15 +1,20 @@
 // Work, recover and collect once the plan has passed. They see of it only its header, its cells and its samples.
 ghost use mathlib.Core.Path.{_≡_};
-ghost use Prim.Native.Nat.{_≤_};
+ghost use mathlib.Core.List.{List};
+ghost use Prim.Native.Nat.{ℕ, _≤_};
 ghost use lib.ListN.{length, replicate};
 ghost use Rattle.buffers.specs.Refusal.{replyOf};
+ghost use Rattle.solar_roll.specs.Plan.{mostCells, mostSamples};
 ghost use Rattle.roll_sweep.specs.Sweep.{Sweep};
+ghost use Rattle.journal.specs.Lines.{headerLength};
 ghost use Rattle.journal.specs.Calls.{workRefusal, recoverReply, collectReply, collectMask};
 ghost use Rattle.journal.specs.Right.{wholeLines};
-ghost use Rattle.journal.specs.Pass.{Flags, Passed};
+ghost use Rattle.journal.specs.Pass.{mostChunks, Flags, Passed};
+use crate::line::LINE_LENGTH;
 use crate::mask::all_seen;
 use crate::mask::write_cells;
 use crate::pass::Checked;
+use crate::pass::MOST_CHUNKS;
 use crate::pass::check_journal;
 use crate::pass::is_torn;
 use crate::pass::kept_length;
@@ -25,14 +30,17 @@ pub(crate) fn work_refusal(
     used: u64,
     seen: &mut [u8],
 ) -> u64
-    requires { ⌜ (length (now header) ≡ 107) × (cells ≤ 1048576) × (n ≤ 3600) × (used ≤ length (now journal)) × (now seen ≡ replicate 16384 0) ⌝ }
-    ensures { λ r. ⌜ ((s : Sweep) → Passed s cells n (now (header .entry)) (now (journal .entry)) used → r ≡ workRefusal s chunk (now (journal .entry)) used)
-        × (r ≡ 0 → Flags (now (journal .entry)) (wholeLines used) (now (seen .exit))) ⌝ }
+    requires { ⌜ (length (now header) ≡ headerLength) × (cells ≤ mostCells) × (n ≤ mostSamples) × (used ≤ length (now journal))
+        × (now seen ≡ replicate mostChunks 0) ⌝ }
+    ensures { λ r.
+        let b : List ℕ = now (journal .entry) in
+        ⌜ ((s : Sweep) → Passed s cells n (now (header .entry)) (length b) used → r ≡ workRefusal s chunk b used)
+        × (r ≡ 0 → Flags b (wholeLines used) (now (seen .exit))) ⌝ }
 {
     if (cells + 63) / 64 <= chunk {
         return 9;
     }
-    let mut masks = [0u64; 16384];
+    let mut masks = [0u64; MOST_CHUNKS];
     let Checked::Right(_) = check_journal(
         header,
         cells,
@@ -51,7 +59,7 @@ pub(crate) fn work_refusal(
     if seen[c] != 0 {
         return 10;
     }
-    if journal.len() as u64 - used < 33 {
+    if journal.len() as u64 - used < LINE_LENGTH as u64 {
         return 7;
     }
     0
@@ -59,11 +67,13 @@ pub(crate) fn work_refusal(
 
 // Gives the used length that is left after a power failure.
 pub(crate) fn recover_used(header: &[u8], cells: u64, n: u64, journal: &[u8], used: u64) -> Answer
-    requires { ⌜ (length (now header) ≡ 107) × (cells ≤ 1048576) × (n ≤ 3600) × (used ≤ length (now journal)) ⌝ }
-    ensures { λ r. ⌜ ((s : Sweep) → Passed s cells n (now (header .entry)) (now (journal .entry)) used → replyOf r ≡ recoverReply s (now (journal .entry)) used) ⌝ }
+    requires { ⌜ (length (now header) ≡ headerLength) × (cells ≤ mostCells) × (n ≤ mostSamples) × (used ≤ length (now journal)) ⌝ }
+    ensures { λ r.
+        let b : List ℕ = now (journal .entry) in
+        ⌜ ((s : Sweep) → Passed s cells n (now (header .entry)) (length b) used → replyOf r ≡ recoverReply s b used) ⌝ }
 {
-    let mut seen = [0u8; 16384];
-    let mut masks = [0u64; 16384];
+    let mut seen = [0u8; MOST_CHUNKS];
+    let mut masks = [0u64; MOST_CHUNKS];
     match check_journal(
         header,
         cells,
@@ -87,11 +97,15 @@ pub(crate) fn collect_lines(
     used: u64,
     mask: &mut [u8],
 ) -> Answer
-    requires { ⌜ (length (now header) ≡ 107) × (cells ≤ 1048576) × (n ≤ 3600) × (used ≤ length (now journal)) ⌝ }
-    ensures { λ r. ⌜ ((s : Sweep) → Passed s cells n (now (header .entry)) (now (journal .entry)) used → (replyOf r ≡ collectReply s (now (journal .entry)) used (now (mask .entry))) × (now (mask .exit) ≡ collectMask s (now (journal .entry)) used (now (mask .entry)))) ⌝ }
+    requires { ⌜ (length (now header) ≡ headerLength) × (cells ≤ mostCells) × (n ≤ mostSamples) × (used ≤ length (now journal)) ⌝ }
+    ensures { λ r.
+        let b : List ℕ = now (journal .entry) in
+        let o : List ℕ = now (mask .entry) in
+        ⌜ ((s : Sweep) → Passed s cells n (now (header .entry)) (length b) used
+        → (replyOf r ≡ collectReply s b used o) × (now (mask .exit) ≡ collectMask s b used o)) ⌝ }
 {
-    let mut seen = [0u8; 16384];
-    let mut masks = [0u64; 16384];
+    let mut seen = [0u8; MOST_CHUNKS];
+    let mut masks = [0u64; MOST_CHUNKS];
     let Checked::Right(probes) = check_journal(
         header,
         cells,

@@ -1,18 +1,23 @@
 // Begin, work, work over a range, recover and collect on a plan. Each tries its refusals in their order, and writes nothing until all have passed.
 ghost use mathlib.Core.Path.{_≡_};
 ghost use Rattle.buffers.specs.Refusal.{replyOf};
+ghost use Rattle.roll_sweep.specs.Sweep.{Sweep};
 ghost use Rattle.journal.specs.Calls.{beginReply, beginBytes, workReply, workBytes, recoverReply, collectReply, collectMask};
 ghost use Rattle.journal.specs.Range.{rangeReply, rangeBytes, rangeStopped};
 ghost use Rattle.journal.specs.Plan.{lentSweep};
 use crate::accepted::collect_lines;
 use crate::accepted::recover_used;
 use crate::accepted::work_refusal;
+use crate::header::HEADER_LENGTH;
 use crate::header::write_header;
+use crate::line::LINE_LENGTH;
+use crate::pass::MOST_CHUNKS;
+use crate::plan::lent_plan;
 use crate::range::append_lines;
 use buffers::Answer;
 use solar_roll::SolarRollConfig;
 use solar_roll::plan_refusal;
-use solar_roll::sampling;
+use solar_roll::samples_refusal;
 
 // Makes the journal the header, and gives the used length.
 pub fn begin(
@@ -24,18 +29,27 @@ pub fn begin(
     journal: &mut [u8],
     used: u64,
 ) -> Answer
-    ensures { λ r. ⌜ (replyOf r ≡ beginReply (lentSweep (now (targets .entry)) (now (suns .entry)) (now (observers .entry)) config n) (now (journal .entry)) used)
-        × (now (journal .exit) ≡ beginBytes (lentSweep (now (targets .entry)) (now (suns .entry)) (now (observers .entry)) config n) (now (journal .entry)) used) ⌝ }
+    ensures { λ r.
+        let s : Sweep = lentSweep (now (targets .entry)) (now (suns .entry)) (now (observers .entry)) config n in
+        ⌜ (replyOf r ≡ beginReply s (now (journal .entry)) used)
+        × (now (journal .exit) ≡ beginBytes s (now (journal .entry)) used) ⌝ }
 {
     let room = journal.len() as u64;
-    let refusal = plan_refusal(targets, suns, observers, config, sampling(n), room < used);
+    let refusal = plan_refusal(
+        targets,
+        suns,
+        observers,
+        config,
+        samples_refusal(n),
+        room < used,
+    );
     if refusal != 0 {
         return Answer::Refused(refusal);
     }
     if used != 0 {
         return Answer::Refused(13);
     }
-    if room < 107 {
+    if room < HEADER_LENGTH as u64 {
         return Answer::Refused(7);
     }
     write_header(
@@ -45,7 +59,7 @@ pub fn begin(
         n,
         config,
     );
-    Answer::Accepted(107)
+    Answer::Accepted(HEADER_LENGTH as u64)
 }
 
 // Sweeps a chunk, appends its line, and gives the used length.
@@ -59,20 +73,19 @@ pub fn work(
     journal: &mut [u8],
     used: u64,
 ) -> Answer
-    ensures { λ r. ⌜ (replyOf r ≡ workReply (lentSweep (now (targets .entry)) (now (suns .entry)) (now (observers .entry)) config n) chunk (now (journal .entry)) used)
-        × (now (journal .exit) ≡ workBytes (lentSweep (now (targets .entry)) (now (suns .entry)) (now (observers .entry)) config n) chunk (now (journal .entry)) used) ⌝ }
+    ensures { λ r.
+        let s : Sweep = lentSweep (now (targets .entry)) (now (suns .entry)) (now (observers .entry)) config n in
+        ⌜ (replyOf r ≡ workReply s chunk (now (journal .entry)) used)
+        × (now (journal .exit) ≡ workBytes s chunk (now (journal .entry)) used) ⌝ }
 {
     let room = journal.len() as u64;
-    let refusal = plan_refusal(targets, suns, observers, config, sampling(n), room < used);
-    if refusal != 0 {
-        return Answer::Refused(refusal);
+    let plan = lent_plan(targets, suns, observers, config, n, room, used);
+    if plan.refusal != 0 {
+        return Answer::Refused(plan.refusal);
     }
-    let rows = (targets.len() / 3) as u64;
-    let times = (suns.len() / 3) as u64;
-    let mut header = [0u8; 107];
-    write_header(&mut header, rows, times, n, config);
-    let mut seen = [0u8; 16384];
-    let refusal = work_refusal(&header, rows * times, n, chunk, journal, used, &mut seen);
+    let header = plan.header;
+    let mut seen = [0u8; MOST_CHUNKS];
+    let refusal = work_refusal(&header, plan.cells, n, chunk, journal, used, &mut seen);
     if refusal != 0 {
         return Answer::Refused(refusal);
     }
@@ -88,7 +101,7 @@ pub fn work(
         used,
         &seen,
     );
-    Answer::Accepted(used + 33)
+    Answer::Accepted(used + LINE_LENGTH as u64)
 }
 
 // Works of the chunks from, from + 1, .., up to the first that work refuses, or `to`, with one check of the journal at the start. Gives the used
@@ -105,24 +118,23 @@ pub fn work_range(
     used: u64,
     stopped: &mut u64,
 ) -> Answer
-    ensures { λ r. ⌜ (replyOf r ≡ rangeReply (lentSweep (now (targets .entry)) (now (suns .entry)) (now (observers .entry)) config n) from to (now (journal .entry)) used)
-        × (now (journal .exit) ≡ rangeBytes (lentSweep (now (targets .entry)) (now (suns .entry)) (now (observers .entry)) config n) from to (now (journal .entry)) used)
-        × (now (stopped .exit) ≡ rangeStopped (lentSweep (now (targets .entry)) (now (suns .entry)) (now (observers .entry)) config n) from to (now (journal .entry)) used (now (stopped .entry))) ⌝ }
+    ensures { λ r.
+        let s : Sweep = lentSweep (now (targets .entry)) (now (suns .entry)) (now (observers .entry)) config n in
+        ⌜ (replyOf r ≡ rangeReply s from to (now (journal .entry)) used)
+        × (now (journal .exit) ≡ rangeBytes s from to (now (journal .entry)) used)
+        × (now (stopped .exit) ≡ rangeStopped s from to (now (journal .entry)) used (now (stopped .entry))) ⌝ }
 {
     let room = journal.len() as u64;
-    let refusal = plan_refusal(targets, suns, observers, config, sampling(n), room < used);
-    if refusal != 0 {
-        return Answer::Refused(refusal);
+    let plan = lent_plan(targets, suns, observers, config, n, room, used);
+    if plan.refusal != 0 {
+        return Answer::Refused(plan.refusal);
     }
     if to <= from {
         return Answer::Refused(9);
     }
-    let rows = (targets.len() / 3) as u64;
-    let times = (suns.len() / 3) as u64;
-    let mut header = [0u8; 107];
-    write_header(&mut header, rows, times, n, config);
-    let mut seen = [0u8; 16384];
-    let refusal = work_refusal(&header, rows * times, n, from, journal, used, &mut seen);
+    let header = plan.header;
+    let mut seen = [0u8; MOST_CHUNKS];
+    let refusal = work_refusal(&header, plan.cells, n, from, journal, used, &mut seen);
     if refusal != 0 {
         return Answer::Refused(refusal);
     }
@@ -139,7 +151,7 @@ pub fn work_range(
         &seen,
     );
     *stopped = next;
-    Answer::Accepted(used + 33 * (next - from))
+    Answer::Accepted(used + LINE_LENGTH as u64 * (next - from))
 }
 
 // Gives the used length that is left after a power failure.
@@ -152,24 +164,17 @@ pub fn recover(
     journal: &[u8],
     used: u64,
 ) -> Answer
-    ensures { λ r. ⌜ replyOf r ≡ recoverReply (lentSweep (now (targets .entry)) (now (suns .entry)) (now (observers .entry)) config n) (now (journal .entry)) used ⌝ }
+    ensures { λ r.
+        let s : Sweep = lentSweep (now (targets .entry)) (now (suns .entry)) (now (observers .entry)) config n in
+        ⌜ replyOf r ≡ recoverReply s (now (journal .entry)) used ⌝ }
 {
-    let refusal = plan_refusal(
-        targets,
-        suns,
-        observers,
-        config,
-        sampling(n),
-        (journal.len() as u64) < used,
-    );
-    if refusal != 0 {
-        return Answer::Refused(refusal);
+    let room = journal.len() as u64;
+    let plan = lent_plan(targets, suns, observers, config, n, room, used);
+    if plan.refusal != 0 {
+        return Answer::Refused(plan.refusal);
     }
-    let rows = (targets.len() / 3) as u64;
-    let times = (suns.len() / 3) as u64;
-    let mut header = [0u8; 107];
-    write_header(&mut header, rows, times, n, config);
-    recover_used(&header, rows * times, n, journal, used)
+    let header = plan.header;
+    recover_used(&header, plan.cells, n, journal, used)
 }
 
 // Writes the mask that the journal's lines hold, and gives the sum of their probes.
@@ -183,23 +188,16 @@ pub fn collect(
     used: u64,
     mask: &mut [u8],
 ) -> Answer
-    ensures { λ r. ⌜ (replyOf r ≡ collectReply (lentSweep (now (targets .entry)) (now (suns .entry)) (now (observers .entry)) config n) (now (journal .entry)) used (now (mask .entry)))
-        × (now (mask .exit) ≡ collectMask (lentSweep (now (targets .entry)) (now (suns .entry)) (now (observers .entry)) config n) (now (journal .entry)) used (now (mask .entry))) ⌝ }
+    ensures { λ r.
+        let s : Sweep = lentSweep (now (targets .entry)) (now (suns .entry)) (now (observers .entry)) config n in
+        ⌜ (replyOf r ≡ collectReply s (now (journal .entry)) used (now (mask .entry)))
+        × (now (mask .exit) ≡ collectMask s (now (journal .entry)) used (now (mask .entry))) ⌝ }
 {
-    let refusal = plan_refusal(
-        targets,
-        suns,
-        observers,
-        config,
-        sampling(n),
-        (journal.len() as u64) < used,
-    );
-    if refusal != 0 {
-        return Answer::Refused(refusal);
+    let room = journal.len() as u64;
+    let plan = lent_plan(targets, suns, observers, config, n, room, used);
+    if plan.refusal != 0 {
+        return Answer::Refused(plan.refusal);
     }
-    let rows = (targets.len() / 3) as u64;
-    let times = (suns.len() / 3) as u64;
-    let mut header = [0u8; 107];
-    write_header(&mut header, rows, times, n, config);
-    collect_lines(&header, rows * times, n, journal, used, mask)
+    let header = plan.header;
+    collect_lines(&header, plan.cells, n, journal, used, mask)
 }

@@ -1,13 +1,18 @@
 // The header.
 ghost use mathlib.Core.Path.{_≡_};
-ghost use Prim.Native.Nat.{_≤_};
+ghost use mathlib.Core.List.{List};
+ghost use Prim.Native.Nat.{ℕ, _≤_};
 ghost use lib.ListN.{length};
 ghost use Rattle.buffers.specs.Lent.{over};
+ghost use Rattle.journal.specs.Lines.{headerLength};
 ghost use Rattle.journal.specs.Header.{headerText, hasRoll, rollBits, settingsHeader};
 use crate::hex::write_fields;
 use float::bits;
 use solar_roll::ConfiguredRoll;
 use solar_roll::SolarRollConfig;
+
+// How many bytes a header has, with its 0a.
+pub(crate) const HEADER_LENGTH: usize = 107;
 
 // Writes a header of the numbers that it holds: a float as its bits.
 fn write_numbers(
@@ -22,7 +27,7 @@ fn write_numbers(
     y: u64,
     z: u64,
 )
-    requires { ⌜ 107 ≤ length (now out) ⌝ }
+    requires { ⌜ headerLength ≤ length (now out) ⌝ }
     ensures { λ r. ⌜ now (out .exit) ≡ over (headerText targets times n tolerance configured roll x y z) (now (out .entry)) ⌝ }
 {
     write_fields(out, 0, 8, targets, 8, times, 8, n);
@@ -59,8 +64,10 @@ pub(crate) fn write_header(
     n: u64,
     config: SolarRollConfig,
 )
-    requires { ⌜ 107 ≤ length (now out) ⌝ }
-    ensures { λ r. ⌜ now (out .exit) ≡ over (settingsHeader targets times n (config .«tolerance_deg») (config .«roll_deg») (config .«panel_normal»)) (now (out .entry)) ⌝ }
+    requires { ⌜ headerLength ≤ length (now out) ⌝ }
+    ensures { λ r.
+        let text : List ℕ = settingsHeader targets times n (config .«tolerance_deg») (config .«roll_deg») (config .«panel_normal») in
+        ⌜ now (out .exit) ≡ over text (now (out .entry)) ⌝ }
 {
     let configured = config.roll_deg;
     let panel = config.panel_normal;

@@ -7,6 +7,7 @@ mod hex;
 mod line;
 mod mask;
 mod pass;
+mod plan;
 mod range;
 
 pub use calls::begin;

@@ -3,11 +3,15 @@ ghost use mathlib.Core.Path.{_≡_};
 ghost use Prim.Native.Nat.{_+_, _*_, _≤_};
 ghost use lib.ListN.{length};
 ghost use Rattle.buffers.specs.Lent.{over, put};
-ghost use Rattle.journal.specs.Lines.{lineText};
-ghost use Rattle.journal.specs.Pass.{lineAt};
+ghost use Rattle.journal.specs.Lines.{headerLength, lineLength, lineText};
+ghost use Rattle.journal.specs.Right.{lineAt};
+use crate::header::HEADER_LENGTH;
 use crate::hex::are_digits;
 use crate::hex::hex_value;
 use crate::hex::write_fields;
+
+// How many bytes a line has, with its 0a.
+pub(crate) const LINE_LENGTH: usize = 33;
 
 // What stands in the place of a line. It is framed if it has 32 digits and 0a; else its numbers mean nothing.
 pub struct Line {
@@ -19,7 +23,7 @@ pub struct Line {
 
 // Writes a line at the front of the journal's tail.
 fn write_line(tail: &mut [u8], chunk: u64, mask: u64, probes: u64)
-    requires { ⌜ 33 ≤ length (now tail) ⌝ }
+    requires { ⌜ lineLength ≤ length (now tail) ⌝ }
     ensures { λ r. ⌜ now (tail .exit) ≡ over (lineText chunk mask probes) (now (tail .entry)) ⌝ }
 {
     write_fields(tail, 0, 8, chunk, 16, mask, 8, probes);
@@ -28,7 +32,7 @@ fn write_line(tail: &mut [u8], chunk: u64, mask: u64, probes: u64)
 
 // Appends a line to the used bytes of the journal.
 pub(crate) fn append_line(journal: &mut [u8], used: usize, chunk: u64, mask: u64, probes: u64)
-    requires { ⌜ used + 33 ≤ length (now journal) ⌝ }
+    requires { ⌜ used + lineLength ≤ length (now journal) ⌝ }
     ensures { λ r. ⌜ now (journal .exit) ≡ put used (lineText chunk mask probes) (now (journal .entry)) ⌝ }
 {
     write_line(&mut journal[used..], chunk, mask, probes);
@@ -36,10 +40,10 @@ pub(crate) fn append_line(journal: &mut [u8], used: usize, chunk: u64, mask: u64
 
 // Reads line l.
 pub(crate) fn read_line(journal: &[u8], l: usize) -> Line
-    requires { ⌜ 107 + 33 * l + 33 ≤ length (now journal) ⌝ }
+    requires { ⌜ headerLength + lineLength * l + lineLength ≤ length (now journal) ⌝ }
     ensures { λ r. ⌜ r ≡ lineAt (now (journal .entry)) l ⌝ }
 {
-    let at = 107 + 33 * l;
+    let at = HEADER_LENGTH + LINE_LENGTH * l;
     let digits = are_digits(journal, at, 32);
     let end = journal[at + 32];
     let chunk = hex_value(journal, at, 8);

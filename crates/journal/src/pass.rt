@@ -1,16 +1,24 @@
 // The pass that work, recover and collect make over a journal: whether it is right, which chunks have a line, and what their masks are.
 ghost use mathlib.Core.Path.{_≡_};
 ghost use mathlib.Core.Bool.{true};
+ghost use mathlib.Core.List.{List};
 ghost use Prim.Native.Nat.{ℕ, _+_, _*_, _^_, _≤_, _<_};
 ghost use lib.Dec.{ltb};
 ghost use lib.ListN.{length, replicate};
-ghost use Rattle.journal.specs.Lines.{heldProbes};
-ghost use Rattle.journal.specs.Right.{wholeLines, torn, agree, possible, linesRight, right};
+ghost use Rattle.solar_roll.specs.Plan.{mostCells, mostSamples};
+ghost use Rattle.journal.specs.Lines.{headerLength, lineLength, heldProbes};
+ghost use Rattle.journal.specs.Right.{wholeLines, torn, agree, possible, fits, linesRight, right};
 ghost use Rattle.journal.specs.Calls.{kept};
-ghost use Rattle.journal.specs.Pass.{lineAt, fits, checkedOf, Tables};
+ghost use Rattle.journal.specs.Pass.{mostChunks, checkedOf, Tables};
+use crate::header::HEADER_LENGTH;
+use crate::line::LINE_LENGTH;
 use crate::line::Line;
 use crate::line::read_line;
+use buffers::smaller;
 use roll_sweep::cells_in;
+
+// How many chunks a plan can have, so how long the tables are: 1,048,576 cells make 16,384.
+pub(crate) const MOST_CHUNKS: usize = 16_384;
 
 // Whether a journal is right, with the sum of its lines' probes.
 pub enum Checked {
@@ -31,7 +39,7 @@ fn no_bit_from(mask: u64, k: u64) -> bool
 
 // The chunk can have this mask and these probes.
 fn is_possible(cells: u64, n: u64, chunk: u64, mask: u64, probes: u64) -> bool
-    requires { ⌜ n ≤ 3600 ⌝ }
+    requires { ⌜ n ≤ mostSamples ⌝ }
     ensures { λ r. ⌜ r ≡ possible cells n chunk mask probes ⌝ }
 {
     let all = cells_in(cells, chunk);
@@ -47,7 +55,7 @@ fn is_possible(cells: u64, n: u64, chunk: u64, mask: u64, probes: u64) -> bool
 
 // A line fits, whether or not its chunk has a line before it.
 fn line_fits(line: Line, cells: u64, n: u64) -> bool
-    requires { ⌜ (cells ≤ 1048576) × (n ≤ 3600) ⌝ }
+    requires { ⌜ (cells ≤ mostCells) × (n ≤ mostSamples) ⌝ }
     ensures { λ r. ⌜ r ≡ fits cells n line ⌝ }
 {
     if !line.framed {
@@ -68,9 +76,12 @@ fn check_lines(
     seen: &mut [u8],
     masks: &mut [u64],
 ) -> Checked
-    requires { ⌜ ((l : ℕ) → l < lines → 107 + 33 * l + 33 ≤ length (now journal)) × (cells ≤ 1048576) × (n ≤ 3600) × (now seen ≡ replicate 16384 0) × (now masks ≡ replicate 16384 0) ⌝ }
-    ensures { λ r. ⌜ (r ≡ checkedOf (linesRight cells n (now (journal .entry)) lines) (heldProbes (now (journal .entry)) lines))
-        × (linesRight cells n (now (journal .entry)) lines ≡ true → Tables (now (journal .entry)) lines (now (seen .exit)) (now (masks .exit))) ⌝ }
+    requires { ⌜ ((l : ℕ) → l < lines → headerLength + lineLength * l + lineLength ≤ length (now journal)) × (cells ≤ mostCells) × (n ≤ mostSamples)
+        × (now seen ≡ replicate mostChunks 0) × (now masks ≡ replicate mostChunks 0) ⌝ }
+    ensures { λ r.
+        let b : List ℕ = now (journal .entry) in
+        ⌜ (r ≡ checkedOf (linesRight cells n b lines) (heldProbes b lines))
+        × (linesRight cells n b lines ≡ true → Tables b lines (now (seen .exit)) (now (masks .exit))) ⌝ }
 {
     let mut probes: u64 = 0;
     let mut l: usize = 0;
@@ -110,30 +121,30 @@ fn agrees(journal: &[u8], header: &[u8], m: usize) -> bool
 fn whole_lines(used: usize) -> usize
     ensures { λ r. ⌜ r ≡ wholeLines used ⌝ }
 {
-    if used < 107 {
+    if used < HEADER_LENGTH {
         return 0;
     }
-    (used - 107) / 33
+    (used - HEADER_LENGTH) / LINE_LENGTH
 }
 
 // The header is incomplete, or a tail shorter than a line follows the last whole line.
 pub(crate) fn is_torn(used: usize) -> bool
     ensures { λ r. ⌜ r ≡ torn used ⌝ }
 {
-    if used < 107 {
+    if used < HEADER_LENGTH {
         return true;
     }
-    (used - 107) % 33 != 0
+    (used - HEADER_LENGTH) % LINE_LENGTH != 0
 }
 
 // What recover keeps of the used bytes of a journal that is right.
 pub(crate) fn kept_length(used: usize) -> usize
     ensures { λ r. ⌜ r ≡ kept used ⌝ }
 {
-    if used < 107 {
+    if used < HEADER_LENGTH {
         return 0;
     }
-    107 + 33 * whole_lines(used)
+    HEADER_LENGTH + LINE_LENGTH * whole_lines(used)
 }
 
 // Whether the used bytes are right. The tables come blank, and are filled if they are.
@@ -146,11 +157,14 @@ pub(crate) fn check_journal(
     seen: &mut [u8],
     masks: &mut [u64],
 ) -> Checked
-    requires { ⌜ (length (now header) ≡ 107) × (cells ≤ 1048576) × (n ≤ 3600) × (used ≤ length (now journal)) × (now seen ≡ replicate 16384 0) × (now masks ≡ replicate 16384 0) ⌝ }
-    ensures { λ r. ⌜ (r ≡ checkedOf (right cells n (now (header .entry)) (now (journal .entry)) used) (heldProbes (now (journal .entry)) (wholeLines used)))
-        × (right cells n (now (header .entry)) (now (journal .entry)) used ≡ true → Tables (now (journal .entry)) (wholeLines used) (now (seen .exit)) (now (masks .exit))) ⌝ }
+    requires { ⌜ (length (now header) ≡ headerLength) × (cells ≤ mostCells) × (n ≤ mostSamples) × (used ≤ length (now journal))
+        × (now seen ≡ replicate mostChunks 0) × (now masks ≡ replicate mostChunks 0) ⌝ }
+    ensures { λ r.
+        let b : List ℕ = now (journal .entry) in
+        ⌜ (r ≡ checkedOf (right cells n (now (header .entry)) b used) (heldProbes b (wholeLines used)))
+        × (right cells n (now (header .entry)) b used ≡ true → Tables b (wholeLines used) (now (seen .exit)) (now (masks .exit))) ⌝ }
 {
-    let m = if used < 107 { used } else { 107 };
+    let m = smaller(used, HEADER_LENGTH);
     if !agrees(journal, header, m) {
         return Checked::Wrong;
     }

@@ -2,26 +2,39 @@
 // so are the Sun's units where that pays.
 ghost use mathlib.Core.Path.{_≡_};
 ghost use mathlib.Core.Bool.{true, not, _||_};
-ghost use Prim.Native.Nat.{_+_, _-_, _*_, _≤_, _<_};
+ghost use Prim.Native.Nat.{ℕ, _+_, _-_, _*_, _%_, _≤_, _<_};
 ghost use lib.Dec.{leb, ltb, eqb};
-ghost use lib.ListN.{length, getD};
-ghost use Rattle.solar_roll.specs.Plan.{planOf, count, PlanFacts};
-ghost use Rattle.roll_sweep.specs.Sweep.{chunks};
+ghost use lib.ListN.{length, getD, take};
+ghost use Rattle.buffers.specs.Ranges.{tab};
+ghost use Rattle.solar_roll.specs.Vectors.{Vector};
+ghost use Rattle.solar_roll.specs.Roll.{sunUnit};
+ghost use Rattle.solar_roll.specs.Plan.{Plan, planOf, count, rowsOf, timesOf, triple, mostCells, mostSamples, PlanFacts};
+ghost use Rattle.roll_sweep.specs.Sweep.{Sweep, chunks};
 ghost use Rattle.roll_sweep.specs.Rolls.{evenRolls};
 ghost use Rattle.roll_sweep.specs.Chunk.{sweptOf, chunkReply};
 ghost use Rattle.roll_sweep.specs.declared.chunk.Swept.{Swept};
 ghost use Rattle.buffers.specs.Refusal.{accepted};
-ghost use Rattle.journal.specs.Pass.{Ready};
-ghost use Rattle.journal.specs.Plan.{lentSweep, UnitsOf};
+ghost use Rattle.journal.specs.Lines.{lineLength};
+ghost use Rattle.journal.specs.Pass.{mostChunks, Ready};
+ghost use Rattle.journal.specs.Plan.{lentSweep, UnitsOf, tableTimes};
 ghost use Rattle.journal.specs.Range.{ranTo, ran};
+use crate::line::LINE_LENGTH;
 use crate::line::append_line;
 use roll_sweep::ChunkAnswer;
 use roll_sweep::Swept;
+use roll_sweep::cells_in;
 use roll_sweep::even_rolls;
 use roll_sweep::sweep_chunk;
-use roll_sweep::sweep_chunk_by_units;
 use solar_roll::SolarRollConfig;
+use solar_roll::sun_unit;
 use solar_roll::sun_units;
+use solar_roll::triple;
+
+// How many samples a sweep can have.
+const MOST_SAMPLES: usize = 3_600;
+
+// How many times a table of the Sun's units has room for: the hours of a leap year, 206 KB.
+const TABLE_TIMES: usize = 8_784;
 
 // What an accepted sweep gives.
 fn accepted(answer: ChunkAnswer) -> Swept
@@ -33,7 +46,34 @@ fn accepted(answer: ChunkAnswer) -> Swept
     }
 }
 
-// Sweeps a chunk of an accepted plan over its even rolls, by a table of the Sun's units of all times, if there is one.
+// The Sun's units at `cells` cells from number `first` on. Of a time that comes again, in another
+// row, the unit is not worked out again.
+fn chunk_units(suns: &[f64], observers: &[f64], first: usize, cells: usize) -> [[f64; 3]; 64]
+    requires { ⌜ (cells ≤ 64) × (0 < count (now suns)) × (first ≤ mostCells) ⌝ }
+    ensures { λ r.
+        let unit : ℕ → Vector = λ j. sunUnit (triple (now (suns .entry)) j) (triple (now (observers .entry)) j) in
+        ⌜ take cells r ≡ tab cells (λ k. unit ((first + k) % count (now (suns .entry)))) ⌝ }
+{
+    let times = suns.len() / 3;
+    let mut units = [[0.0; 3]; 64];
+    let mut k = 0;
+    while k < cells {
+        let at = k;
+        k += 1;
+        if at < times {
+            let time = (first + at) % times;
+            let unit = sun_unit(triple(suns, time), triple(observers, time));
+            units[at] = unit;
+        } else {
+            let unit = units[at - times];
+            units[at] = unit;
+        }
+    }
+    units
+}
+
+// Sweeps a chunk of an accepted plan over its even rolls: by a table of the Sun's units of all times, if there is one, else
+// by those of its own cells.
 fn sweep_even(
     targets: &[f64],
     suns: &[f64],
@@ -43,21 +83,26 @@ fn sweep_even(
     units: &[[f64; 3]],
     chunk: u64,
 ) -> Swept
-    requires { ⌜ PlanFacts (planOf (now targets) (now suns) (now observers) config) × (1 ≤ length (now rolls)) × (length (now rolls) ≤ 3600)
-        × (now rolls ≡ evenRolls (length (now rolls))) × UnitsOf (planOf (now targets) (now suns) (now observers) config) (now units)
-        × (chunk < chunks (count (now targets) * count (now suns))) ⌝ }
-    ensures { λ r. ⌜ r ≡ sweptOf (lentSweep (now (targets .entry)) (now (suns .entry)) (now (observers .entry)) config (length (now (rolls .entry)))) chunk ⌝ }
+    requires { let p : Plan = planOf (now targets) (now suns) (now observers) config in
+        ⌜ PlanFacts p × (1 ≤ length (now rolls)) × (length (now rolls) ≤ mostSamples) × (now rolls ≡ evenRolls (length (now rolls)))
+        × UnitsOf p (now units) × (chunk < chunks (rowsOf p * timesOf p)) ⌝ }
+    ensures { λ r.
+        let s : Sweep = lentSweep (now (targets .entry)) (now (suns .entry)) (now (observers .entry)) config (length (now (rolls .entry))) in
+        ⌜ r ≡ sweptOf s chunk ⌝ }
 {
+    let times = suns.len() / 3;
     if 0 < units.len() {
-        return accepted(sweep_chunk_by_units(targets, units, config, rolls, chunk));
+        return accepted(sweep_chunk(targets, times, units, config, rolls, chunk));
     }
-    accepted(sweep_chunk(targets, suns, observers, config, rolls, chunk))
+    let cells = cells_in((targets.len() / 3 * times) as u64, chunk) as usize;
+    let own = chunk_units(suns, observers, 64 * chunk as usize, cells);
+    accepted(sweep_chunk(targets, times, &own, config, rolls, chunk))
 }
 
 // Work refuses the chunk: it does not exist, it has a line, or there is no room for one.
 fn is_refused(seen: &[u8], chunks: u64, free: usize, chunk: u64) -> bool
-    requires { ⌜ (length (now seen) ≡ 16384) × (chunks ≤ 16384) ⌝ }
-    ensures { λ r. ⌜ r ≡ (leb chunks chunk || (not (eqb (getD (now (seen .entry)) chunk 0) 0) || ltb free 33)) ⌝ }
+    requires { ⌜ (length (now seen) ≡ mostChunks) × (chunks ≤ mostChunks) ⌝ }
+    ensures { λ r. ⌜ r ≡ (leb chunks chunk || (not (eqb (getD (now (seen .entry)) chunk 0) 0) || ltb free lineLength)) ⌝ }
 {
     if chunks <= chunk {
         return true;
@@ -66,7 +111,7 @@ fn is_refused(seen: &[u8], chunks: u64, free: usize, chunk: u64) -> bool
     if flag != 0 {
         return true;
     }
-    free < 33
+    free < LINE_LENGTH
 }
 
 // Appends the lines of from, from + 1, .., up to the first chunk that work refuses, or `to`. Gives the chunk at which it stopped.
@@ -85,8 +130,9 @@ fn append_swept(
 ) -> u64
     requires { ⌜ (now rolls ≡ evenRolls (length (now rolls))) × UnitsOf (planOf (now targets) (now suns) (now observers) config) (now units)
         × Ready (lentSweep (now targets) (now suns) (now observers) config (length (now rolls))) (now journal) used (now seen) ⌝ }
-    ensures { λ r. ⌜ ranTo (now (journal .exit)) (used + 33 * (r - from)) r
-        ≡ ran (lentSweep (now (targets .entry)) (now (suns .entry)) (now (observers .entry)) config (length (now (rolls .entry)))) (to - from) (ranTo (now (journal .entry)) used from) ⌝ }
+    ensures { λ r.
+        let s : Sweep = lentSweep (now (targets .entry)) (now (suns .entry)) (now (observers .entry)) config (length (now (rolls .entry))) in
+        ⌜ ranTo (now (journal .exit)) (used + lineLength * (r - from)) r ≡ ran s (to - from) (ranTo (now (journal .entry)) used from) ⌝ }
 {
     let chunks = ((targets.len() / 3 * (suns.len() / 3) + 63) / 64) as u64;
     let mut at = used as usize;
@@ -97,7 +143,7 @@ fn append_swept(
         }
         let swept = sweep_even(targets, suns, observers, config, rolls, units, chunk);
         append_line(journal, at, chunk, swept.mask, swept.probes);
-        at += 33;
+        at += LINE_LENGTH;
         chunk += 1;
     }
     chunk
@@ -106,9 +152,9 @@ fn append_swept(
 // Whether a table of the Sun's units of all times pays: it has room for them, and there are cells enough that use one again. 8 chunks pay for
 // blanking it.
 fn pays(times: usize, from: u64, to: u64) -> bool
-    ensures { λ r. ⌜ (r ≡ true → times ≤ 8784) ⌝ }
+    ensures { λ r. ⌜ (r ≡ true → times ≤ tableTimes) ⌝ }
 {
-    if 8784 < times {
+    if TABLE_TIMES < times {
         return false;
     }
     if to <= from {
@@ -118,7 +164,7 @@ fn pays(times: usize, from: u64, to: u64) -> bool
     (paid as u64) < to - from
 }
 
-// The same, by such a table: of the hours of a year at most, 206 KB.
+// The same, by such a table.
 fn append_by_units(
     targets: &[f64],
     suns: &[f64],
@@ -131,12 +177,13 @@ fn append_by_units(
     used: u64,
     seen: &[u8],
 ) -> u64
-    requires { ⌜ (now rolls ≡ evenRolls (length (now rolls))) × (count (now suns) ≤ 8784)
+    requires { ⌜ (now rolls ≡ evenRolls (length (now rolls))) × (count (now suns) ≤ tableTimes)
         × Ready (lentSweep (now targets) (now suns) (now observers) config (length (now rolls))) (now journal) used (now seen) ⌝ }
-    ensures { λ r. ⌜ ranTo (now (journal .exit)) (used + 33 * (r - from)) r
-        ≡ ran (lentSweep (now (targets .entry)) (now (suns .entry)) (now (observers .entry)) config (length (now (rolls .entry)))) (to - from) (ranTo (now (journal .entry)) used from) ⌝ }
+    ensures { λ r.
+        let s : Sweep = lentSweep (now (targets .entry)) (now (suns .entry)) (now (observers .entry)) config (length (now (rolls .entry))) in
+        ⌜ ranTo (now (journal .exit)) (used + lineLength * (r - from)) r ≡ ran s (to - from) (ranTo (now (journal .entry)) used from) ⌝ }
 {
-    let mut units = [[0.0; 3]; 8784];
+    let mut units = [[0.0; 3]; TABLE_TIMES];
     sun_units(suns, observers, 0, &mut units);
     let end = suns.len() / 3;
     append_swept(
@@ -168,10 +215,11 @@ pub(crate) fn append_lines(
     seen: &[u8],
 ) -> u64
     requires { ⌜ Ready (lentSweep (now targets) (now suns) (now observers) config n) (now journal) used (now seen) ⌝ }
-    ensures { λ r. ⌜ ranTo (now (journal .exit)) (used + 33 * (r - from)) r
-        ≡ ran (lentSweep (now (targets .entry)) (now (suns .entry)) (now (observers .entry)) config n) (to - from) (ranTo (now (journal .entry)) used from) ⌝ }
+    ensures { λ r.
+        let s : Sweep = lentSweep (now (targets .entry)) (now (suns .entry)) (now (observers .entry)) config n in
+        ⌜ ranTo (now (journal .exit)) (used + lineLength * (r - from)) r ≡ ran s (to - from) (ranTo (now (journal .entry)) used from) ⌝ }
 {
-    let mut rolls = [0.0; 3600];
+    let mut rolls = [0.0; MOST_SAMPLES];
     even_rolls(n as u32, &mut rolls);
     let end = n as usize;
     if pays(suns.len() / 3, from, to) {

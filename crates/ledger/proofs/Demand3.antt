@@ -16,14 +16,13 @@ use Rattle.buffers.specs.Refusal.{accepted}
 use Rattle.buffers.proofs.Ranges.{sum-ext, sum-rows, length-tab, getD-tab, any-tab}
 use Rattle.buffers.proofs.Rows.{cell-below}
 use Rattle.buffers.proofs.Tests.{flag-le, flag-one}
-use Rattle.solar_roll.specs.Plan.{Plan, rowsOf, timesOf, violatesAt, samplingOf, planRefusal}
+use Rattle.solar_roll.specs.Plan.{mostTimes, Plan, rowsOf, timesOf, violatesAt, samplesRefusal, planRefusal}
 use Rattle.roll_sweep.specs.Sweep.{tried, marked, cellProbes, sweepMask, sweepProbes}
 use Rattle.roll_sweep.specs.Rolls.{evenRoll}
 use Rattle.roll_sweep.proofs.Chunks.{marked-iff}
 use Rattle.roll_sweep.proofs.Tried.{tried-ext}
 use Rattle.roll_sweep.proofs.Rows.{row-part}
 use Rattle.journal.specs.Plan.{sweepOf}
-use Rattle.journal.proofs.Planned.{samples-n}
 use Rattle.windows.specs.Windows.{Columns, violationWindows, visibilityWindows}
 use Rattle.windows.specs.Refusal.{badMark, badSeverity}
 use Rattle.windows.specs.Calls.{violationReply, visibilityReply}
@@ -33,7 +32,7 @@ use Rattle.ledger.specs.Windows.{Times, rowPart}
 use Rattle.ledger.specs.Demand3.{Distinct, Start, machineAfter, Collected, Demand3}
 use Rattle.ledger.specs.Split.{splitChunks, splitLines, splitLedger}
 use Rattle.ledger.specs.Range.{RangeKept}
-use Rattle.ledger.proofs.Accepted.{accepted-plan, few-times, sampled}
+use Rattle.ledger.proofs.PlanSweep.{accepted-plan, few-times, sample-roll}
 use Rattle.ledger.proofs.Theorem.{start-blank, same-after, recover-is, collect-is, range-is}
 use Rattle.ledger.proofs.Split.{split-start, split-journal}
 use Rattle.ledger.proofs.Windows.{row-windows, places, violations-accepted, visibility-accepted}
@@ -51,18 +50,15 @@ module _ (p : Plan) (n : ℕ) where
 
   -- every sampled roll violates the cell
   every-roll : (i j : ℕ) → j < timesOf p → (marked (sweepOf p n) (i * timesOf p + j) ≡ true) ↔ ((k : ℕ) → k < n → violatesAt p i j (evenRoll n k) ≡ true)
+  unfolding sweepOf
   every-roll i j h =
-      let m = marked-iff (sweepOf p n) (i * timesOf p + j) in (
-        (λ e k l. sym (sampled p n i j k h l) ∙ m .0 e k (subst (λ (x : ℕ). k < x) (sym (samples-n p n)) l)),
-        (λ f. m .1 (λ k l. let g : k < n = subst (λ (x : ℕ). k < x) (samples-n p n) l in sampled p n i j k h g ∙ f k g)),
-      )
+      let m = marked-iff (sweepOf p n) (i * timesOf p + j) in
+      ((λ e k l. sym (sample-roll p n i j k h) ∙ m .0 e k l), (λ f. m .1 (λ k l. sample-roll p n i j k h ∙ f k l)))
 
   -- the samples tried of a cell, and of all cells, row by row
   probes-at : (i j : ℕ) → j < timesOf p → cellProbes (sweepOf p n) (i * timesOf p + j) ≡ tried n (λ k. violatesAt p i j (evenRoll n k))
-  unfolding cellProbes
-  probes-at i j h =
-      ap (λ (m : ℕ). tried m (sweepOf p n .violates (i * timesOf p + j))) (samples-n p n)
-      ∙ tried-ext n (sweepOf p n .violates (i * timesOf p + j)) (λ k. violatesAt p i j (evenRoll n k)) (λ k l. sampled p n i j k h l)
+  unfolding cellProbes sweepOf
+  probes-at i j h = tried-ext n (sweepOf p n .violates (i * timesOf p + j)) (λ k. violatesAt p i j (evenRoll n k)) (λ k l. sample-roll p n i j k h)
 
   probes-rows : sweepProbes (sweepOf p n) ≡ sum (rowsOf p) (λ i. sum (timesOf p) (λ j. cellProbes (sweepOf p n) (i * timesOf p + j)))
   unfolding sweepProbes sweepOf
@@ -105,7 +101,7 @@ module _ (p : Plan) (n : ℕ) where
 
 -- ---- "Take one accepted plan of 1 to 3,600 rolls, with strictly increasing times in document 01's range."
 
-module _ (p : Plan) (n : ℕ) (plan : planRefusal p (samplingOf n) false ≡ 0) (times : List ℤ) (t : Times (timesOf p) times) where
+module _ (p : Plan) (n : ℕ) (plan : planRefusal p (samplesRefusal n) false ≡ 0) (times : List ℤ) (t : Times (timesOf p) times) where
   -- from every start
   pub demand3-from : (l : Ledger) → Start (sweepOf p n) l → (es : List Entry) → Demand3 p n times l es
   demand3-from l h es =
@@ -142,7 +138,7 @@ module _ (p : Plan) (n : ℕ) (plan : planRefusal p (samplingOf n) false ≡ 0) 
     part-marks : any badMark (rowPart (timesOf p) i m) ≡ false
     part-marks = ap (λ (k : List ℕ). any badMark (rowPart (timesOf p) i k)) mask-is ∙ row-marks p n i g
 
-    few : length (rowPart (timesOf p) i m) ≤ 65536
+    few : length (rowPart (timesOf p) i m) ≤ mostTimes
     few = omega (arith, part-length, few-times p n plan)
 
     room-for : places room ((length (rowPart (timesOf p) i m) + 1) / 2)
@@ -159,6 +155,6 @@ module _ (p : Plan) (n : ℕ) (plan : planRefusal p (samplingOf n) false ≡ 0) 
 -- ---- work over a range, for an accepted plan, after any list from every start: its whole write, cut at byte k, leaves the journal of the ledger after
 -- the first k / 33 works and a cut of k % 33 of the next
 
-module _ (p : Plan) (n : ℕ) (plan : planRefusal p (samplingOf n) false ≡ 0) where
+module _ (p : Plan) (n : ℕ) (plan : planRefusal p (samplesRefusal n) false ≡ 0) where
   pub range-cut : (l : Ledger) → Start (sweepOf p n) l → (es : List Entry) (from to : ℕ) (x : List ℕ) → RangeKept (sweepOf p n) l es from to x
   range-cut l h es from to x = range-is (sweepOf p n) (accepted-plan p n plan) l h es from to x

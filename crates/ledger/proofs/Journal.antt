@@ -14,9 +14,8 @@ use Rattle.float.specs.Arctangent.{coefficient, halved, series, seriesAngle, ra
 use Rattle.solar_roll.specs.Vectors.{Vector, vector, dot3, norm3, cross3, over3, normalize3, unwrapOr}
 use Rattle.solar_roll.specs.Roll.{xHat, yHat, zHat, sunUnit, sunAlongBoresight, panelIsFree, panelAngle, rollIsUnconstrained, perpendicular, poleFallback, north, yAxis, bodyAxes, rollDegIn, solarOptimalRollDeg, circularDiffDeg}
 use Rattle.solar_roll.specs.Cell.{optimalRoll, violates, inForce, badPosition, badDirection, tooLarge}
-use Rattle.solar_roll.specs.Plan.{Plan, planOf, planRefusal, samplingOf, unlikeLengths, tooMany, triple, rowDirection, rowConfig, sunAt, cellOf, violatesAt, headTolerance, planPanel, planConfigured}
+use Rattle.solar_roll.specs.Plan.{Plan, planOf, planRefusal, samplesRefusal, unlikeLengths, tooMany, triple, rowDirection, rowConfig, sunAt, cellOf, violatesAt, headTolerance, planPanel, planConfigured}
 use Rattle.solar_roll.specs.declared.cell.ConfiguredRoll.the-variants.{None}
-use Rattle.roll_sweep.specs.Chunk.{cellViolated}
 use Rattle.journal.specs.Hex.{hexText}
 use Rattle.journal.specs.Lines.{lineOf}
 use Rattle.journal.specs.Header.{headerOf}
@@ -46,7 +45,7 @@ unfolding headerOf headTolerance planPanel planConfigured toBits ofInt ofBits
 example-header = refl
 
 pub example-line : lineOf (sweepOf plan 1) 0 ≡ line
-unfolding lineOf sweepOf cellViolated triple rowDirection rowConfig sunAt cellOf violatesAt planConfigured violates inForce circularDiffDeg remEuclid absOf add sub mul div rem neg lt le eq ofInt ofBits sqrtOf sunUnit optimalRoll rollIsUnconstrained sunAlongBoresight panelIsFree panelAngle solarOptimalRollDeg rollDegIn bodyAxes yAxis north perpendicular poleFallback unwrapOr normalize3 over3 cross3 norm3 dot3 toDegrees arctangent quadrantAngle ratio turnedAngle seriesAngle series halved coefficient signBitOf finite
+unfolding lineOf sweepOf triple rowDirection rowConfig sunAt cellOf violatesAt planConfigured violates inForce circularDiffDeg remEuclid absOf add sub mul div rem neg lt le eq ofInt ofBits sqrtOf sunUnit optimalRoll rollIsUnconstrained sunAlongBoresight panelIsFree panelAngle solarOptimalRollDeg rollDegIn bodyAxes yAxis north perpendicular poleFallback unwrapOr normalize3 over3 cross3 norm3 dot3 toDegrees arctangent quadrantAngle ratio turnedAngle seriesAngle series halved coefficient signBitOf finite
 example-line = refl
 
 -- ---- a list of entries, from an empty journal: every call is lent the plan, and 200 bytes beyond J
@@ -66,5 +65,5 @@ pub example-trace : trace (sweepOf plan 1) (begin room ∷ work 0 room ∷ cut 5
     ∷ record { reply = refused 10; bytes = header ++ line }
     ∷ record { reply = accepted (gathered (0 ∷ 1 ∷ []) 2); bytes = header ++ line }
     ∷ []
-unfolding trace hexText ones headerOf headTolerance planPanel toBits planRefusal samplingOf unlikeLengths tooMany first carried any badPosition badDirection tooLarge sweepOf cellViolated triple rowDirection rowConfig sunAt cellOf violatesAt planConfigured violates inForce circularDiffDeg remEuclid absOf add sub mul div rem neg lt le eq ofInt ofBits sqrtOf sunUnit optimalRoll rollIsUnconstrained sunAlongBoresight panelIsFree panelAngle solarOptimalRollDeg rollDegIn bodyAxes yAxis north perpendicular poleFallback unwrapOr normalize3 over3 cross3 norm3 dot3 toDegrees arctangent quadrantAngle ratio turnedAngle seriesAngle series halved coefficient signBitOf finite
+unfolding trace hexText ones headerOf headTolerance planPanel toBits planRefusal samplesRefusal unlikeLengths tooMany first carried any badPosition badDirection tooLarge sweepOf triple rowDirection rowConfig sunAt cellOf violatesAt planConfigured violates inForce circularDiffDeg remEuclid absOf add sub mul div rem neg lt le eq ofInt ofBits sqrtOf sunUnit optimalRoll rollIsUnconstrained sunAlongBoresight panelIsFree panelAngle solarOptimalRollDeg rollDegIn bodyAxes yAxis north perpendicular poleFallback unwrapOr normalize3 over3 cross3 norm3 dot3 toDegrees arctangent quadrantAngle ratio turnedAngle seriesAngle series halved coefficient signBitOf finite
 example-trace = refl

@@ -1,5 +1,5 @@
 -- Demand 3 and what it rests on. Demand3 has the theorem, Examples document 01's starred examples, Journal its journal.
-pub mod Accepted
+pub mod PlanSweep
 pub mod Chunks
 pub mod Written
 pub mod Known

@@ -9,14 +9,14 @@ use lib.ListN.{drop}
 use lib.Seq.{drop-at}
 use lib.Dec.{eqb}
 use Rattle.roll_sweep.specs.Sweep.{Sweep, cells, chunks}
-use Rattle.journal.specs.Lines.{lineOf}
+use Rattle.journal.specs.Lines.{headerLength, lineOf}
 use Rattle.ledger.specs.Machine.{Entry}
 use Rattle.ledger.specs.Ledger.{Ledger, blank, linesOf, ended, ledgerJournal, isIn}
 use Rattle.ledger.specs.Demand3.{Exist, Distinct, Start}
 use Rattle.ledger.specs.Split.{runChunks, runLines, splitChunks, splitLines, splitLedger}
-use Rattle.journal.proofs.Written.{Accepted}
+use Rattle.journal.proofs.Written.{SweepFacts}
 use Rattle.ledger.proofs.Chunks.{Good, good-nil}
-use Rattle.ledger.proofs.Simulation.{State, off, on, began, worked, lg}
+use Rattle.ledger.proofs.Simulation.{State, off, on, began, worked, ledgerOf}
 use Rattle.ledger.proofs.Theorem.{recover-is, start-blank, reach}
 
 -- what is in two lists, one after the other
@@ -30,18 +30,18 @@ unfolding linesOf
 lines-both s [] M = refl
 lines-both s (c ∷ L) M = ap (λ (t : List ℕ). lineOf s c ++ t) (lines-both s L M) ∙ sym (append-assoc (lineOf s c) (linesOf s L) (linesOf s M))
 
-module _ (s : Sweep) (a : Accepted s) where
+module _ (s : Sweep) (a : SweepFacts s) where
   -- one run's chunks exist, and its lines are theirs
-  good-of : (t : State s) → Good s ((lg s t) .lines)
+  good-of : (t : State s) → Good s ((ledgerOf s t) .lines)
   good-of (off k h) = good-nil s
   good-of (on L r g h) = g
   good-of began = good-nil s
   good-of (worked L c g) = g
 
-  after : (q : List ℕ) → drop 107 (s .header ++ q) ≡ q
-  after q = drop-at (s .header) q 107 (a .header)
+  after : (q : List ℕ) → drop headerLength (s .header ++ q) ≡ q
+  after q = drop-at (s .header) q headerLength (a .header)
 
-  ended-of : (t : State s) → drop 107 (ended s (lg s t)) ≡ linesOf s ((lg s t) .lines)
+  ended-of : (t : State s) → drop headerLength (ended s (ledgerOf s t)) ≡ linesOf s ((ledgerOf s t) .lines)
   unfolding ended
   ended-of (off k h) = refl
   ended-of (on L r g h) = after (linesOf s L)
@@ -56,8 +56,8 @@ module _ (s : Sweep) (a : Accepted s) where
   unfolding runLines runChunks ledgerJournal
   run-lines es =
       let r = reach s a blank (start-blank s a) es in
-      ap (drop 107) (recover-is s a blank (start-blank s a) es [])
-      ∙ ap (λ (l : Ledger). drop 107 (ended s l)) (r .ledger)
+      ap (drop headerLength) (recover-is s a blank (start-blank s a) es [])
+      ∙ ap (λ (l : Ledger). drop headerLength (ended s l)) (r .ledger)
       ∙ ended-of (r .state)
       ∙ ap (λ (l : Ledger). linesOf s (l .lines)) (sym (r .ledger))
 

@@ -1,25 +1,26 @@
 -- What machine and ledger do together from every start, for the sweep of any accepted plan: `same-after`, `recover-is`, `collect-is`; the start from an
 -- empty journal; which calls are accepted. `range-is` is a range of works. Assumes nothing.
-use mathlib.Core.Path.{_≡_, refl, sym, ap, ap₂, _∙_}
+use mathlib.Core.Path.{_≡_, refl, sym, ap, ap₂, _∙_, subst}
 use mathlib.Core.Bool.{Bool, true, false, not, false≢true}
 use mathlib.Core.List.{List, [], _∷_, _++_}
-use Prim.Native.Nat.{ℕ, _≤_}
+use Prim.Native.Nat.{ℕ, _-_, _≤_, _<_}
 use native.Mathlib.Omega.{arith}
-use lib.ListN.{length}
+use lib.ListN.{length, take, drop, take-append-drop}
+use lib.Seq.{length-take-le}
 use Rattle.buffers.specs.Refusal.{first, accepted, reply}
 use Rattle.buffers.proofs.Refusal.{reply-accepted}
 use Rattle.roll_sweep.specs.Sweep.{Sweep, cells, sweepMask, sweepProbes, chunks}
-use Rattle.journal.specs.Calls.{collectShort}
-use Rattle.journal.specs.Range.{rangeRefusal}
-use Rattle.ledger.specs.Machine.{Entry, cut, recover, collect, Machine, step, done, gathered, answer, trace, run, powerUp}
-use Rattle.ledger.specs.Ledger.{Ledger, blank, ended, ledgerJournal, isIn, areIn, unfinished, ledgerRefusal, ledgerAnswer, ledgerTrace, ledgerRun}
+use Rattle.journal.specs.Calls.{workRefusal, collectShort}
+use Rattle.journal.specs.Range.{Ran, ranTo, ran, rangeRefusal, rangeStopped}
+use Rattle.ledger.specs.Machine.{Entry, cut, recover, collect, Machine, step, done, gathered, answer, trace, machineRun, powerUp}
+use Rattle.ledger.specs.Ledger.{works, Ledger, blank, ended, ledgerJournal, isIn, areIn, unfinished, ledgerRefusal, ledgerAnswer, ledgerTrace, ledgerRun}
 use Rattle.ledger.specs.Demand3.{eventOf, events, Start, machineAt, machineAfter, ledgerAfter}
-use Rattle.ledger.specs.Range.{rangeStep, rangeEntries, ledgerRangeRefusal, RangeKept}
-use Rattle.journal.proofs.Written.{Accepted}
-use Rattle.ledger.proofs.Simulation.{State, off, on, lg, mc, Reached, same-from, reach-from, recover-at, range-at, collect-at}
-use Rattle.ledger.proofs.Range.{run-append, cut-range}
+use Rattle.ledger.specs.Range.{rangeStep, worksOf, rangeEntries, ledgerRangeRefusal, Uncut, RangeKept}
+use Rattle.journal.proofs.Written.{SweepFacts}
+use Rattle.ledger.proofs.Simulation.{State, off, on, ledgerOf, machineOf, Reached, same-from, reach-from, recover-at, work-at, range-at, collect-at}
+use Rattle.ledger.proofs.Range.{run-append, range-done, cut-range}
 
-module _ (s : Sweep) (a : Accepted s) where
+module _ (s : Sweep) (a : SweepFacts s) where
   -- a start is one of the states that the machine and the ledger go through
   start : (l : Ledger) → Start s l → Reached s a (machineAt s l) l
   start l h = go (l .mark) refl
@@ -27,11 +28,11 @@ module _ (s : Sweep) (a : Accepted s) where
       go : (m : Bool) → l .mark ≡ m → Reached s a (machineAt s l) l
       go true e =
           let t : State s = on (l .lines) (l .remnant) (record { exist = h .exist; distinct = h .distinct }) (h .tail e) in
-          let p : l ≡ lg s t = λ i. record { mark = e i; lines = l .lines; remnant = l .remnant; last = h .last i } in
+          let p : l ≡ ledgerOf s t = λ i. record { mark = e i; lines = l .lines; remnant = l .remnant; last = h .last i } in
           record { state = t; machine = λ i. record { journal = ledgerJournal s (p i); added = 0 }; ledger = p }
       go false e =
           let t : State s = off (length (l .remnant)) ((h .opening e) .0) in
-          let p : l ≡ lg s t = λ i. record { mark = e i; lines = h .off e i; remnant = (h .opening e) .1 i; last = h .last i } in
+          let p : l ≡ ledgerOf s t = λ i. record { mark = e i; lines = h .off e i; remnant = (h .opening e) .1 i; last = h .last i } in
           record { state = t; machine = λ i. record { journal = ledgerJournal s (p i); added = 0 }; ledger = p }
 
   -- where a list of entries leads from a start
@@ -41,7 +42,7 @@ module _ (s : Sweep) (a : Accepted s) where
       let r = reach-from s a es (t .state) in
       record {
         state = r .state;
-        machine = ap (run s es) (t .machine) ∙ r .machine;
+        machine = ap (machineRun s es) (t .machine) ∙ r .machine;
         ledger = ap₂ (λ (m : Machine) (l : Ledger). ledgerRun s (events s es m) l) (t .machine) (t .ledger) ∙ r .ledger;
       }
 
@@ -71,8 +72,38 @@ module _ (s : Sweep) (a : Accepted s) where
       let r = reach l h es in
       let t : State s = r .state in
       let g : gathered (sweepMask s) (sweepProbes s) ≡ gathered m q =
-      (reply-accepted (ledgerRefusal s (eventOf (collect x o) (mc s t)) (lg s t)) _ _ (sym (collect-at s a t x o) ∙ sym (ap (answer s (collect x o)) (r .machine)) ∙ e)) .1 in
+      (reply-accepted (ledgerRefusal s (eventOf (collect x o) (machineOf s t)) (ledgerOf s t)) _ _ (sym (collect-at s a t x o) ∙ sym (ap (answer s (collect x o)) (r .machine)) ∙ e)) .1 in
       (cc, cc)
+
+  -- what work of a chunk is refused with after a list, where J is the first u bytes of the buffer b
+  work-is : (l : Ledger) → Start s l → (es : List Entry) (c : ℕ) (b : List ℕ) (u : ℕ) → u ≤ length b → (machineAfter s l es) .journal ≡ take u b
+      → workRefusal s c b u ≡ ledgerRefusal s (works c (length b)) (ledgerAfter s l es)
+  work-is l h es c b u k e =
+      let r = reach l h es in
+      let j : ledgerJournal s (ledgerOf s (r .state)) ≡ take u b = sym (ap (λ (m : Machine). m .journal) (r .machine)) ∙ e in
+      let whole : ledgerJournal s (ledgerOf s (r .state)) ++ drop u b ≡ b = ap (λ (p : List ℕ). p ++ drop u b) j ∙ take-append-drop u b in
+      sym (ap₂ (workRefusal s c) whole (ap length j ∙ length-take-le u b k))
+      ∙ work-at s a (r .state) c (drop u b)
+      ∙ ap₂ (λ (n : ℕ) (l : Ledger). ledgerRefusal s (works c n) l) (ap length whole) (sym (r .ledger))
+
+  -- a range of works that is not cut
+  range-uncut : (l : Ledger) → Start s l → (es : List Entry) (from to : ℕ) (x : List ℕ) → let m : Machine = machineAfter s l es in
+      rangeRefusal s from to (m .journal ++ x) (length (m .journal)) ≡ 0 → (old : ℕ)
+      → Uncut s l es from to x m (rangeStopped s from to (m .journal ++ x) (length (m .journal)) old)
+  range-uncut l h es from to x e old =
+      let m : Machine = machineAfter s l es in
+      let d = range-done s from to x m e old in
+      let r : Ran = ran s (to - from) (ranTo (m .journal ++ x) (length (m .journal)) from) in
+      let fs : List Entry = es ++ worksOf (r .next - from) from x in
+      let j : (machineAfter s l fs) .journal ≡ take (r .used) (r .bytes) = ap (λ (y : Machine). y .journal) (run-append s es (worksOf (r .next - from) from x) (machineAt s l)) ∙ d .works in
+      subst (Uncut s l es from to x m) (sym (d .stopped)) (record {
+        some = d .some;
+        most = d .most;
+        answered = d .answered;
+        journal = d .journal ∙ sym j ∙ journal-after l h fs;
+        stopped = λ g.
+            subst (λ (n : ℕ). 0 < n) (work-is l h fs (r .next) (r .bytes) (r .used) (d .within) j ∙ ap (λ (n : ℕ). ledgerRefusal s (works (r .next) n) (ledgerAfter s l fs)) (d .room)) (d .refused g);
+      })
 
   -- a range of works, cut at any byte of its whole write
   pub range-is : (l : Ledger) → Start s l → (es : List Entry) (from to : ℕ) (x : List ℕ) → RangeKept s l es from to x
@@ -86,6 +117,7 @@ module _ (s : Sweep) (a : Accepted s) where
             ap (λ (m : Machine). rangeRefusal s from to (m .journal ++ x) (length (m .journal))) (r .machine)
             ∙ range-at s a (r .state) from to x
             ∙ sym (ap₂ (λ (m : Machine) (l : Ledger). ledgerRangeRefusal s from to (length (m .journal ++ x)) l) (r .machine) (r .ledger));
+        uncut = range-uncut l h es from to x;
         machine = cuts;
         journal = λ k g. ap (λ (m : Machine). m .journal) (cuts k g) ∙ journal-after l h (es ++ rangeEntries k from x);
       }
@@ -123,5 +155,5 @@ module _ (s : Sweep) (a : Accepted s) where
       let r = reach l h es in
       ap (answer s (collect x o)) (r .machine)
       ∙ collect-at s a (r .state) x o
-      ∙ ap (λ (l : Ledger). ledgerAnswer s (eventOf (collect x o) (mc s (r .state))) l) (sym (r .ledger))
+      ∙ ap (λ (l : Ledger). ledgerAnswer s (eventOf (collect x o) (machineOf s (r .state))) l) (sym (r .ledger))
       ∙ (λ i. reply (first ((u i, 12) ∷ (not (v i), 15) ∷ (w i, 7) ∷ [])) (gathered (sweepMask s) (sweepProbes s)))

@@ -14,8 +14,9 @@ use Rattle.buffers.specs.Ranges.{any}
 use Rattle.buffers.specs.Lent.{over}
 use Rattle.buffers.specs.Refusal.{first, accepted, reply, unlessRefused}
 use Rattle.buffers.proofs.Refusal.{reply-none, reply-accepted, written-none}
+use Rattle.solar_roll.specs.Plan.{mostTimes}
 use Rattle.windows.specs.Runs.{Run, run, violationRuns, visibilityRuns}
-use Rattle.windows.specs.Maximal.{is, Maximal, Visible, Exactly}
+use Rattle.windows.specs.Maximal.{sampleIs, Maximal, Visible, Exactly}
 use Rattle.windows.specs.Windows.{largest, windowOf, violationWindows, visibilityWindows, Columns, columns, written}
 use Rattle.windows.specs.Refusal.{beyond, badMark, badSeverity, differ, lengths, noRoom, windowsRefusal, violationRefusal, visibilityRefusal}
 use Rattle.windows.specs.Expand.{Increasing, spans, expanded, expandRefusal}
@@ -70,7 +71,7 @@ module _ (times : List ℤ) (severity : Run → Float) where
 pub row-windows : (times : List ℤ) → Increasing times → (part : List ℕ) → RowWindows times part
 unfolding violationWindows visibilityWindows
 row-windows times up part = record {
-  violations = λ severities room n e. listed times (largest severities) (Maximal (is 1 part)) (violationRuns part) (violation-runs part) room (violationRefusal part times severities (lengths room)) n e;
+  violations = λ severities room n e. listed times (largest severities) (Maximal (sampleIs 1 part)) (violationRuns part) (violation-runs part) room (violationRefusal part times severities (lengths room)) n e;
   expand = λ severities room n e mask enough. expands severities room n e mask enough;
   visible = λ room n e. listed times _ (Visible part) (visibilityRuns part) (visibility-runs part) room (visibilityRefusal part times (lengths room)) n e;
 }
@@ -94,14 +95,14 @@ row-windows times up part = record {
 abbrev pub places : Columns → ℕ → Type 0
 places c n = (differ (lengths c) ≡ false) × (n ≤ length (c .first))
 
-module _ (part : List ℕ) (times : List ℤ) (each : length times ≡ length part) (few : length part ≤ 65536) (bytes : any badMark part ≡ false) (in-range : any beyond times ≡ false) (room : Columns) (enough : places room ((length part + 1) / 2)) where
+module _ (part : List ℕ) (times : List ℤ) (each : length times ≡ length part) (few : length part ≤ mostTimes) (bytes : any badMark part ≡ false) (in-range : any beyond times ≡ false) (room : Columns) (enough : places room ((length part + 1) / 2)) where
   pub violations-accepted : (severities : List Float) → length severities ≡ length part → any badSeverity severities ≡ false
       → violationReply part times severities room ≡ accepted (length (violationWindows part times severities))
   unfolding violationRefusal windowsRefusal differ noRoom lengths reply
   violations-accepted severities rated fine =
       let t = eq-eqb (length times) (length part) each in
       let s = eq-eqb (length severities) (length part) rated in
-      let f = le-ltb 65536 (length part) few in
+      let f = le-ltb mostTimes (length part) few in
       let r = le-ltb (length (room .first)) (length (violationRuns part)) (omega (arith, violation-bound part, enough .1)) in
       λ i. reply (first ((not (t i) || (not (s i) || false) || enough .0 i, 1) ∷ (f i, 2) ∷ (in-range i, 8) ∷ (bytes i || fine i, 14) ∷ (r i, 7) ∷ [])) (length (violationWindows part times severities))
 
@@ -109,6 +110,6 @@ module _ (part : List ℕ) (times : List ℤ) (each : length times ≡ length pa
   unfolding visibilityRefusal windowsRefusal differ noRoom lengths any reply
   visibility-accepted =
       let t = eq-eqb (length times) (length part) each in
-      let f = le-ltb 65536 (length part) few in
+      let f = le-ltb mostTimes (length part) few in
       let r = le-ltb (length (room .first)) (length (visibilityRuns part)) (omega (arith, visibility-bound part, enough .1)) in
       λ i. reply (first (((not (t i) || false) || enough .0 i, 1) ∷ (f i, 2) ∷ (in-range i, 8) ∷ (bytes i || false, 14) ∷ (r i, 7) ∷ [])) (length (visibilityWindows part times))

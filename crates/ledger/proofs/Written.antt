@@ -12,9 +12,9 @@ use borrow.Author.Tests.{lt-ltb, le-ltb, eq-eqb, eqb-true}
 use Rattle.buffers.proofs.Ranges.{all-iff}
 use Rattle.buffers.proofs.Tests.{and-both}
 use Rattle.roll_sweep.specs.Sweep.{Sweep, cells, chunkMask, chunkProbes}
-use Rattle.journal.specs.Lines.{lineOf, lineStart, hasChunk, heldMask, heldProbes}
+use Rattle.journal.specs.Lines.{lineLength, headerLength, lineOf, lineStart, hasChunk, heldMask, heldProbes}
 use Rattle.journal.specs.Right.{wholeLines, torn, agree, lineRight, linesRight, right}
-use Rattle.journal.proofs.Written.{Accepted, length-line, LineAt, read-line, line-right}
+use Rattle.journal.proofs.Written.{SweepFacts, length-line, LineAt, read-line, line-right}
 use Rattle.ledger.specs.Ledger.{linesOf, isEmpty, isIn}
 use Rattle.ledger.proofs.Chunks.{from-end, length-end, lines-end, in-end, Good, good-before, good-last, good-new, sumOver, over-nil, over-end}
 
@@ -23,19 +23,19 @@ use Rattle.ledger.proofs.Chunks.{from-end, length-end, lines-end, in-en
 abbrev pub front : Sweep → List ℕ → List ℕ
 front s L = s .header ++ linesOf s L
 
-pub length-lines : (s : Sweep) (L : List ℕ) → length (linesOf s L) ≡ 33 * length L
+pub length-lines : (s : Sweep) (L : List ℕ) → length (linesOf s L) ≡ lineLength * length L
 unfolding linesOf
 length-lines s [] = refl
 length-lines s (c ∷ L) = simp (length-append, length-line) (omega (arith, length-lines s L))
 
-pub length-front : (s : Sweep) → Accepted s → (L : List ℕ) → length (front s L) ≡ 107 + 33 * length L
+pub length-front : (s : Sweep) → SweepFacts s → (L : List ℕ) → length (front s L) ≡ headerLength + lineLength * length L
 length-front s a L = length-append (s .header) (linesOf s L) ∙ omega (arith, a .header, length-lines s L)
 
 -- the last line, split off
 pub front-end : (s : Sweep) (L : List ℕ) (c : ℕ) (q : List ℕ) → front s (L ++ (c ∷ [])) ++ q ≡ front s L ++ (lineOf s c ++ q)
 front-end s L c q = ap (λ (t : List ℕ). s .header ++ t ++ q) (lines-end s L c) ∙ simp append-assoc
 
-module _ (s : Sweep) (a : Accepted s) where
+module _ (s : Sweep) (a : SweepFacts s) where
   -- L's last line, read
   module _ (L : List ℕ) (c : ℕ) (q : List ℕ) (g : Good s (L ++ (c ∷ []))) where
     last-line : LineAt s (front s L ++ (lineOf s c ++ q)) (length L) c
@@ -99,14 +99,14 @@ module _ (s : Sweep) (a : Accepted s) where
 
 -- ---- a journal is right: the header, lines and less than a line more; or a beginning of the header. `q` is what lies beyond it
 
-module _ (s : Sweep) (a : Accepted s) where
+module _ (s : Sweep) (a : SweepFacts s) where
   agree-all : (b h : List ℕ) (k : ℕ) → ((i : ℕ) → i < k → getD b i 0 ≡ getD h i 0) → agree b h k ≡ true
   unfolding agree
   agree-all b h k f = (all-iff k (λ j. eqb (getD b j 0) (getD h j 0))) .1 (λ i l. eq-eqb _ _ (f i l))
 
   -- the mark is on: L's lines, and a remnant r
-  module _ (L r : List ℕ) (h : length r < 33) where
-    pub used-on : length (front s L ++ r) ≡ 107 + 33 * length L + length r
+  module _ (L r : List ℕ) (h : length r < lineLength) where
+    pub used-on : length (front s L ++ r) ≡ headerLength + lineLength * length L + length r
     used-on = length-append (front s L) r ∙ omega (arith, length-front s a L)
 
     pub whole-on : wholeLines (length (front s L ++ r)) ≡ length L
@@ -115,9 +115,9 @@ module _ (s : Sweep) (a : Accepted s) where
 
     pub torn-on : torn (length (front s L ++ r)) ≡ not (isEmpty r)
     unfolding torn
-    torn-on = ap₂ (λ (x y : Bool). x || not y) (le-ltb (length (front s L ++ r)) 107 (omega (arith, used-on))) (rest r (omega (arith, used-on)))
+    torn-on = ap₂ (λ (x y : Bool). x || not y) (le-ltb (length (front s L ++ r)) headerLength (omega (arith, used-on))) (rest r (omega (arith, used-on)))
       where
-        rest : (t : List ℕ) → (length (front s L ++ r) - 107) % 33 ≡ length t → eqb ((length (front s L ++ r) - 107) % 33) 0 ≡ isEmpty t
+        rest : (t : List ℕ) → (length (front s L ++ r) - headerLength) % lineLength ≡ length t → eqb ((length (front s L ++ r) - headerLength) % lineLength) 0 ≡ isEmpty t
         rest [] e = eq-eqb _ _ e
         rest (x ∷ t) e = ap (λ (n : ℕ). eqb n 0) e ∙ eqb·suc-zero (length t)
 
@@ -127,11 +127,11 @@ module _ (s : Sweep) (a : Accepted s) where
         let e : front s L ++ r ++ q ≡ front s L ++ (r ++ q) = append-assoc (front s L) r q in
         let f : front s L ++ r ++ q ≡ s .header ++ (linesOf s L ++ (r ++ q)) = simp append-assoc in
         and-both _ _
-        (agree-all (front s L ++ r ++ q) (s .header) (min (length (front s L ++ r)) 107) (λ i l. ap (λ (b : List ℕ). getD b i 0) f ∙ List·getD-append (s .header) (linesOf s L ++ (r ++ q)) 0 i (omega (arith, a .header))))
+        (agree-all (front s L ++ r ++ q) (s .header) (min (length (front s L ++ r)) headerLength) (λ i l. ap (λ (b : List ℕ). getD b i 0) f ∙ List·getD-append (s .header) (linesOf s L ++ (r ++ q)) 0 i (omega (arith, a .header))))
         (ap₂ (λ (b : List ℕ) (n : ℕ). linesRight (cells s) (s .samples) b n) e whole-on ∙ right-front s a L (r ++ q) g)
 
   -- the mark is off: a proper beginning of the header
-  module _ (k : ℕ) (h : k < 107) where
+  module _ (k : ℕ) (h : k < headerLength) where
     pub used-off : length (take k (s .header)) ≡ k
     used-off = length-take-le k (s .header) (omega (arith, a .header))
 
@@ -141,11 +141,11 @@ module _ (s : Sweep) (a : Accepted s) where
 
     pub torn-off : torn (length (take k (s .header))) ≡ true
     unfolding torn
-    torn-off = ap (λ (x : Bool). x || not (eqb ((length (take k (s .header)) - 107) % 33) 0)) (lt-ltb (length (take k (s .header))) 107 (omega (arith, used-off)))
+    torn-off = ap (λ (x : Bool). x || not (eqb ((length (take k (s .header)) - headerLength) % lineLength) 0)) (lt-ltb (length (take k (s .header))) headerLength (omega (arith, used-off)))
 
     pub right-off : (q : List ℕ) → right (cells s) (s .samples) (s .header) (take k (s .header) ++ q) (length (take k (s .header))) ≡ true
     unfolding right
     right-off q =
         and-both _ _
-        (agree-all (take k (s .header) ++ q) (s .header) (min (length (take k (s .header))) 107) (λ i l. List·getD-append (take k (s .header)) q 0 i (omega arith) ∙ getD-take k (s .header) i 0 (omega (arith, used-off))))
+        (agree-all (take k (s .header) ++ q) (s .header) (min (length (take k (s .header))) headerLength) (λ i l. List·getD-append (take k (s .header)) q 0 i (omega arith) ∙ getD-take k (s .header) i 0 (omega (arith, used-off))))
         (ap (linesRight (cells s) (s .samples) (take k (s .header) ++ q)) whole-off)

@@ -14,7 +14,7 @@ use Rattle.roll_sweep.specs.Sweep.{Sweep, cells, chunks, tried}
 use Rattle.roll_sweep.specs.Rolls.{evenRoll}
 use Rattle.journal.specs.Lines.{headerLength, lineLength}
 use Rattle.journal.specs.Plan.{sweepOf}
-use Rattle.ledger.specs.Machine.{Entry, begin, work, cut, recover, collect, Machine, step, done, gathered, answer, trace, run}
+use Rattle.ledger.specs.Machine.{Entry, begin, work, cut, recover, collect, Machine, step, done, gathered, answer, trace, machineRun}
 use Rattle.ledger.specs.Ledger.{Event, begins, works, cuts, recovers, collects, none, Ledger, ended, ledgerJournal, isIn, ledgerTrace, ledgerRun}
 use Rattle.ledger.specs.Windows.{rowPart, RowWindows}
 
@@ -58,7 +58,7 @@ abbrev pub machineAt : Sweep → Ledger → Machine
 machineAt s l = record { journal = ledgerJournal s l; added = 0 }
 
 abbrev pub machineAfter : Sweep → Ledger → List Entry → Machine
-machineAfter s l es = run s es (machineAt s l)
+machineAfter s l es = machineRun s es (machineAt s l)
 
 abbrev pub ledgerAfter : Sweep → Ledger → List Entry → Ledger
 ledgerAfter s l es = ledgerRun s (events s es (machineAt s l)) l
@@ -78,15 +78,18 @@ pub record Collected (p : Plan) (n : ℕ) (times : List ℤ) (m : List ℕ) (q :
   -- "Each row's violation windows .. Its visibility windows ..": in Windows, clause by clause
   pub windows : (i : ℕ) → i < rowsOf p → RowWindows times (rowPart (timesOf p) i m)
 
--- From the state of the ledger l, where that is a start: "For every list of begin, work, cut, recover and collect .., refused calls included, each on
--- the journal that the one before left, and whichever byte the power fails at:"
-pub record Demand3 (p : Plan) (n : ℕ) (times : List ℤ) (l : Ledger) (es : List Entry) : Type 0 where
+-- The clauses, for the sweep s of the plan, from the state of the ledger l, where that is a start: "For every list of begin, work, cut, recover and
+-- collect .., refused calls included, each on the journal that the one before left, and whichever byte the power fails at:"
+pub record Demand3Of (s : Sweep) (p : Plan) (n : ℕ) (times : List ℤ) (l : Ledger) (es : List Entry) : Type 0 where
   -- "the journal's bytes and each answer equal those of document 01's ledger": after every entry
-  pub same : trace (sweepOf p n) es (machineAt (sweepOf p n) l) ≡ ledgerTrace (sweepOf p n) (events (sweepOf p n) es (machineAt (sweepOf p n) l)) l
+  pub same : trace s es (machineAt s l) ≡ ledgerTrace s (events s es (machineAt s l)) l
   -- "and an accepted recover" (the next entry, after any list) "leaves exactly the header, if its writing ended, and the lines whose writing ended,
   -- in the order written."
-  pub recovered : (x : List ℕ) → answer (sweepOf p n) (recover x) (machineAfter (sweepOf p n) l es) ≡ accepted done
-      → (step (sweepOf p n) (recover x) (machineAfter (sweepOf p n) l es)) .journal ≡ ended (sweepOf p n) (ledgerAfter (sweepOf p n) l es)
+  pub recovered : (x : List ℕ) → answer s (recover x) (machineAfter s l es) ≡ accepted done
+      → (step s (recover x) (machineAfter s l es)) .journal ≡ ended s (ledgerAfter s l es)
   -- "Once the header stands and each chunk has a line, an accepted collect" (the next entry, after any list) ..
-  pub collected : (x o m : List ℕ) (q : ℕ) → answer (sweepOf p n) (collect x o) (machineAfter (sweepOf p n) l es) ≡ accepted (gathered m q)
-      → Collected p n times m q
+  pub collected : (x o m : List ℕ) (q : ℕ) → answer s (collect x o) (machineAfter s l es) ≡ accepted (gathered m q) → Collected p n times m q
+
+-- for a plan of n rolls and its times
+abbrev pub Demand3 : Plan → ℕ → List ℤ → Ledger → List Entry → Type 0
+Demand3 p n times l es = Demand3Of (sweepOf p n) p n times l es

@@ -6,7 +6,7 @@ use Prim.Native.Nat.{ℕ, _-_}
 use lib.Dec.{leb, ltb, eqb}
 use lib.ListN.{length, take}
 use Rattle.buffers.specs.Ranges.{allBelow}
-use Rattle.buffers.specs.Refusal.{first, Reply, reply, unlessRefused}
+use Rattle.buffers.specs.Refusal.{Conditions, first, Reply, reply, unlessRefused}
 use Rattle.roll_sweep.specs.Sweep.{Sweep, cells, chunks, sweepMask, sweepProbes}
 use Rattle.journal.specs.Lines.{lineOf}
 use Rattle.journal.specs.Calls.{beginShort, workShort, collectShort}
@@ -85,25 +85,28 @@ unfinished l = not (l .mark) || not (isEmpty (l .remnant))
 
 -- "Begin: 13 if this J is not empty, .. Work c: 9 if no chunk c exists; 12 if the mark is off or the remnant has bytes; 10 if c is in L; ..
 -- Collect: 12 as in work, 15 if a chunk is not in L; .. 7, in the calls that have it, comes last." Recover has none, and a cut is no call.
-unfoldable pub ledgerRefusal : Sweep → Event → Ledger → ℕ
-unfolding first ledgerJournal beginShort chunks isIn workShort areIn collectShort
-ledgerRefusal s (begins room) l =
-    first ((not (isEmpty (ledgerJournal s l)), 13)
+abbrev pub ledgerConditions : Sweep → Event → Ledger → Conditions
+ledgerConditions s (begins room) l =
+    (not (isEmpty (ledgerJournal s l)), 13)
     ∷ (beginShort room, 7)
-    ∷ [])
-ledgerRefusal s (works c room) l =
-    first ((leb (chunks (cells s)) c, 9)
+    ∷ []
+ledgerConditions s (works c room) l =
+    (leb (chunks (cells s)) c, 9)
     ∷ (unfinished l, 12)
     ∷ (isIn c (l .lines), 10)
     ∷ (workShort room (length (ledgerJournal s l)), 7)
-    ∷ [])
-ledgerRefusal s (cuts k) l = 0
-ledgerRefusal s (recovers room) l = 0
-ledgerRefusal s (collects room maskRoom) l =
-    first ((unfinished l, 12)
+    ∷ []
+ledgerConditions s (cuts k) l = []
+ledgerConditions s (recovers room) l = []
+ledgerConditions s (collects room maskRoom) l =
+    (unfinished l, 12)
     ∷ (not (areIn (chunks (cells s)) (l .lines)), 15)
     ∷ (collectShort s maskRoom, 7)
-    ∷ [])
+    ∷ []
+
+unfoldable pub ledgerRefusal : Sweep → Event → Ledger → ℕ
+unfolding first ledgerJournal beginShort chunks isIn workShort areIn collectShort
+ledgerRefusal s v l = first (ledgerConditions s v l)
 
 -- ---- what it answers and changes where it is accepted
 

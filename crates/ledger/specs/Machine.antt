@@ -95,7 +95,7 @@ trace s [] m = []
 trace s (e ∷ es) m = record { reply = answer s e m; bytes = (step s e m) .journal } ∷ trace s es (step s e m)
 
 -- the machine after a list of entries
-unfoldable pub run : Sweep → List Entry → Machine → Machine
+unfoldable pub machineRun : Sweep → List Entry → Machine → Machine
 unfolding step
-run s [] m = m
-run s (e ∷ es) m = run s es (step s e m)
+machineRun s [] m = m
+machineRun s (e ∷ es) m = machineRun s es (step s e m)

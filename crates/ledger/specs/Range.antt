@@ -2,13 +2,13 @@
 -- Definitions only. Assumes nothing.
 use mathlib.Core.Path.{_≡_}
 use mathlib.Core.List.{List, [], _∷_, _++_}
-use Prim.Native.Nat.{ℕ, zero, suc, _+_, _-_, _/_, _%_, _≤_}
+use Prim.Native.Nat.{ℕ, zero, suc, _+_, _-_, _*_, _/_, _%_, _≤_, _<_}
 use lib.Dec.{leb}
 use lib.ListN.{length, take, drop}
-use Rattle.buffers.specs.Refusal.{first, carried}
+use Rattle.buffers.specs.Refusal.{first, carried, accepted}
 use Rattle.roll_sweep.specs.Sweep.{Sweep}
 use Rattle.journal.specs.Lines.{lineLength}
-use Rattle.journal.specs.Range.{rangeRefusal, rangeReply, rangeBytes}
+use Rattle.journal.specs.Range.{rangeRefusal, rangeReply, rangeBytes, rangeStopped}
 use Rattle.ledger.specs.Machine.{Entry, work, cut, Machine, usedAfter, step}
 use Rattle.ledger.specs.Ledger.{works, Ledger, ledgerJournal, ledgerRefusal}
 use Rattle.ledger.specs.Demand3.{machineAfter, ledgerAfter}
@@ -26,11 +26,17 @@ unfoldable pub rangeStep : Sweep → ℕ → ℕ → List ℕ → Machine → Ma
 unfolding rangeJournal
 rangeStep s from to x m = record { journal = rangeJournal s from to x m; added = length (rangeJournal s from to x m) - length (m .journal) }
 
--- q works from chunk c on, each lent what the one before left in the same buffer, and of the next a cut that leaves r bytes. With r = 0 the next leaves
--- nothing, whether it was accepted or not
-unfoldable pub worksCut : ℕ → ℕ → ℕ → List ℕ → List Entry
-worksCut zero r c x = work c x ∷ cut r ∷ []
-worksCut (suc q) r c x = work c x ∷ worksCut q r (c + 1) (drop lineLength x)
+-- q works from chunk c on, each lent what the one before left in the same buffer; then what `rest` makes of the next chunk and of what is left of x
+unfoldable pub worksThen : ℕ → ℕ → List ℕ → (ℕ → List ℕ → List Entry) → List Entry
+worksThen zero c x rest = rest c x
+worksThen (suc q) c x rest = work c x ∷ worksThen q (c + 1) (drop lineLength x) rest
+
+-- the works alone; and with a cut of the next that leaves r bytes of it. With r = 0 the next leaves nothing, whether it was accepted or not
+abbrev pub worksOf : ℕ → ℕ → List ℕ → List Entry
+worksOf q c x = worksThen q c x (λ d y. [])
+
+abbrev pub worksCut : ℕ → ℕ → ℕ → List ℕ → List Entry
+worksCut q r c x = worksThen q c x (λ d y. work d y ∷ cut r ∷ [])
 
 -- what its write, cut at byte k, comes to: the first k / 33 works, and a cut of k % 33 of the next
 abbrev pub rangeEntries : ℕ → ℕ → List ℕ → List Entry
@@ -44,14 +50,31 @@ ledgerRangeRefusal s from to room l =
     ∷ carried (ledgerRefusal s (works from room) l)
     ∷ [])
 
--- after a list es of entries from the state of the ledger l, and a range
-pub record RangeKept (s : Sweep) (l : Ledger) (es : List Entry) (from to : ℕ) (x : List ℕ) : Type 0 where
+-- an accepted range that is not cut, on the machine m after the entries es: c is the lent number that it leaves
+pub record Uncut (s : Sweep) (l : Ledger) (es : List Entry) (from to : ℕ) (x : List ℕ) (m : Machine) (c : ℕ) : Type 0 where
+  -- it did the works of from, .., c - 1, and one at least
+  pub some : from < c
+  pub most : c ≤ to
+  -- it answers the used length after their lines
+  pub answered : rangeReply s from to (m .journal ++ x) (length (m .journal)) ≡ accepted (length (m .journal) + lineLength * (c - from))
+  -- it leaves the journal of the ledger after them
+  pub journal : rangeJournal s from to x m ≡ ledgerJournal s (ledgerAfter s l (es ++ worksOf (c - from) from x))
+  -- it stopped at c because that is the end, or because the ledger refuses work of c there
+  pub stopped : c < to → 0 < ledgerRefusal s (works c (length (m .journal ++ x))) (ledgerAfter s l (es ++ worksOf (c - from) from x))
+
+-- the clauses, of a range on the machine m after the entries es
+pub record RangeKeptOn (s : Sweep) (l : Ledger) (es : List Entry) (from to : ℕ) (x : List ℕ) (m : Machine) : Type 0 where
   -- it is accepted, or refused with its number, as the ledger says
-  pub refusal : rangeRefusal s from to ((machineAfter s l es) .journal ++ x) (length ((machineAfter s l es) .journal))
-      ≡ ledgerRangeRefusal s from to (length ((machineAfter s l es) .journal ++ x)) (ledgerAfter s l es)
+  pub refusal : rangeRefusal s from to (m .journal ++ x) (length (m .journal)) ≡ ledgerRangeRefusal s from to (length (m .journal ++ x)) (ledgerAfter s l es)
+  -- uncut: the answer, the lent number (whatever it was before) and the journal
+  pub uncut : rangeRefusal s from to (m .journal ++ x) (length (m .journal)) ≡ 0 → (old : ℕ)
+      → Uncut s l es from to x m (rangeStopped s from to (m .journal ++ x) (length (m .journal)) old)
   -- its whole write cut at byte k: the machine is that of the works and the cut. k may be all of its bytes: such a cut leaves the journal as the range left it
-  pub machine : (k : ℕ) → k ≤ (rangeStep s from to x (machineAfter s l es)) .added
-      → step s (cut k) (rangeStep s from to x (machineAfter s l es)) ≡ machineAfter s l (es ++ rangeEntries k from x)
+  pub machine : (k : ℕ) → k ≤ (rangeStep s from to x m) .added → step s (cut k) (rangeStep s from to x m) ≡ machineAfter s l (es ++ rangeEntries k from x)
   -- and the journal is that of the ledger after them
-  pub journal : (k : ℕ) → k ≤ (rangeStep s from to x (machineAfter s l es)) .added
-      → (step s (cut k) (rangeStep s from to x (machineAfter s l es))) .journal ≡ ledgerJournal s (ledgerAfter s l (es ++ rangeEntries k from x))
+  pub journal : (k : ℕ) → k ≤ (rangeStep s from to x m) .added
+      → (step s (cut k) (rangeStep s from to x m)) .journal ≡ ledgerJournal s (ledgerAfter s l (es ++ rangeEntries k from x))
+
+-- after a list es of entries from the state of the ledger l
+abbrev pub RangeKept : Sweep → Ledger → List Entry → ℕ → ℕ → List ℕ → Type 0
+RangeKept s l es from to x = RangeKeptOn s l es from to x (machineAfter s l es)

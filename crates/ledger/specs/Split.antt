@@ -6,7 +6,7 @@ use Prim.Native.Nat.{ℕ}
 use lib.ListN.{drop}
 use Rattle.journal.specs.Lines.{headerLength}
 use Rattle.roll_sweep.specs.Sweep.{Sweep}
-use Rattle.ledger.specs.Machine.{Entry, recover, step, run, powerUp}
+use Rattle.ledger.specs.Machine.{Entry, recover, step, machineRun, powerUp}
 use Rattle.ledger.specs.Ledger.{none, Ledger, blank, ledgerRun}
 use Rattle.ledger.specs.Demand3.{events}
 
@@ -15,7 +15,7 @@ unfoldable pub runChunks : Sweep → List Entry → List ℕ
 runChunks s es = (ledgerRun s (events s es powerUp) blank) .lines
 
 unfoldable pub runLines : Sweep → List Entry → List ℕ
-runLines s es = drop headerLength ((step s (recover []) (run s es powerUp)) .journal)
+runLines s es = drop headerLength ((step s (recover []) (machineRun s es powerUp)) .journal)
 
 -- of several runs, one after the other
 unfoldable pub splitChunks : Sweep → List (List Entry) → List ℕ

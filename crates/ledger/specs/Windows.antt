@@ -12,7 +12,7 @@ use Rattle.buffers.specs.Ranges.{any}
 use Rattle.buffers.specs.Lent.{over}
 use Rattle.buffers.specs.Refusal.{accepted}
 use Rattle.windows.specs.Runs.{Run, run}
-use Rattle.windows.specs.Maximal.{is, Maximal, Visible, Exactly}
+use Rattle.windows.specs.Maximal.{sampleIs, Maximal, Visible, Exactly}
 use Rattle.windows.specs.Windows.{Columns}
 use Rattle.windows.specs.Refusal.{beyond}
 use Rattle.windows.specs.Expand.{Increasing}
@@ -51,7 +51,7 @@ pub record ExpandsTo (part : List ℕ) (times : List ℤ) (n : ℕ) (c : Columns
 pub record RowWindows (times : List ℤ) (part : List ℕ) : Type 0 where
   -- "Each row's violation windows are its maximal marked runs, each once, in time order,"
   pub violations : (severities : List Float) (room : Columns) (n : ℕ) → violationReply part times severities room ≡ accepted n
-      → Listed (Maximal (is 1 part)) times n (violationColumns part times severities room)
+      → Listed (Maximal (sampleIs 1 part)) times n (violationColumns part times severities room)
   -- "and expand to its part of that mask."
   pub expand : (severities : List Float) (room : Columns) (n : ℕ) → violationReply part times severities room ≡ accepted n
       → (mask : List ℕ) → length times ≤ length mask → ExpandsTo part times n (violationColumns part times severities room) mask

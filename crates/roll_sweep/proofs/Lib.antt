@@ -6,4 +6,4 @@ pub mod Rows
 pub mod Even
 pub mod Swept
 pub mod Cells
-pub mod Accepted
+pub mod ChunkFacts

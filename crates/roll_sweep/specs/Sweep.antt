@@ -1,6 +1,6 @@
 -- Section 3: which cells a sweep marks and how many samples it tries, whole and by chunks of 64 cells. Nothing here depends on how a cell is
--- found to be violated, nor on where the samples come from: a plan is brought in by one definition, `sweepOver`. Definitions only. Assumes
--- nothing.
+-- found to be violated, nor on where the samples come from: a plan is brought in by one definition, `sweepOf` (journal: specs/Plan). Definitions
+-- only. Assumes nothing.
 use mathlib.Core.Bool.{Bool}
 use mathlib.Core.List.{List}
 use Prim.Native.Nat.{ℕ, _+_, _-_, _*_, _/_, _^_, min}

@@ -1,6 +1,9 @@
 // The sweep of one chunk of cells.
 use buffers::smaller;
 use solar_roll::ConfiguredRoll;
+use solar_roll::MOST_CELLS;
+use solar_roll::MOST_ROWS;
+use solar_roll::MOST_TIMES;
 use solar_roll::Panel;
 use solar_roll::SolarRollConfig;
 use solar_roll::body_axes;
@@ -9,22 +12,20 @@ use solar_roll::free_or_at;
 use solar_roll::panel_of;
 use solar_roll::rolls_deg_in;
 use solar_roll::row_config;
-use solar_roll::sampling;
-use solar_roll::sun_unit;
-use solar_roll::triple;
+use solar_roll::samples_refusal;
 use solar_roll::violated;
 ghost use mathlib.Core.Path.{_≡_};
+ghost use mathlib.Core.Bool.{Bool};
 ghost use mathlib.Core.List.{[]};
-ghost use Prim.Native.Nat.{_+_, _-_, _*_, _/_, _%_, _≤_, _<_, min};
+ghost use Prim.Native.Nat.{ℕ, _+_, _-_, _*_, _≤_, _<_};
 ghost use lib.Count.{ones};
-ghost use lib.ListN.{length, getD, take};
-ghost use lib.Ieee.{nan};
-ghost use Rattle.buffers.specs.Ranges.{tab};
-ghost use Rattle.solar_roll.specs.Roll.{sunUnit};
+ghost use lib.ListN.{length, getD};
+ghost use lib.Ieee.{Float, nan};
 ghost use Rattle.solar_roll.specs.Cell.{rollIn, violates};
-ghost use Rattle.solar_roll.specs.Plan.{planOf, triple, count};
+ghost use Rattle.solar_roll.specs.Plan.{mostTimes, mostCells, mostSamples};
+ghost use Rattle.solar_roll.specs.declared.cell.CellRoll.{CellRoll};
 ghost use Rattle.roll_sweep.specs.Sweep.{cellsIn};
-ghost use Rattle.roll_sweep.specs.Chunk.{cellViolated, violatedAtRoll, violatedIn, unitsViolated, sweptBy, chunkRefusal, chunkReply, sweptReply};
+ghost use Rattle.roll_sweep.specs.Chunk.{violatesBy, sampleRoll, sweptBy, chunkRefusal, chunkReply, sweptReply};
 
 // What the sweep of cells gives: bit k of the mask is cell k, set where every sample violates it;
 // probes is how many samples were tried.
@@ -50,30 +51,6 @@ pub fn cells_in(cells: u64, chunk: u64) -> u64
     if left < 64 { left } else { 64 }
 }
 
-// The Sun's units at `cells` cells from number `first` on. Of a time that comes again, in another
-// row, the unit is not worked out again.
-fn chunk_units(suns: &[f64], observers: &[f64], first: usize, cells: usize) -> [[f64; 3]; 64]
-    requires { ⌜ (cells ≤ 64) × (0 < count (now suns)) × (first ≤ 1048576) ⌝ }
-    ensures { λ r. ⌜ take cells r ≡ tab cells (λ k. sunUnit (triple (now (suns .entry)) ((first + k) % count (now (suns .entry)))) (triple (now (observers .entry)) ((first + k) % count (now (suns .entry))))) ⌝ }
-{
-    let times = suns.len() / 3;
-    let mut units = [[0.0; 3]; 64];
-    let mut k = 0;
-    while k < cells {
-        let at = k;
-        k += 1;
-        if at < times {
-            let time = (first + at) % times;
-            let unit = sun_unit(triple(suns, time), triple(observers, time));
-            units[at] = unit;
-        } else {
-            let unit = units[at - times];
-            units[at] = unit;
-        }
-    }
-    units
-}
-
 // Sweeps cells of one row, a cell for each of the Sun's units: their optimal rolls are worked out side
 // by side; then the rolls are tried on each in turn, up to the first at which it is clear.
 fn sweep_row(
@@ -83,8 +60,11 @@ fn sweep_row(
     tolerance_deg: f64,
     rolls: &[f64],
 ) -> Swept
-    requires { ⌜ (length (now units) ≤ 64) × (length (now rolls) ≤ 3600) ⌝ }
-    ensures { λ r. ⌜ r ≡ sweptBy (length (now (units .entry))) (length (now (rolls .entry))) (λ k s. violates (rollIn axes (getD (now (units .entry)) k []) panel) (getD (now (rolls .entry)) s nan) «tolerance_deg») ⌝ }
+    requires { ⌜ (length (now units) ≤ 64) × (length (now rolls) ≤ mostSamples) ⌝ }
+    ensures { λ r.
+        let cell : ℕ → CellRoll = λ k. rollIn axes (getD (now (units .entry)) k []) panel in
+        let roll : ℕ → Float = λ s. getD (now (rolls .entry)) s nan in
+        ⌜ r ≡ sweptBy (length (now (units .entry))) (length (now (rolls .entry))) (λ k s. violates (cell k) (roll s) «tolerance_deg») ⌝ }
 {
     let mut optimal = [0.0; 64];
     rolls_deg_in(axes, units, panel.angle, &mut optimal);
@@ -117,8 +97,11 @@ fn sweep_cells(
     first: usize,
     cells: usize,
 ) -> Swept
-    requires { ⌜ (cells ≤ 64) × (length (now rolls) ≤ 3600) × (0 < times) × (times ≤ 65536) × (0 < length (now units)) × (first + cells ≤ 1048576) ⌝ }
-    ensures { λ r. ⌜ r ≡ sweptBy cells (length (now (rolls .entry))) (λ k s. violatedAtRoll (now (targets .entry)) config ((first + k) / times) (getD (now (units .entry)) ((first + k) % length (now (units .entry))) []) (getD (now (rolls .entry)) s nan)) ⌝ }
+    requires { ⌜ (cells ≤ 64) × (length (now rolls) ≤ mostSamples) × (0 < times) × (times ≤ mostTimes) × (0 < length (now units))
+        × (first + cells ≤ mostCells) ⌝ }
+    ensures { λ r.
+        let violated : ℕ → Float → Bool = violatesBy (now (targets .entry)) times (now (units .entry)) config in
+        ⌜ r ≡ sweptBy cells (length (now (rolls .entry))) (λ k s. violated (first + k) (getD (now (rolls .entry)) s nan)) ⌝ }
 {
     let normal = config.panel_normal;
     let panel = panel_of(normal);
@@ -148,7 +131,7 @@ fn sweep_cells(
 
 // The answer for n samples that are all the same roll, from the answer for one of them.
 fn repeated(one: Swept, n: usize) -> Swept
-    requires { ⌜ (1 ≤ n) × (n ≤ 3600) × (one .probes ≤ 64) ⌝ }
+    requires { ⌜ (1 ≤ n) × (n ≤ mostSamples) × (one .probes ≤ 64) ⌝ }
     ensures { λ r. ⌜ (r .mask ≡ one .mask) × (r .probes ≡ one .probes + (n - 1) * ones (one .mask)) ⌝ }
 {
     let again = (n - 1) as u64;
@@ -169,8 +152,11 @@ fn sweep_samples(
     first: usize,
     cells: usize,
 ) -> Swept
-    requires { ⌜ (cells ≤ 64) × (length (now rolls) ≤ 3600) × (0 < times) × (times ≤ 65536) × (0 < length (now units)) × (first + cells ≤ 1048576) × (1 ≤ length (now rolls)) ⌝ }
-    ensures { λ r. ⌜ r ≡ sweptBy cells (length (now (rolls .entry))) (λ k. violatedIn (now (targets .entry)) config (now (rolls .entry)) ((first + k) / times) (getD (now (units .entry)) ((first + k) % length (now (units .entry))) [])) ⌝ }
+    requires { ⌜ (cells ≤ 64) × (length (now rolls) ≤ mostSamples) × (0 < times) × (times ≤ mostTimes) × (0 < length (now units))
+        × (first + cells ≤ mostCells) × (1 ≤ length (now rolls)) ⌝ }
+    ensures { λ r.
+        let violated : ℕ → Float → Bool = violatesBy (now (targets .entry)) times (now (units .entry)) config in
+        ⌜ r ≡ sweptBy cells (length (now (rolls .entry))) (λ k s. violated (first + k) (sampleRoll (now (rolls .entry)) (config .«roll_deg») s)) ⌝ }
 {
     let configured = config.roll_deg;
     match configured {
@@ -184,22 +170,25 @@ fn sweep_samples(
 }
 
 // The number of the first refusal of a chunk's sweep, 0 for none.
-fn chunk_refusal(rows: usize, times: usize, samples: usize, chunk: u64) -> u64
-    ensures { λ r. ⌜ r ≡ chunkRefusal rows times samples chunk ⌝ }
+fn chunk_refusal(rows: usize, times: usize, units: usize, samples: usize, chunk: u64) -> u64
+    ensures { λ r. ⌜ r ≡ chunkRefusal rows times units samples chunk ⌝ }
 {
-    if 65536 < rows {
+    if units == 0 {
+        return 1;
+    }
+    if MOST_ROWS < rows {
         return 2;
     }
-    if 65536 < times {
+    if MOST_TIMES < times {
         return 2;
     }
     let cells = rows * times;
-    if 1048576 < cells {
+    if MOST_CELLS < cells {
         return 2;
     }
-    let no_sampling = sampling(samples as u64);
-    if no_sampling != 0 {
-        return no_sampling;
+    let said = samples_refusal(samples as u64);
+    if said != 0 {
+        return said;
     }
     if (cells + 63) / 64 <= chunk as usize {
         return 9;
@@ -207,42 +196,20 @@ fn chunk_refusal(rows: usize, times: usize, samples: usize, chunk: u64) -> u64
     0
 }
 
-// Sweeps a chunk: cells 64 · chunk to 64 · chunk + 63, the last chunk perhaps fewer.
+// Sweeps a chunk: cells 64 · chunk to 64 · chunk + 63, the last chunk perhaps fewer. The Sun's unit of cell i is entry
+// i % L of the L units that are lent: those of all times, for chunk after chunk, or those of this chunk's cells.
 pub fn sweep_chunk(
     targets: &[f64],
-    suns: &[f64],
-    observers: &[f64],
-    config: SolarRollConfig,
-    rolls: &[f64],
-    chunk: u64,
-) -> ChunkAnswer
-    ensures { λ r. ⌜ chunkReply r ≡ sweptReply (count (now (targets .entry))) (count (now (suns .entry))) (length (now (rolls .entry))) (cellViolated (planOf (now (targets .entry)) (now (suns .entry)) (now (observers .entry)) config) (now (rolls .entry))) chunk ⌝ }
-{
-    let rows = targets.len() / 3;
-    let times = suns.len() / 3;
-    let refusal = chunk_refusal(rows, times, rolls.len(), chunk);
-    if refusal != 0 {
-        return ChunkAnswer::Refused(refusal);
-    }
-    let first = 64 * chunk as usize;
-    let cells = cells_in((rows * times) as u64, chunk) as usize;
-    let units = chunk_units(suns, observers, first, cells);
-    ChunkAnswer::Accepted(sweep_samples(targets, times, &units, config, rolls, first, cells))
-}
-
-// The same, where the Sun's units are given, one a time, so that chunk after chunk can use them.
-pub fn sweep_chunk_by_units(
-    targets: &[f64],
+    times: usize,
     units: &[[f64; 3]],
     config: SolarRollConfig,
     rolls: &[f64],
     chunk: u64,
 ) -> ChunkAnswer
-    ensures { λ r. ⌜ chunkReply r ≡ sweptReply (count (now (targets .entry))) (length (now (units .entry))) (length (now (rolls .entry))) (unitsViolated (now (targets .entry)) (now (units .entry)) config (now (rolls .entry))) chunk ⌝ }
+    ensures { λ r. ⌜ chunkReply r ≡ sweptReply (now (targets .entry)) times (now (units .entry)) config (now (rolls .entry)) chunk ⌝ }
 {
     let rows = targets.len() / 3;
-    let times = units.len();
-    let refusal = chunk_refusal(rows, times, rolls.len(), chunk);
+    let refusal = chunk_refusal(rows, times, units.len(), rolls.len(), chunk);
     if refusal != 0 {
         return ChunkAnswer::Refused(refusal);
     }

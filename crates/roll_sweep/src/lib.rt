@@ -6,5 +6,4 @@ pub use chunk::ChunkAnswer;
 pub use chunk::Swept;
 pub use chunk::cells_in;
 pub use chunk::sweep_chunk;
-pub use chunk::sweep_chunk_by_units;
 pub use rolls::even_rolls;

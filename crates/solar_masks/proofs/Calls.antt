@@ -1,46 +1,46 @@
 -- What a call knows once its refusal is 0: the plan's facts, and room enough. Assumes nothing.
-use mathlib.Core.Path.{_≡_, refl, sym, ap, _∙_}
-use mathlib.Core.Bool.{Bool, true, false, cond, _&&_, _||_}
-use Prim.Native.Nat.{ℕ, _≤_, _<_}
+use mathlib.Core.Path.{_≡_, refl}
+use mathlib.Core.Bool.{Bool, true, false, cond, _||_}
+use Prim.Native.Nat.{ℕ, _≤_}
 use native.Mathlib.Omega.{arith}
 use lib.Dec.{leb, ltb, lit<}
-use borrow.Author.Tests.{ltb-false, leb-false, leb-true, lt-leb}
+use borrow.Author.Tests.{ltb-false, leb-true}
 use Rattle.buffers.proofs.Refusal.{first-clear, carried-clear}
 use Rattle.buffers.proofs.Tests.{or-left, or-right}
-use Rattle.solar_roll.specs.Plan.{Plan, rowsOf, timesOf, cells, samplingOrNone, planRefusal, PlanFacts}
+use Rattle.solar_roll.specs.Plan.{Plan, rowsOf, timesOf, cellsOf, mostSamples, samplesOrNoneRefusal, planRefusal, PlanFacts}
 use Rattle.solar_masks.specs.Mask.{cellsShort, cellsRefusal}
 use Rattle.solar_masks.specs.Row.{rowShort, rowRefusal}
 use Rattle.solar_masks.specs.Field.{fieldShort, fieldRefusal}
-use Rattle.solar_roll.proofs.Accepted.{plan-facts, no-sampling}
+use Rattle.solar_roll.proofs.PlanFacts.{plan-facts, nothing-said}
 
 -- 3 was not said
-pub few-samples : (n : ℕ) → samplingOrNone n ≡ 0 → n ≤ 3600
-unfolding samplingOrNone
-few-samples n h = go (leb n 3600) refl h
+pub few-samples : (n : ℕ) → samplesOrNoneRefusal n ≡ 0 → n ≤ mostSamples
+unfolding samplesOrNoneRefusal
+few-samples n h = go (leb n mostSamples) refl h
   where
-    go : (b : Bool) → leb n 3600 ≡ b → _≡_ {A = ℕ} (cond b 0 3) 0 → n ≤ 3600
-    go true e z = leb-true n 3600 e
+    go : (b : Bool) → leb n mostSamples ≡ b → _≡_ {A = ℕ} (cond b 0 3) 0 → n ≤ mostSamples
+    go true e z = leb-true n mostSamples e
     go false e z = absurd (omega arith)
 
-module _ (p : Plan) (sampling room : ℕ) (h : cellsRefusal p sampling room ≡ 0) where
-  pub cells-plan : planRefusal p sampling false ≡ 0
+module _ (p : Plan) (said room : ℕ) (h : cellsRefusal p said room ≡ 0) where
+  pub cells-plan : planRefusal p said false ≡ 0
   unfolding cellsRefusal
   cells-plan = carried-clear _ _ h .0
 
   pub cells-facts : PlanFacts p
-  cells-facts = plan-facts p sampling false cells-plan
+  cells-facts = plan-facts p said false cells-plan
 
-  pub cells-room : cells p ≤ room
+  pub cells-room : cellsOf p ≤ room
   unfolding cellsRefusal cellsShort
   cells-room = ltb-false _ _ (first-clear _ _ _ (lit< tt) (carried-clear _ _ h .1) .0)
 
-  pub cells-sampling : sampling ≡ 0
-  cells-sampling = no-sampling p sampling false cells-plan
+  pub cells-said : said ≡ 0
+  cells-said = nothing-said p said false cells-plan
 
-module _ (p : Plan) (sampling time room : ℕ) (h : fieldRefusal p sampling time room ≡ 0) where
-  pub field-sampling : sampling ≡ 0
+module _ (p : Plan) (said time room : ℕ) (h : fieldRefusal p said time room ≡ 0) where
+  pub field-said : said ≡ 0
   unfolding fieldRefusal
-  field-sampling = no-sampling p sampling false (carried-clear _ _ h .0)
+  field-said = nothing-said p said false (carried-clear _ _ h .0)
 
   pub field-room : rowsOf p ≤ room
   unfolding fieldRefusal fieldShort

@@ -6,11 +6,11 @@ use Rattle.buffers.specs.Ranges.{flag}
 use Rattle.solar_roll.specs.Vectors.{Vector}
 use Rattle.solar_roll.specs.Roll.{Axes, bodyAxes, rollDegIn, panelOf, solarOptimalRollDeg}
 use Rattle.solar_roll.specs.Cell.{rollIn}
-use Rattle.solar_roll.specs.Plan.{Plan, directionOf, configOf, rowConfig, sunAt, cellOf, planPanel, planConfigured}
+use Rattle.solar_roll.specs.Plan.{Plan, directionOf, configOf, rowConfig, sunAt, cellOf, optimalAt, planPanel, planConfigured}
 use Rattle.solar_roll.specs.declared.roll.Panel.{Panel}
 use Rattle.solar_roll.specs.declared.cell.CellRoll.{CellRoll}
 use Rattle.solar_roll.proofs.Cells.{cell-shared}
-use Rattle.solar_masks.specs.Mask.{marked, markAt, valueAt}
+use Rattle.solar_masks.specs.Mask.{markedBy, markAt}
 use Rattle.solar_masks.specs.Row.{severity, severityAt}
 use Rattle.solar_masks.specs.declared.mask.MarkRule.{MarkRule}
 
@@ -20,15 +20,15 @@ module _ (p : Plan) (r j : ℕ) (axes : Axes) (unit : Vector) (panel : Panel)
   same = cell-shared p r j axes unit panel row time whole
 
   pub mark-shared : (rule : MarkRule) (tolerance : Float) → tolerance ≡ configOf p r .«tolerance_deg» →
-      flag (marked (rollIn axes unit panel) rule tolerance) ≡ markAt p rule r j
+      flag (markedBy (rollIn axes unit panel) rule tolerance) ≡ markAt p rule r j
   unfolding markAt
-  mark-shared rule tolerance e = ap₂ (λ (c : CellRoll) (t : Float). flag (marked c rule t)) same e
+  mark-shared rule tolerance e = ap₂ (λ (c : CellRoll) (t : Float). flag (markedBy c rule t)) same e
 
   pub severity-shared : (tolerance : Float) → tolerance ≡ configOf p r .«tolerance_deg» →
       severity (rollIn axes unit panel) (planConfigured p) tolerance ≡ severityAt p r j
   unfolding severityAt
   severity-shared tolerance e = ap₂ (λ (c : CellRoll) (t : Float). severity c (planConfigured p) t) same e
 
-  pub value-shared : rollDegIn axes unit (panel .angle) ≡ valueAt p r j
-  unfolding valueAt solarOptimalRollDeg panelOf rowConfig planPanel
+  pub value-shared : rollDegIn axes unit (panel .angle) ≡ optimalAt p r j
+  unfolding optimalAt solarOptimalRollDeg rollDegIn bodyAxes panelOf rowConfig planPanel
   value-shared = simp (row, time, whole)

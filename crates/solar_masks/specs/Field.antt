@@ -17,19 +17,19 @@ use Rattle.solar_masks.specs.declared.mask.MarkRule.{MarkRule}
 unfoldable pub fieldShort : Plan → ℕ → Bool
 fieldShort p room = ltb room (rowsOf p)
 
--- *Field of regard*: plan, 9, 7; 0 for none. `sampling` is the number said in the place of 3, 0 in the call that takes no n.
+-- *Field of regard*: plan, 9, 7; 0 for none. `said` is the number said in the place of 3, 0 in the call that takes no n.
 unfoldable pub fieldRefusal : Plan → ℕ → ℕ → ℕ → ℕ
-fieldRefusal p sampling time room =
-    first (carried (planRefusal p sampling false)
+fieldRefusal p said time room =
+    first (carried (planRefusal p said false)
     ∷ (leb (timesOf p) time, 9)
     ∷ (fieldShort p room, 7)
     ∷ [])
 
 -- what the call answers: the number that it refuses by, or accepted with 0
 unfoldable pub fieldReply : Plan → ℕ → ℕ → ℕ → Reply ℕ
-fieldReply p sampling time room = reply (fieldRefusal p sampling time room) 0
+fieldReply p said time room = reply (fieldRefusal p said time room) 0
 
 -- what a call leaves in the lent mask, by the rule that it makes of the configured roll
 unfoldable pub fieldAfter : Plan → ℕ → ℕ → (ConfiguredRoll → MarkRule) → List ℕ → List ℕ
-fieldAfter p sampling time rule mask =
-    unlessRefused (fieldRefusal p sampling time (length mask)) (filled (rowsOf p) (λ r. markAt p (rule (planConfigured p)) r time) mask) mask
+fieldAfter p said time rule mask =
+    unlessRefused (fieldRefusal p said time (length mask)) (filled (rowsOf p) (λ r. markAt p (rule (planConfigured p)) r time) mask) mask

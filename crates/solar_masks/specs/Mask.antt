@@ -1,18 +1,18 @@
 -- Masks: a byte a cell, 0 clear or 1 marked, in order of cell number. Which rule each call marks by (sections 2 and 6), and *Masks, named values*
 -- of the refusals. Definitions only. Assumes nothing.
-use mathlib.Core.Bool.{Bool, true, false, cond}
+use mathlib.Core.Bool.{Bool, false, cond}
 use mathlib.Core.List.{List, [], _∷_}
 use Prim.Native.Nat.{ℕ, _/_, _%_}
 use lib.Dec.{eqb, ltb}
 use lib.ListN.{length}
-use lib.Ieee.{Float, binary64, sub, lt}
+use lib.Ieee.{Float, lt}
 use Rattle.buffers.specs.Ranges.{flag}
 use Rattle.buffers.specs.Lent.{filled}
 use Rattle.buffers.specs.Refusal.{first, carried, Reply, reply, unlessRefused}
-use Rattle.float.specs.Arithmetic.{remEuclid}
-use Rattle.solar_roll.specs.Roll.{solarOptimalRollDeg, sampleStep}
+use Rattle.float.specs.Arithmetic.{_⊖_, remEuclid}
+use Rattle.solar_roll.specs.Roll.{sampleStep}
 use Rattle.solar_roll.specs.Cell.{violates, inForce}
-use Rattle.solar_roll.specs.Plan.{Plan, rowsOf, timesOf, cells, directionOf, configOf, sunAt, cellOf, planConfigured, planRefusal}
+use Rattle.solar_roll.specs.Plan.{Plan, timesOf, cellsOf, configOf, cellOf, optimalAt, planConfigured, planRefusal}
 use Rattle.solar_roll.specs.declared.cell.CellRoll.{CellRoll}
 use Rattle.solar_roll.specs.declared.cell.CellRoll.the-variants as cell
 use Rattle.solar_roll.specs.declared.cell.ConfiguredRoll.{ConfiguredRoll}
@@ -27,8 +27,7 @@ use Rattle.solar_masks.specs.declared.mask.MarkRule.the-variants.{AtRoll
 unfoldable pub stepDistance : Float → Float → Float
 stepDistance roll step =
     let phase = remEuclid roll step in
-    let rest = sub binary64 step phase in
-    cond (lt rest phase) rest phase
+    cond (lt (step ⊖ phase) phase) (step ⊖ phase) phase
 
 -- not Free, and that distance of the optimal roll > tolerance
 unfoldable pub missesSteps : CellRoll → Float → Float → Bool
@@ -39,10 +38,10 @@ missesSteps (cell.Refused k) step tolerance = false
 -- ---- the rules
 
 -- whether a rule marks a cell, at a tolerance: violated at a roll, or too far from every multiple of a step; Nothing marks none
-unfoldable pub marked : CellRoll → MarkRule → Float → Bool
-marked c (AtRoll roll) tolerance = violates c roll tolerance
-marked c (EveryStep step) tolerance = missesSteps c step tolerance
-marked c Nothing tolerance = false
+unfoldable pub markedBy : CellRoll → MarkRule → Float → Bool
+markedBy c (AtRoll roll) tolerance = violates c roll tolerance
+markedBy c (EveryStep step) tolerance = missesSteps c step tolerance
+markedBy c Nothing tolerance = false
 
 -- at a roll: a configured roll overrides Sweep, never Fixed
 unfoldable pub atRoll : EvaluationRoll → ConfiguredRoll → MarkRule
@@ -62,42 +61,38 @@ atEveryRoll n (Some roll) = AtRoll roll
 
 -- the byte of row r at time j
 unfoldable pub markAt : Plan → MarkRule → ℕ → ℕ → ℕ
-markAt p rule r j = flag (marked (cellOf p r j) rule (configOf p r .«tolerance_deg»))
+markAt p rule r j = flag (markedBy (cellOf p r j) rule (configOf p r .«tolerance_deg»))
 
 -- the byte of the cell of number k
 unfoldable pub cellMark : Plan → MarkRule → ℕ → ℕ
 cellMark p rule k = markAt p rule (k / timesOf p) (k % timesOf p)
 
--- the named value of row r at time j: the optimal roll, of Free cells too
-unfoldable pub valueAt : Plan → ℕ → ℕ → Float
-valueAt p r j = solarOptimalRollDeg (directionOf p r) (sunAt p j) (configOf p r .«panel_normal»)
-
--- the named value of the cell of number k
+-- the named value of the cell of number k: its optimal roll, of a Free cell too
 unfoldable pub cellValue : Plan → ℕ → Float
-cellValue p k = valueAt p (k / timesOf p) (k % timesOf p)
+cellValue p k = optimalAt p (k / timesOf p) (k % timesOf p)
 
 -- ---- the calls: the plan's refusals, then 7, a lent output shorter than needed
 
 -- 7: an output of length `room` has no place for each cell
 unfoldable pub cellsShort : Plan → ℕ → Bool
-cellsShort p room = ltb room (cells p)
+cellsShort p room = ltb room (cellsOf p)
 
--- *Masks, named values*: plan, 7; 0 for none. `sampling` is the number said in the place of 3, 0 in the calls that take no n.
+-- *Masks, named values*: plan, 7; 0 for none. `said` is the number said in the place of 3, 0 in the calls that take no n.
 unfoldable pub cellsRefusal : Plan → ℕ → ℕ → ℕ
-cellsRefusal p sampling room =
-    first (carried (planRefusal p sampling false)
+cellsRefusal p said room =
+    first (carried (planRefusal p said false)
     ∷ (cellsShort p room, 7)
     ∷ [])
 
 -- what the call answers: the number that it refuses by, or accepted with 0
 unfoldable pub cellsReply : Plan → ℕ → ℕ → Reply ℕ
-cellsReply p sampling room = reply (cellsRefusal p sampling room) 0
+cellsReply p said room = reply (cellsRefusal p said room) 0
 
 -- what a mask call leaves in the lent mask, by the rule that it makes of the configured roll
 unfoldable pub maskAfter : Plan → ℕ → (ConfiguredRoll → MarkRule) → List ℕ → List ℕ
-maskAfter p sampling rule mask =
-    unlessRefused (cellsRefusal p sampling (length mask)) (filled (cells p) (cellMark p (rule (planConfigured p))) mask) mask
+maskAfter p said rule mask =
+    unlessRefused (cellsRefusal p said (length mask)) (filled (cellsOf p) (cellMark p (rule (planConfigured p))) mask) mask
 
 -- what the call for named values leaves in the lent list
 unfoldable pub valuesAfter : Plan → List Float → List Float
-valuesAfter p values = unlessRefused (cellsRefusal p 0 (length values)) (filled (cells p) (cellValue p) values) values
+valuesAfter p values = unlessRefused (cellsRefusal p 0 (length values)) (filled (cellsOf p) (cellValue p) values) values

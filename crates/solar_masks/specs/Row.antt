@@ -1,15 +1,16 @@
 -- *One row*: `evaluate` for a row, its mask and its severities (section 5) at the configured roll, all zero without one. Definitions only.
 -- Assumes nothing.
-use mathlib.Core.Bool.{Bool, true, false, cond, _||_}
+use mathlib.Core.Bool.{Bool, false, cond, _||_}
 use mathlib.Core.List.{List, [], _∷_}
 use Prim.Native.Nat.{ℕ}
 use lib.Dec.{leb, ltb}
 use lib.ListN.{length}
-use lib.Ieee.{Float, binary64, sub, lt}
+use lib.Ieee.{Float}
 use Rattle.buffers.specs.Lent.{filled}
 use Rattle.buffers.specs.Refusal.{first, carried, Reply, reply, unlessRefused}
-use Rattle.float.specs.Arithmetic.{zero·0}
+use Rattle.float.specs.Arithmetic.{_⊖_, zero·0}
 use Rattle.solar_roll.specs.Roll.{circularDiffDeg}
+use Rattle.solar_roll.specs.Cell.{violates}
 use Rattle.solar_roll.specs.Plan.{Plan, rowsOf, timesOf, configOf, cellOf, planConfigured, planRefusal}
 use Rattle.solar_masks.specs.Mask.{atConfigured, markAt}
 use Rattle.solar_roll.specs.declared.cell.CellRoll.{CellRoll}
@@ -20,7 +21,7 @@ use Rattle.solar_roll.specs.declared.cell.ConfiguredRoll.the-variants.{None, So
 -- the severity at a roll: difference - tolerance where violated, else zero
 unfoldable pub excess : CellRoll → Float → Float → Float
 excess Free roll tolerance = zero·0
-excess (At optimal) roll tolerance = let d = circularDiffDeg roll optimal in cond (lt tolerance d) (sub binary64 d tolerance) zero·0
+excess (At optimal) roll tolerance = cond (violates (At optimal) roll tolerance) (circularDiffDeg roll optimal ⊖ tolerance) zero·0
 excess (Refused k) roll tolerance = zero·0
 
 -- the severity at the configured roll; without one it is zero

@@ -13,7 +13,7 @@ use solar_roll::panel_of;
 use solar_roll::plan_refusal;
 use solar_roll::roll_in;
 use solar_roll::row_config;
-use solar_roll::sampling_or_none;
+use solar_roll::samples_or_none_refusal;
 use solar_roll::sun_unit;
 use solar_roll::triple;
 ghost use mathlib.Core.Path.{_≡_};
@@ -21,7 +21,7 @@ ghost use Prim.Native.Nat.{_≤_};
 ghost use lib.ListN.{length};
 ghost use Rattle.buffers.specs.Lent.{filled};
 ghost use Rattle.buffers.specs.Refusal.{replyOf};
-ghost use Rattle.solar_roll.specs.Plan.{planOf, rowsOf, samplingOrNone};
+ghost use Rattle.solar_roll.specs.Plan.{Plan, planOf, rowsOf, samplesOrNoneRefusal};
 ghost use Rattle.solar_masks.specs.Mask.{atRoll, atEveryRoll, markAt};
 ghost use Rattle.solar_masks.specs.Field.{fieldRefusal, fieldReply, fieldAfter};
 ghost use Rattle.solar_roll.specs.declared.cell.EvaluationRoll.the-variants.{Sweep};
@@ -36,8 +36,10 @@ fn mark_column(
     rule: MarkRule,
     mask: &mut [u8],
 )
-    requires { ⌜ rowsOf (planOf (now targets) (now suns) (now observers) config) ≤ length (now mask) ⌝ }
-    ensures { λ _. ⌜ now (mask .exit) ≡ filled (rowsOf (planOf (now (targets .entry)) (now (suns .entry)) (now (observers .entry)) config)) (λ r. markAt (planOf (now (targets .entry)) (now (suns .entry)) (now (observers .entry)) config) rule r time) (now (mask .entry)) ⌝ }
+    requires { let p : Plan = planOf (now targets) (now suns) (now observers) config in
+        ⌜ rowsOf p ≤ length (now mask) ⌝ }
+    ensures { λ _. let p : Plan = planOf (now (targets .entry)) (now (suns .entry)) (now (observers .entry)) config in
+        ⌜ now (mask .exit) ≡ filled (rowsOf p) (λ r. markAt p rule r time) (now (mask .entry)) ⌝ }
 {
     let normal = config.panel_normal;
     let panel = panel_of(normal);
@@ -59,13 +61,14 @@ fn field_refusal(
     suns: &[f64],
     observers: &[f64],
     config: SolarRollConfig,
-    sampling: u64,
+    said: u64,
     time: u64,
     room: usize,
 ) -> u64
-    ensures { λ r. ⌜ r ≡ fieldRefusal (planOf (now (targets .entry)) (now (suns .entry)) (now (observers .entry)) config) sampling time room ⌝ }
+    ensures { λ r. let p : Plan = planOf (now (targets .entry)) (now (suns .entry)) (now (observers .entry)) config in
+        ⌜ r ≡ fieldRefusal p said time room ⌝ }
 {
-    let refusal = plan_refusal(targets, suns, observers, config, sampling, false);
+    let refusal = plan_refusal(targets, suns, observers, config, said, false);
     if refusal != 0 {
         return refusal;
     }
@@ -87,11 +90,13 @@ pub fn field_of_regard_violated_batch(
     n: u64,
     mask: &mut [u8],
 ) -> Answer
-    ensures { λ r. ⌜ replyOf r ≡ fieldReply (planOf (now (targets .entry)) (now (suns .entry)) (now (observers .entry)) config) (samplingOrNone n) time (length (now (mask .entry))) ⌝ }
-    ensures { λ r. ⌜ now (mask .exit) ≡ fieldAfter (planOf (now (targets .entry)) (now (suns .entry)) (now (observers .entry)) config) (samplingOrNone n) time (atEveryRoll n) (now (mask .entry)) ⌝ }
+    ensures { λ r. let p : Plan = planOf (now (targets .entry)) (now (suns .entry)) (now (observers .entry)) config in
+        ⌜ replyOf r ≡ fieldReply p (samplesOrNoneRefusal n) time (length (now (mask .entry))) ⌝ }
+    ensures { λ r. let p : Plan = planOf (now (targets .entry)) (now (suns .entry)) (now (observers .entry)) config in
+        ⌜ now (mask .exit) ≡ fieldAfter p (samplesOrNoneRefusal n) time (atEveryRoll n) (now (mask .entry)) ⌝ }
 {
-    let sampling = sampling_or_none(n);
-    let refusal = field_refusal(targets, suns, observers, config, sampling, time, mask.len());
+    let said = samples_or_none_refusal(n);
+    let refusal = field_refusal(targets, suns, observers, config, said, time, mask.len());
     if refusal != 0 {
         return Answer::Refused(refusal);
     }
@@ -111,8 +116,10 @@ pub fn field_of_regard_violated_at_roll(
     roll_deg: f64,
     mask: &mut [u8],
 ) -> Answer
-    ensures { λ r. ⌜ replyOf r ≡ fieldReply (planOf (now (targets .entry)) (now (suns .entry)) (now (observers .entry)) config) 0 time (length (now (mask .entry))) ⌝ }
-    ensures { λ r. ⌜ now (mask .exit) ≡ fieldAfter (planOf (now (targets .entry)) (now (suns .entry)) (now (observers .entry)) config) 0 time (atRoll (Sweep «roll_deg»)) (now (mask .entry)) ⌝ }
+    ensures { λ r. let p : Plan = planOf (now (targets .entry)) (now (suns .entry)) (now (observers .entry)) config in
+        ⌜ replyOf r ≡ fieldReply p 0 time (length (now (mask .entry))) ⌝ }
+    ensures { λ r. let p : Plan = planOf (now (targets .entry)) (now (suns .entry)) (now (observers .entry)) config in
+        ⌜ now (mask .exit) ≡ fieldAfter p 0 time (atRoll (Sweep «roll_deg»)) (now (mask .entry)) ⌝ }
 {
     let refusal = field_refusal(targets, suns, observers, config, 0, time, mask.len());
     if refusal != 0 {

@@ -7,7 +7,6 @@ mod values;
 
 pub use field::field_of_regard_violated_at_roll;
 pub use field::field_of_regard_violated_batch;
-pub use mask::MarkRule;
 pub use mask::in_constraint_batch;
 pub use mask::in_constraint_batch_at_roll;
 pub use mask::in_constraint_batch_constrained_at_every_roll;

@@ -15,26 +15,27 @@ use solar_roll::panel_of;
 use solar_roll::plan_refusal;
 use solar_roll::rolls_deg_in;
 use solar_roll::row_config;
-use solar_roll::sampling_or_none;
+use solar_roll::samples_or_none_refusal;
 use solar_roll::sun_units;
 use solar_roll::violated;
 ghost use mathlib.Core.Path.{_≡_};
-ghost use Prim.Native.Nat.{_+_, _-_, _*_, _≤_};
+ghost use Prim.Native.Nat.{ℕ, _+_, _-_, _*_, _≤_};
 ghost use mathlib.Core.List.{[]};
 ghost use lib.ListN.{length, getD};
 ghost use Rattle.buffers.specs.Ranges.{flag};
 ghost use Rattle.buffers.specs.Lent.{filled};
-ghost use Rattle.buffers.specs.Rows.{Columns};
+ghost use Rattle.buffers.specs.Rows.{ColumnsWritten};
 ghost use Rattle.buffers.specs.Refusal.{replyOf};
 ghost use Rattle.solar_roll.specs.Roll.{bodyAxes, sampleStep};
 ghost use Rattle.solar_roll.specs.Cell.{rollIn};
+ghost use Rattle.solar_roll.specs.declared.cell.CellRoll.{CellRoll};
 ghost use Rattle.solar_roll.specs.Plan.{count as countOf};
-ghost use Rattle.solar_roll.specs.Plan.{planOf, rowDirection, rowConfig, cells, samplingOrNone};
-ghost use Rattle.solar_masks.specs.Mask.{stepDistance, missesSteps, marked, atRoll, atConfigured, atEveryRoll, cellMark, cellsRefusal, cellsReply, maskAfter};
+ghost use Rattle.solar_roll.specs.Plan.{Plan, planOf, rowDirection, rowConfig, cellsOf, mostTimes, mostSamples, samplesOrNoneRefusal};
+ghost use Rattle.solar_masks.specs.Mask.{stepDistance, missesSteps, markedBy, atRoll, atConfigured, atEveryRoll, cellMark, cellsRefusal, cellsReply, maskAfter};
 
 // What marks a cell: a roll too far from its optimal roll, every multiple of a step too far from it,
 // or nothing.
-pub enum MarkRule {
+pub(crate) enum MarkRule {
     AtRoll(f64),
     EveryStep(f64),
     Nothing,
@@ -75,7 +76,7 @@ pub(crate) fn byte(b: bool) -> u8
 
 // The byte of a cell by a rule.
 pub(crate) fn mark_byte(cell: CellRoll, rule: MarkRule, tolerance_deg: f64) -> u8
-    ensures { λ r. ⌜ r ≡ flag (marked cell rule «tolerance_deg») ⌝ }
+    ensures { λ r. ⌜ r ≡ flag (markedBy cell rule «tolerance_deg») ⌝ }
 {
     match rule {
         MarkRule::AtRoll(roll) => byte(violated(cell, roll, tolerance_deg)),
@@ -103,7 +104,7 @@ pub(crate) fn at_configured(configured: ConfiguredRoll) -> MarkRule
 
 // A configured roll is looked at before n, and 0 samples mark nothing.
 pub(crate) fn at_every_roll(n: u64, configured: ConfiguredRoll) -> MarkRule
-    requires { ⌜ n ≤ 3600 ⌝ }
+    requires { ⌜ n ≤ mostSamples ⌝ }
     ensures { λ r. ⌜ r ≡ atEveryRoll n configured ⌝ }
 {
     match configured {
@@ -128,7 +129,8 @@ fn mark_cells(
     mask: &mut [u8],
 )
     requires { ⌜ (length (now units) ≤ 64) × (length (now units) ≤ length (now mask)) ⌝ }
-    ensures { λ _. ⌜ now (mask .exit) ≡ filled (length (now (units .entry))) (λ k. flag (marked (rollIn axes (getD (now (units .entry)) k []) panel) rule «tolerance_deg»)) (now (mask .entry)) ⌝ }
+    ensures { λ _. let cell : ℕ → CellRoll = λ k. rollIn axes (getD (now (units .entry)) k []) panel in
+        ⌜ now (mask .exit) ≡ filled (length (now (units .entry))) (λ k. flag (markedBy (cell k) rule «tolerance_deg»)) (now (mask .entry)) ⌝ }
 {
     let mut rolls = [0.0; 64];
     rolls_deg_in(axes, units, panel.angle, &mut rolls);
@@ -153,7 +155,8 @@ fn mark_tiles(
     mask: &mut [u8],
 )
     requires { ⌜ (count ≤ length (now units)) × (count ≤ length (now mask)) ⌝ }
-    ensures { λ _. ⌜ now (mask .exit) ≡ filled count (λ j. flag (marked (rollIn axes (getD (now (units .entry)) j []) panel) rule «tolerance_deg»)) (now (mask .entry)) ⌝ }
+    ensures { λ _. let cell : ℕ → CellRoll = λ j. rollIn axes (getD (now (units .entry)) j []) panel in
+        ⌜ now (mask .exit) ≡ filled count (λ j. flag (markedBy (cell j) rule «tolerance_deg»)) (now (mask .entry)) ⌝ }
 {
     let mut from = 0;
     while from < count {
@@ -194,7 +197,8 @@ fn mark_row(
     mask: &mut [u8],
 )
     requires { ⌜ (count ≤ length (now units)) × (count ≤ length (now mask)) ⌝ }
-    ensures { λ _. ⌜ now (mask .exit) ≡ filled count (λ j. flag (marked (rollIn (bodyAxes target) (getD (now (units .entry)) j []) panel) rule «tolerance_deg»)) (now (mask .entry)) ⌝ }
+    ensures { λ _. let cell : ℕ → CellRoll = λ j. rollIn (bodyAxes target) (getD (now (units .entry)) j []) panel in
+        ⌜ now (mask .exit) ≡ filled count (λ j. flag (markedBy (cell j) rule «tolerance_deg»)) (now (mask .entry)) ⌝ }
 {
     let axes = body_axes(target);
     match rule {
@@ -218,7 +222,10 @@ fn mark_block(
     mask: &mut [u8],
 )
     requires { ⌜ (countOf (now targets) * times ≤ length (now mask)) × (from + count ≤ times) × (count ≤ length (now units)) ⌝ }
-    ensures { λ _. ⌜ Columns (countOf (now (targets .entry))) times (countOf (now (targets .entry))) from count (λ r j. flag (marked (rollIn (bodyAxes (rowDirection (now (targets .entry)) r)) (getD (now (units .entry)) (j - from) []) panel) rule (rowConfig config r .«tolerance_deg»))) 0 (now (mask .entry)) (now (mask .exit)) ⌝ }
+    ensures { λ _. let rows : ℕ = countOf (now (targets .entry)) in
+        let cell : ℕ → ℕ → CellRoll = λ r j. rollIn (bodyAxes (rowDirection (now (targets .entry)) r)) (getD (now (units .entry)) (j - from) []) panel in
+        let byte : ℕ → ℕ → ℕ = λ r j. flag (markedBy (cell r j) rule (rowConfig config r .«tolerance_deg»)) in
+        ⌜ ColumnsWritten rows times rows from count byte 0 (now (mask .entry)) (now (mask .exit)) ⌝ }
 {
     let rows = targets.len() / 3;
     let mut row = 0;
@@ -249,8 +256,10 @@ fn mark(
     rule: MarkRule,
     mask: &mut [u8],
 )
-    requires { ⌜ (cells (planOf (now targets) (now suns) (now observers) config) ≤ length (now mask)) × (countOf (now suns) ≤ 65536) ⌝ }
-    ensures { λ _. ⌜ now (mask .exit) ≡ filled (cells (planOf (now (targets .entry)) (now (suns .entry)) (now (observers .entry)) config)) (cellMark (planOf (now (targets .entry)) (now (suns .entry)) (now (observers .entry)) config) rule) (now (mask .entry)) ⌝ }
+    requires { let p : Plan = planOf (now targets) (now suns) (now observers) config in
+        ⌜ (cellsOf p ≤ length (now mask)) × (countOf (now suns) ≤ mostTimes) ⌝ }
+    ensures { λ _. let p : Plan = planOf (now (targets .entry)) (now (suns .entry)) (now (observers .entry)) config in
+        ⌜ now (mask .exit) ≡ filled (cellsOf p) (cellMark p rule) (now (mask .entry)) ⌝ }
 {
     let times = suns.len() / 3;
     let normal = config.panel_normal;
@@ -281,12 +290,13 @@ pub(crate) fn cells_refusal(
     suns: &[f64],
     observers: &[f64],
     config: SolarRollConfig,
-    sampling: u64,
+    said: u64,
     room: usize,
 ) -> u64
-    ensures { λ r. ⌜ r ≡ cellsRefusal (planOf (now (targets .entry)) (now (suns .entry)) (now (observers .entry)) config) sampling room ⌝ }
+    ensures { λ r. let p : Plan = planOf (now (targets .entry)) (now (suns .entry)) (now (observers .entry)) config in
+        ⌜ r ≡ cellsRefusal p said room ⌝ }
 {
-    let refusal = plan_refusal(targets, suns, observers, config, sampling, false);
+    let refusal = plan_refusal(targets, suns, observers, config, said, false);
     if refusal != 0 {
         return refusal;
     }
@@ -303,8 +313,10 @@ pub fn in_constraint_batch(
     config: SolarRollConfig,
     mask: &mut [u8],
 ) -> Answer
-    ensures { λ r. ⌜ replyOf r ≡ cellsReply (planOf (now (targets .entry)) (now (suns .entry)) (now (observers .entry)) config) 0 (length (now (mask .entry))) ⌝ }
-    ensures { λ r. ⌜ now (mask .exit) ≡ maskAfter (planOf (now (targets .entry)) (now (suns .entry)) (now (observers .entry)) config) 0 atConfigured (now (mask .entry)) ⌝ }
+    ensures { λ r. let p : Plan = planOf (now (targets .entry)) (now (suns .entry)) (now (observers .entry)) config in
+        ⌜ replyOf r ≡ cellsReply p 0 (length (now (mask .entry))) ⌝ }
+    ensures { λ r. let p : Plan = planOf (now (targets .entry)) (now (suns .entry)) (now (observers .entry)) config in
+        ⌜ now (mask .exit) ≡ maskAfter p 0 atConfigured (now (mask .entry)) ⌝ }
 {
     let refusal = cells_refusal(targets, suns, observers, config, 0, mask.len());
     if refusal != 0 {
@@ -325,8 +337,10 @@ pub fn in_constraint_batch_at_roll(
     roll: EvaluationRoll,
     mask: &mut [u8],
 ) -> Answer
-    ensures { λ r. ⌜ replyOf r ≡ cellsReply (planOf (now (targets .entry)) (now (suns .entry)) (now (observers .entry)) config) 0 (length (now (mask .entry))) ⌝ }
-    ensures { λ r. ⌜ now (mask .exit) ≡ maskAfter (planOf (now (targets .entry)) (now (suns .entry)) (now (observers .entry)) config) 0 (atRoll roll) (now (mask .entry)) ⌝ }
+    ensures { λ r. let p : Plan = planOf (now (targets .entry)) (now (suns .entry)) (now (observers .entry)) config in
+        ⌜ replyOf r ≡ cellsReply p 0 (length (now (mask .entry))) ⌝ }
+    ensures { λ r. let p : Plan = planOf (now (targets .entry)) (now (suns .entry)) (now (observers .entry)) config in
+        ⌜ now (mask .exit) ≡ maskAfter p 0 (atRoll roll) (now (mask .entry)) ⌝ }
 {
     let refusal = cells_refusal(targets, suns, observers, config, 0, mask.len());
     if refusal != 0 {
@@ -347,11 +361,13 @@ pub fn in_constraint_batch_constrained_at_every_roll(
     n: u64,
     mask: &mut [u8],
 ) -> Answer
-    ensures { λ r. ⌜ replyOf r ≡ cellsReply (planOf (now (targets .entry)) (now (suns .entry)) (now (observers .entry)) config) (samplingOrNone n) (length (now (mask .entry))) ⌝ }
-    ensures { λ r. ⌜ now (mask .exit) ≡ maskAfter (planOf (now (targets .entry)) (now (suns .entry)) (now (observers .entry)) config) (samplingOrNone n) (atEveryRoll n) (now (mask .entry)) ⌝ }
+    ensures { λ r. let p : Plan = planOf (now (targets .entry)) (now (suns .entry)) (now (observers .entry)) config in
+        ⌜ replyOf r ≡ cellsReply p (samplesOrNoneRefusal n) (length (now (mask .entry))) ⌝ }
+    ensures { λ r. let p : Plan = planOf (now (targets .entry)) (now (suns .entry)) (now (observers .entry)) config in
+        ⌜ now (mask .exit) ≡ maskAfter p (samplesOrNoneRefusal n) (atEveryRoll n) (now (mask .entry)) ⌝ }
 {
-    let sampling = sampling_or_none(n);
-    let refusal = cells_refusal(targets, suns, observers, config, sampling, mask.len());
+    let said = samples_or_none_refusal(n);
+    let refusal = cells_refusal(targets, suns, observers, config, said, mask.len());
     if refusal != 0 {
         return Answer::Refused(refusal);
     }

@@ -21,8 +21,9 @@ ghost use Rattle.buffers.specs.Ranges.{flag};
 ghost use Rattle.buffers.specs.Lent.{filled};
 ghost use Rattle.buffers.specs.Refusal.{replyOf};
 ghost use Rattle.solar_roll.specs.Cell.{rollIn, violates};
-ghost use Rattle.solar_roll.specs.Plan.{planOf, timesOf, planConfigured};
-ghost use Rattle.solar_masks.specs.Mask.{marked, atConfigured, markAt};
+ghost use Rattle.solar_roll.specs.declared.cell.CellRoll.{CellRoll};
+ghost use Rattle.solar_roll.specs.Plan.{Plan, planOf, timesOf, planConfigured};
+ghost use Rattle.solar_masks.specs.Mask.{markedBy, atConfigured, markAt};
 ghost use Rattle.solar_masks.specs.Row.{excess, severity, severityAt, rowRefusal, rowReply, rowMaskAfter, severitiesAfter};
 
 // A cell's byte and severity.
@@ -70,7 +71,8 @@ fn evaluate_cell(
     configured: ConfiguredRoll,
     tolerance_deg: f64,
 ) -> Evaluated
-    ensures { λ r. ⌜ (r .mark ≡ flag (marked (rollIn axes «sun_unit» panel) (atConfigured configured) «tolerance_deg»)) × (r .severity ≡ severity (rollIn axes «sun_unit» panel) configured «tolerance_deg») ⌝ }
+    ensures { λ r. let cell : CellRoll = rollIn axes «sun_unit» panel in
+        ⌜ (r .mark ≡ flag (markedBy cell (atConfigured configured) «tolerance_deg»)) × (r .severity ≡ severity cell configured «tolerance_deg») ⌝ }
 {
     match configured {
         ConfiguredRoll::None => clear(),
@@ -92,9 +94,12 @@ fn fill_row(
     mask: &mut [u8],
     severities: &mut [f64],
 )
-    requires { ⌜ (timesOf (planOf (now targets) (now suns) (now observers) config) ≤ length (now mask)) × (timesOf (planOf (now targets) (now suns) (now observers) config) ≤ length (now severities)) ⌝ }
-    ensures { λ _. ⌜ now (mask .exit) ≡ filled (timesOf (planOf (now (targets .entry)) (now (suns .entry)) (now (observers .entry)) config)) (markAt (planOf (now (targets .entry)) (now (suns .entry)) (now (observers .entry)) config) (atConfigured (planConfigured (planOf (now (targets .entry)) (now (suns .entry)) (now (observers .entry)) config))) row) (now (mask .entry)) ⌝ }
-    ensures { λ _. ⌜ now (severities .exit) ≡ filled (timesOf (planOf (now (targets .entry)) (now (suns .entry)) (now (observers .entry)) config)) (severityAt (planOf (now (targets .entry)) (now (suns .entry)) (now (observers .entry)) config) row) (now (severities .entry)) ⌝ }
+    requires { let p : Plan = planOf (now targets) (now suns) (now observers) config in
+        ⌜ (timesOf p ≤ length (now mask)) × (timesOf p ≤ length (now severities)) ⌝ }
+    ensures { λ _. let p : Plan = planOf (now (targets .entry)) (now (suns .entry)) (now (observers .entry)) config in
+        ⌜ now (mask .exit) ≡ filled (timesOf p) (markAt p (atConfigured (planConfigured p)) row) (now (mask .entry)) ⌝ }
+    ensures { λ _. let p : Plan = planOf (now (targets .entry)) (now (suns .entry)) (now (observers .entry)) config in
+        ⌜ now (severities .exit) ≡ filled (timesOf p) (severityAt p row) (now (severities .entry)) ⌝ }
 {
     let axes = body_axes(direction(targets, row));
     let settings = row_config(config, row);
@@ -123,7 +128,8 @@ fn row_refusal(
     mask: usize,
     severities: usize,
 ) -> u64
-    ensures { λ r. ⌜ r ≡ rowRefusal (planOf (now (targets .entry)) (now (suns .entry)) (now (observers .entry)) config) row mask severities ⌝ }
+    ensures { λ r. let p : Plan = planOf (now (targets .entry)) (now (suns .entry)) (now (observers .entry)) config in
+        ⌜ r ≡ rowRefusal p row mask severities ⌝ }
 {
     let refusal = plan_refusal(targets, suns, observers, config, 0, false);
     if refusal != 0 {
@@ -150,9 +156,12 @@ pub fn evaluate(
     mask: &mut [u8],
     severities: &mut [f64],
 ) -> Answer
-    ensures { λ r. ⌜ replyOf r ≡ rowReply (planOf (now (targets .entry)) (now (suns .entry)) (now (observers .entry)) config) row (length (now (mask .entry))) (length (now (severities .entry))) ⌝ }
-    ensures { λ r. ⌜ now (mask .exit) ≡ rowMaskAfter (planOf (now (targets .entry)) (now (suns .entry)) (now (observers .entry)) config) row (now (mask .entry)) (now (severities .entry)) ⌝ }
-    ensures { λ r. ⌜ now (severities .exit) ≡ severitiesAfter (planOf (now (targets .entry)) (now (suns .entry)) (now (observers .entry)) config) row (now (mask .entry)) (now (severities .entry)) ⌝ }
+    ensures { λ r. let p : Plan = planOf (now (targets .entry)) (now (suns .entry)) (now (observers .entry)) config in
+        ⌜ replyOf r ≡ rowReply p row (length (now (mask .entry))) (length (now (severities .entry))) ⌝ }
+    ensures { λ r. let p : Plan = planOf (now (targets .entry)) (now (suns .entry)) (now (observers .entry)) config in
+        ⌜ now (mask .exit) ≡ rowMaskAfter p row (now (mask .entry)) (now (severities .entry)) ⌝ }
+    ensures { λ r. let p : Plan = planOf (now (targets .entry)) (now (suns .entry)) (now (observers .entry)) config in
+        ⌜ now (severities .exit) ≡ severitiesAfter p row (now (mask .entry)) (now (severities .entry)) ⌝ }
 {
     let refusal = row_refusal(
         targets,

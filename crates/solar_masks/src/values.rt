@@ -10,16 +10,17 @@ use solar_roll::panel_of;
 use solar_roll::rolls_deg_in;
 use solar_roll::sun_units;
 ghost use mathlib.Core.Path.{_≡_};
-ghost use Prim.Native.Nat.{_+_, _-_, _*_, _≤_};
+ghost use Prim.Native.Nat.{ℕ, _+_, _-_, _*_, _≤_};
 ghost use mathlib.Core.List.{[]};
 ghost use lib.ListN.{length, getD};
+ghost use lib.Ieee.{Float};
 ghost use Rattle.float.specs.Arithmetic.{zero·0};
 ghost use Rattle.buffers.specs.Lent.{filled};
-ghost use Rattle.buffers.specs.Rows.{Columns};
+ghost use Rattle.buffers.specs.Rows.{ColumnsWritten};
 ghost use Rattle.buffers.specs.Refusal.{replyOf};
-ghost use Rattle.solar_roll.specs.Roll.{bodyAxes, rollDegIn};
+ghost use Rattle.solar_roll.specs.Roll.{Axes, bodyAxes, rollDegIn};
 ghost use Rattle.solar_roll.specs.Plan.{count as countOf};
-ghost use Rattle.solar_roll.specs.Plan.{planOf, rowDirection, cells};
+ghost use Rattle.solar_roll.specs.Plan.{Plan, planOf, rowDirection, cellsOf, mostTimes};
 ghost use Rattle.solar_masks.specs.Mask.{cellValue, cellsReply, valuesAfter};
 
 // Writes the rolls of `count` cells of a row, whose Sun units lie in `units`.
@@ -31,7 +32,8 @@ fn value_row(
     values: &mut [f64],
 )
     requires { ⌜ (count ≤ length (now units)) × (count ≤ length (now values)) ⌝ }
-    ensures { λ _. ⌜ now (values .exit) ≡ filled count (λ j. rollDegIn (bodyAxes target) (getD (now (units .entry)) j []) «panel_angle») (now (values .entry)) ⌝ }
+    ensures { λ _. let roll : ℕ → Float = λ j. rollDegIn (bodyAxes target) (getD (now (units .entry)) j []) «panel_angle» in
+        ⌜ now (values .exit) ≡ filled count roll (now (values .entry)) ⌝ }
 {
     let axes = body_axes(target);
     let mut from = 0;
@@ -54,7 +56,9 @@ fn value_block(
     values: &mut [f64],
 )
     requires { ⌜ (countOf (now targets) * times ≤ length (now values)) × (from + count ≤ times) × (count ≤ length (now units)) ⌝ }
-    ensures { λ _. ⌜ Columns (countOf (now (targets .entry))) times (countOf (now (targets .entry))) from count (λ r j. rollDegIn (bodyAxes (rowDirection (now (targets .entry)) r)) (getD (now (units .entry)) (j - from) []) «panel_angle») zero·0 (now (values .entry)) (now (values .exit)) ⌝ }
+    ensures { λ _. let rows : ℕ = countOf (now (targets .entry)) in let axes : ℕ → Axes = λ r. bodyAxes (rowDirection (now (targets .entry)) r) in
+        let roll : ℕ → ℕ → Float = λ r j. rollDegIn (axes r) (getD (now (units .entry)) (j - from) []) «panel_angle» in
+        ⌜ ColumnsWritten rows times rows from count roll zero·0 (now (values .entry)) (now (values .exit)) ⌝ }
 {
     let rows = targets.len() / 3;
     let mut row = 0;
@@ -74,8 +78,10 @@ fn write_values(
     config: SolarRollConfig,
     values: &mut [f64],
 )
-    requires { ⌜ (cells (planOf (now targets) (now suns) (now observers) config) ≤ length (now values)) × (countOf (now suns) ≤ 65536) ⌝ }
-    ensures { λ _. ⌜ now (values .exit) ≡ filled (cells (planOf (now (targets .entry)) (now (suns .entry)) (now (observers .entry)) config)) (cellValue (planOf (now (targets .entry)) (now (suns .entry)) (now (observers .entry)) config)) (now (values .entry)) ⌝ }
+    requires { let p : Plan = planOf (now targets) (now suns) (now observers) config in
+        ⌜ (cellsOf p ≤ length (now values)) × (countOf (now suns) ≤ mostTimes) ⌝ }
+    ensures { λ _. let p : Plan = planOf (now (targets .entry)) (now (suns .entry)) (now (observers .entry)) config in
+        ⌜ now (values .exit) ≡ filled (cellsOf p) (cellValue p) (now (values .entry)) ⌝ }
 {
     let times = suns.len() / 3;
     let normal = config.panel_normal;
@@ -99,8 +105,10 @@ pub fn named_values(
     config: SolarRollConfig,
     values: &mut [f64],
 ) -> Answer
-    ensures { λ r. ⌜ replyOf r ≡ cellsReply (planOf (now (targets .entry)) (now (suns .entry)) (now (observers .entry)) config) 0 (length (now (values .entry))) ⌝ }
-    ensures { λ r. ⌜ now (values .exit) ≡ valuesAfter (planOf (now (targets .entry)) (now (suns .entry)) (now (observers .entry)) config) (now (values .entry)) ⌝ }
+    ensures { λ r. let p : Plan = planOf (now (targets .entry)) (now (suns .entry)) (now (observers .entry)) config in
+        ⌜ replyOf r ≡ cellsReply p 0 (length (now (values .entry))) ⌝ }
+    ensures { λ r. let p : Plan = planOf (now (targets .entry)) (now (suns .entry)) (now (observers .entry)) config in
+        ⌜ now (values .exit) ≡ valuesAfter p (now (values .entry)) ⌝ }
 {
     let refusal = cells_refusal(targets, suns, observers, config, 0, values.len());
     if refusal != 0 {

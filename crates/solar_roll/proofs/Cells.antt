@@ -1,5 +1,5 @@
 -- Laws of one cell: the answer from what rows and panels share; an answer that is not refused; a triple past the end. Assumes nothing.
-use mathlib.Core.Path.{_≡_, refl, ap₂}
+use mathlib.Core.Path.{_≡_, refl}
 use mathlib.Core.Bool.{Bool, true, false, cond}
 use mathlib.Core.List.{List}
 use Prim.Native.Nat.{ℕ, _+_, _*_, _≤_}
@@ -8,15 +8,19 @@ use lib.ListN.{length, List·getD-eq-default}
 use lib.Ieee.{Float, nan}
 use Rattle.buffers.specs.Refusal.{accepted}
 use Rattle.solar_roll.specs.Vectors.{Vector, vector}
-use Rattle.solar_roll.specs.Roll.{Axes, bodyAxes, rollDegIn, panelOf, rollIsUnconstrained, solarOptimalRollDeg}
+use Rattle.solar_roll.specs.Roll.{Axes, bodyAxes, rollDegIn, panelAngle, panelOf, rollIsUnconstrained, solarOptimalRollDeg}
 use Rattle.solar_roll.specs.Cell.{optimalRoll, rollIn, cellReply}
-use Rattle.solar_roll.specs.Plan.{Plan, triple, directionOf, configOf, rowConfig, sunAt, cellOf, planPanel, planConfigured}
+use Rattle.solar_roll.specs.Plan.{Plan, triple, directionOf, rowConfig, sunAt, cellOf, planPanel}
 use Rattle.solar_roll.specs.declared.roll.Panel.{Panel}
 use Rattle.solar_roll.specs.declared.cell.CellRoll.the-variants.{Free, At}
 
--- what a row and a panel share makes the same answer
+-- what a row and a panel share makes the same optimal roll, and the same answer
+pub optimal-shared : (target sun normal : Vector) → rollDegIn (bodyAxes target) sun (panelAngle normal) ≡ solarOptimalRollDeg target sun normal
+unfolding rollDegIn bodyAxes solarOptimalRollDeg
+optimal-shared target sun normal = refl
+
 pub roll-shared : (target sun normal : Vector) → rollIn (bodyAxes target) sun (panelOf normal) ≡ optimalRoll target sun normal
-unfolding rollIn optimalRoll bodyAxes panelOf rollIsUnconstrained solarOptimalRollDeg
+unfolding rollIn rollDegIn optimalRoll bodyAxes panelOf rollIsUnconstrained solarOptimalRollDeg
 roll-shared target sun normal = refl
 
 -- an answer that is not refused

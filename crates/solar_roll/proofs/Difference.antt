@@ -3,20 +3,21 @@
 -- values of the format. Public besides, for the remainder by 360 alone: `Turn`, `made-positive`, `remainder`. Assumes nothing.
 use mathlib.Core.Path.{_≡_, refl, sym, ap, _∙_, subst}
 use mathlib.Core.Logic.{_⊎_, inl, inr}
-use mathlib.Core.Bool.{Bool, true, false, cond, _||_, _&&_, true≢false}
+use mathlib.Core.Bool.{Bool, true, false, cond, _&&_, true≢false}
 use Prim.Native.Nat.{ℕ, _+_, _-_, _*_, _%_, _^_, _<_, _≤_}
 use native.Mathlib.Nat.{mod-lt, mul-pos}
 use native.Mathlib.Omega.{arith}
 use borrow.Author.Tests.{le-ltb, ltb-false}
 use lib.IntN.{ℤ, pos}
-use lib.Dec.{T, ltb, eqb, lit<}
+use lib.Dec.{T, ltb, lit<}
 use lib.Ieee.{Float, nan, inf, fin, binary64, up, down, round, add, sub, neg, sum, rem, lt, le, eq, ofBits}
 use lib.Ieee.Fits.{down-pos}
 use lib.Ieee.Order.{round-mono}
-use Rattle.float.specs.Arithmetic.{zero·0, halfTurn, fullTurn, absOf, remEuclid, finite}
+use Rattle.float.specs.Arithmetic.{absOf, remEuclid, finite}
 use Rattle.float.proofs.Bounds.{resign, round-resign, at-most}
 use Rattle.float.proofs.Overflow.{sub-not-finite}
 use Rattle.solar_roll.specs.Roll.{arc, circularDiffDeg}
+use Rattle.solar_roll.specs.Section2.{InHalfTurn}
 
 -- ---- the size of a rounded value
 
@@ -153,11 +154,6 @@ less-half true m e h (inr z) = half-of true (m * up e * 1 + 180 * down e) (down 
 
 -- ---- 180 less that
 
--- in 0 to 180
-pub record InHalfTurn (x : Float) : Type 0 where
-  pub low : le zero·0 x ≡ true
-  pub high : le x halfTurn ≡ true
-
 holds : (b : Bool) → T b → b ≡ true
 holds true t = refl
 holds false t = absurd t
@@ -213,12 +209,12 @@ arc-nan (fin s m e) h = absurd (true≢false h)
 
 -- in 0 to 180, where the subtraction does not overflow
 pub difference-range : (a b : Float) → finite (sub binary64 a b) ≡ true → InHalfTurn (circularDiffDeg a b)
-unfolding circularDiffDeg
+unfolding circularDiffDeg arc
 difference-range a b h = arc-range (sub binary64 a b) h
 
 -- else NaN
 pub difference-nan : (a b : Float) → finite (sub binary64 a b) ≡ false → circularDiffDeg a b ≡ nan
-unfolding circularDiffDeg
+unfolding circularDiffDeg arc
 difference-nan a b h = arc-nan (sub binary64 a b) h
 
 -- "a difference of a non-finite number is NaN"

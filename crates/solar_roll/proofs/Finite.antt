@@ -1,26 +1,26 @@
--- The optimal roll of an accepted plan is finite, and at most 2 ^ 20 in size (`roll-within`, `roll-finite`). The bounds are powers of two, far from
+-- The optimal roll of an accepted plan is at most 2 ^ 20 in size, and so finite (`roll-within`). The bounds are powers of two, far from
 -- tight: they only show that no step overflows. Assumes nothing.
 use mathlib.Core.Path.{_≡_, refl, sym, ap, _∙_, subst}
-use mathlib.Core.Bool.{Bool, true, false, cond, not, _||_, false≢true}
+use mathlib.Core.Bool.{Bool, true, false, cond, false≢true}
 use mathlib.Core.List.{List}
 use Prim.Native.Nat.{ℕ, suc, _+_, _*_, _^_, _<_, _≤_}
 use native.Mathlib.Nat.{le-trans, le-of-eq, mul-comm, mul-assoc, mul-one, mul-le-mul-right, le-of-mul-le-mul-right}
 use native.Mathlib.Omega.{arith}
 use borrow.Author.Tests.{ltb-false, not-false}
 use lib.IntN.{ℤ, pos}
-use lib.Dec.{T, ltb, eqb, lit<, lit≤}
-use lib.ListN.{length, getD}
-use lib.Ieee.{Float, nan, inf, fin, binary64, up, down, add, sub, mul, div, round, lt, le, eq, ofBits}
+use lib.Dec.{T, lit<, lit≤}
+use lib.ListN.{length}
+use lib.Ieee.{Float, nan, inf, fin, binary64, up, down, sub, mul, lt, le, eq, ofBits}
 use Rattle.buffers.specs.Ranges.{any}
 use Rattle.buffers.proofs.Ranges.{any-getD}
 use Rattle.buffers.proofs.Tests.{or-left}
-use Rattle.float.specs.Arithmetic.{zero·0, one, absOf, finite}
+use Rattle.float.specs.Arithmetic.{zero·0, one, absOf}
 use Rattle.float.proofs.Bounds.{resign, round-resign, Within, within-add, within-sub, within-mul, within-div, within-finite, weaken, Beyond, Size, size-of, size-add, size-weaken, root-keeps, at-most, one-value}
 use Rattle.float.proofs.Angle.{within-arctangent, within-degrees}
 use Rattle.solar_roll.specs.Vectors.{Vector, x, y, z, vector, NEAR_ZERO, dot3, norm3, cross3, over3, normalize3, unwrapOr}
-use Rattle.solar_roll.specs.Roll.{xHat, yHat, zHat, nineTenths, axis, sunUnit, panelAngle, perpendicular, poleFallback, north, yAxis, bodyAxes, rollDegIn, solarOptimalRollDeg}
+use Rattle.solar_roll.specs.Roll.{xHat, yHat, zHat, nineTenths, sunUnit, panelAngle, perpendicular, poleFallback, north, yAxis, solarOptimalRollDeg}
 use Rattle.solar_roll.specs.Cell.{LIMIT, tooLarge, badPosition, badDirection}
-use Rattle.solar_roll.specs.Plan.{Plan, triple, rowsOf, timesOf, rowDirection, directionOf, rowConfig, configOf, sunAt, planPanel, PlanFacts}
+use Rattle.solar_roll.specs.Plan.{Plan, triple, rowsOf, timesOf, rowDirection, directionOf, rowConfig, sunAt, optimalAt, planPanel, PlanFacts}
 use Rattle.solar_roll.specs.declared.vectors.Normalized.{Normalized}
 
 -- each component at most 2 ^ j in size
@@ -175,7 +175,7 @@ within-sun s o a b = go (lt (norm3 v) NEAR_ZERO) refl
 
 -- the optimal roll is at most 2 ^ 20
 within-roll : (t s n : Vector) → Vec 0 t → Vec 374 s → Within 333 (y n) → Within 333 (z n) → Within 20 (solarOptimalRollDeg t s n)
-unfolding solarOptimalRollDeg rollDegIn bodyAxes panelAngle
+unfolding solarOptimalRollDeg panelAngle
 within-roll t s n a b ny nz =
     let ya = within-y-axis t a in
     let sy = within-dot 374 84 (lit< tt) b ya in
@@ -229,14 +229,10 @@ module _ (p : Plan) (facts : PlanFacts p) (three : length (planPanel p) ≡ 3) (
       (triple-within LIMIT 333 position-within (p .observers) j (facts .observers-small) (omega (arith, facts .observers-length)))
 
   -- the optimal roll of an accepted plan's cell is at most 2 ^ 20 in size
-  pub roll-within : Within 20 (solarOptimalRollDeg (directionOf p r) (sunAt p j) (configOf p r .«panel_normal»))
-  unfolding rowConfig planPanel badPosition
+  pub roll-within : Within 20 (optimalAt p r j)
+  unfolding optimalAt rowConfig planPanel badPosition
   roll-within =
       let n = planPanel p in
       within-roll (directionOf p r) (sunAt p j) n direction-vec sun-vec
       (position-within _ (any-getD (tooLarge LIMIT) n nan 1 (facts .panel-small) (omega (arith, three))))
       (position-within _ (any-getD (tooLarge LIMIT) n nan 2 (facts .panel-small) (omega (arith, three))))
-
-  -- so it is finite
-  pub roll-finite : finite (solarOptimalRollDeg (directionOf p r) (sunAt p j) (configOf p r .«panel_normal»)) ≡ true
-  roll-finite = within-finite 20 roll-within

@@ -1,10 +1,10 @@
 -- Section 2: the answer of one cell, when a roll violates it, and what the call on four triples refuses. Definitions only. Assumes nothing.
-use mathlib.Core.Bool.{Bool, true, false, cond, not, _||_}
+use mathlib.Core.Bool.{Bool, false, cond, not, _||_}
 use mathlib.Core.List.{List, [], _∷_}
 use Prim.Native.Nat.{ℕ}
 use lib.Ieee.{Float, binary64, lt, le, ofBits}
 use Rattle.buffers.specs.Ranges.{any}
-use Rattle.buffers.specs.Refusal.{first, carried, Reply, refused, accepted}
+use Rattle.buffers.specs.Refusal.{first, Reply, refused, accepted}
 use Rattle.float.specs.Arithmetic.{one, absOf}
 use Rattle.solar_roll.specs.Vectors.{Vector}
 use Rattle.solar_roll.specs.Roll.{Axes, axis, sunAlongBoresight, rollIsUnconstrained, rollDegIn, solarOptimalRollDeg, circularDiffDeg}
@@ -21,14 +21,6 @@ use Rattle.solar_roll.specs.declared.cell.EvaluationRoll.the-variants.{S
 -- of a target, the Sun's unit and the panel's normal: Free where no roll is better than another, else At the optimal roll
 unfoldable pub optimalRoll : Vector → Vector → Vector → CellRoll
 optimalRoll target sun normal = cond (rollIsUnconstrained target sun normal) Free (At (solarOptimalRollDeg target sun normal))
-
--- the same, from what a target's cells share, its axes, and what all cells share, the panel: with the roll given, and with the roll of these
-unfoldable pub freeOrAt : Axes → Vector → Panel → Float → CellRoll
-freeOrAt axes sun panel roll = cond (sunAlongBoresight (axis 0 axes) sun || panel .free) Free (At roll)
-
-unfoldable pub rollIn : Axes → Vector → Panel → CellRoll
-unfolding freeOrAt
-rollIn axes sun panel = freeOrAt axes sun panel (rollDegIn axes sun (panel .angle))
 
 -- the number and the value of each case of the answer
 unfoldable pub cellReply : CellRoll → Reply CellRoll
@@ -68,14 +60,21 @@ badPosition = any (tooLarge LIMIT)
 unfoldable pub badDirection : List Float → Bool
 badDirection = any (tooLarge one)
 
--- what is refused of one target's direction, 0 for none
-unfoldable pub directionRefusal : Vector → ℕ
-directionRefusal target = first ((badDirection target, 5) ∷ [])
-
 -- *One cell*, four triples: 4 of the Sun and the observer, 5 of the target, 6 of the panel; 0 for none
 unfoldable pub cellRefusal : Vector → Vector → Vector → Vector → ℕ
 cellRefusal target sun observer normal =
     first ((badPosition sun || badPosition observer, 4)
-    ∷ carried (directionRefusal target)
+    ∷ (badDirection target, 5)
     ∷ (badPosition normal, 6)
     ∷ [])
+
+-- ---- the answer from what cells share, which the code works out
+
+-- from a target's axes, the Sun's unit, the panel and the optimal roll
+unfoldable pub freeOrAt : Axes → Vector → Panel → Float → CellRoll
+freeOrAt axes sun panel roll = cond (sunAlongBoresight (axis 0 axes) sun || panel .free) Free (At roll)
+
+-- the same with the optimal roll of these
+unfoldable pub rollIn : Axes → Vector → Panel → CellRoll
+unfolding freeOrAt
+rollIn axes sun panel = freeOrAt axes sun panel (rollDegIn axes sun (panel .angle))

@@ -1,8 +1,9 @@
 -- A plan as its calls lend it, and *Plan*, the refusals that come before every call with positions. A plan has rows and times. A row is a target;
 -- a cell, document 01's word, is a row at a time. Everything above these definitions speaks of rows: a row's direction and settings are
--- `directionOf` and `configOf`, and nothing else says where they come from. Definitions only. Assumes nothing.
+-- `directionOf` and `configOf`. All rows have one configured roll and one panel, which the calls also read of the plan's own settings, past a row's
+-- (`planConfigured`, `planPanel`); a row's tolerance comes from `configOf` alone. Definitions only. Assumes nothing.
 use mathlib.Core.Path.{_≡_}
-use mathlib.Core.Bool.{Bool, true, false, cond, not, _||_, _&&_}
+use mathlib.Core.Bool.{Bool, false, cond, not, _||_, _&&_}
 use mathlib.Core.List.{List, [], _∷_}
 use Prim.Native.Nat.{ℕ, _+_, _*_, _/_, _%_, _≤_}
 use lib.Dec.{eqb, leb, ltb}
@@ -10,7 +11,7 @@ use lib.ListN.{length, getD}
 use lib.Ieee.{Float, nan}
 use Rattle.buffers.specs.Refusal.{first, carried}
 use Rattle.solar_roll.specs.Vectors.{Vector, vector}
-use Rattle.solar_roll.specs.Roll.{sunUnit}
+use Rattle.solar_roll.specs.Roll.{sunUnit, solarOptimalRollDeg}
 use Rattle.solar_roll.specs.Cell.{optimalRoll, violates, inForce, badPosition, badDirection}
 use Rattle.solar_roll.specs.declared.cell.CellRoll.{CellRoll}
 use Rattle.solar_roll.specs.declared.cell.ConfiguredRoll.{ConfiguredRoll}
@@ -48,8 +49,8 @@ abbrev pub timesOf : Plan → ℕ
 timesOf p = count (p .suns)
 
 -- how many cells: rows · times
-abbrev pub cells : Plan → ℕ
-cells p = rowsOf p * timesOf p
+abbrev pub cellsOf : Plan → ℕ
+cellsOf p = rowsOf p * timesOf p
 
 -- the direction and the settings of row r, of the lists that a call is lent
 unfoldable pub rowDirection : List Float → ℕ → Vector
@@ -72,6 +73,10 @@ sunAt p j = sunUnit (triple (p .suns) j) (triple (p .observers) j)
 -- the answer of the cell of row r at time j
 unfoldable pub cellOf : Plan → ℕ → ℕ → CellRoll
 cellOf p r j = optimalRoll (directionOf p r) (sunAt p j) (configOf p r .«panel_normal»)
+
+-- its optimal roll, of a Free cell too
+unfoldable pub optimalAt : Plan → ℕ → ℕ → Float
+optimalAt p r j = solarOptimalRollDeg (directionOf p r) (sunAt p j) (configOf p r .«panel_normal»)
 
 -- the roll that is configured, and the panel's normal, of the whole plan
 unfoldable pub planConfigured : Plan → ConfiguredRoll
@@ -113,32 +118,32 @@ unfoldable pub tooMany : ℕ → ℕ → Bool
 tooMany rows times = ltb mostRows rows || (ltb mostTimes times || ltb mostCells (rows * times))
 
 -- the number in the place of 3, 0 for none: n outside 1 to 3,600
-unfoldable pub samplingOf : ℕ → ℕ
-samplingOf n = cond (leb 1 n && leb n mostSamples) 0 3
+unfoldable pub samplesRefusal : ℕ → ℕ
+samplesRefusal n = cond (leb 1 n && leb n mostSamples) 0 3
 
 -- the same in section 6's first two calls, where n = 0 is allowed
-unfoldable pub samplingOrNone : ℕ → ℕ
-samplingOrNone n = cond (leb n mostSamples) 0 3
+unfoldable pub samplesOrNoneRefusal : ℕ → ℕ
+samplesOrNoneRefusal n = cond (leb n mostSamples) 0 3
 
--- *Plan*, 0 for none. `sampling` is the number said in the place of 3, 0 for none; `beyond` says that a used length lies beyond its buffer.
+-- *Plan*, 0 for none. `said` is the number said in the place of 3, 0 for none; `beyond` says that a used length lies beyond its buffer.
 unfoldable pub planRefusal : Plan → ℕ → Bool → ℕ
-planRefusal p sampling beyond =
+planRefusal p said beyond =
     first ((unlikeLengths (length (p .targets)) (length (p .suns)) (length (p .observers)) || beyond, 1)
     ∷ (tooMany (rowsOf p) (timesOf p), 2)
-    ∷ carried sampling
+    ∷ carried said
     ∷ (badPosition (p .suns) || badPosition (p .observers), 4)
     ∷ (badDirection (p .targets), 5)
     ∷ (badPosition (planPanel p), 6)
     ∷ [])
 
--- what is known of a plan that is not refused (`plan-facts`, proofs/Accepted)
+-- what is known of a plan that is not refused (`plan-facts`, proofs/PlanFacts)
 pub record PlanFacts (p : Plan) : Type 0 where
   pub targets-length : length (p .targets) ≡ 3 * rowsOf p
   pub suns-length : length (p .suns) ≡ 3 * timesOf p
   pub observers-length : length (p .observers) ≡ 3 * timesOf p
   pub few-rows : rowsOf p ≤ mostRows
   pub few-times : timesOf p ≤ mostTimes
-  pub few-cells : cells p ≤ mostCells
+  pub few-cells : cellsOf p ≤ mostCells
   pub suns-small : badPosition (p .suns) ≡ false
   pub observers-small : badPosition (p .observers) ≡ false
   pub targets-small : badDirection (p .targets) ≡ false

@@ -1,14 +1,14 @@
 -- Section 2: the Sun's unit, the Free cells, the body's axes, the optimal roll and the difference of two rolls, as solar_roll.rs has them, with
--- every fallback; and the step of even samples (sections 3 and 6). What the roll takes of the target (its axes) and of the panel (its angle) are
--- definitions of their own. Definitions only. Assumes nothing.
-use mathlib.Core.Bool.{Bool, true, false, cond, _||_}
+-- every fallback; and the step of even samples (sections 3 and 6). What the code works out once for many cells, or sooner, follows them.
+-- Definitions only. Assumes nothing.
+use mathlib.Core.Bool.{Bool, cond, _||_}
 use mathlib.Core.List.{List, [], _∷_}
 use Prim.Native.Nat.{ℕ}
 use lib.IntN.{pos}
 use lib.ListN.{getD}
-use lib.Ieee.{Float, nan, binary64, add, sub, mul, div, lt, le, ofInt, ofBits}
+use lib.Ieee.{Float, binary64, lt, le, ofInt, ofBits}
 use Rattle.float.specs.Root.{sqrtOf}
-use Rattle.float.specs.Arithmetic.{zero·0, one, halfTurn, fullTurn, absOf, remEuclid, toDegrees}
+use Rattle.float.specs.Arithmetic.{_⊕_, _⊖_, _⊗_, _⊘_, zero·0, one, halfTurn, fullTurn, absOf, remEuclid, toDegrees}
 use Rattle.float.specs.Arctangent.{arctangent}
 use Rattle.solar_roll.specs.Vectors.{Vector, x, y, z, vector, NEAR_ZERO, dot3, norm3, cross3, over3, normalize3, unwrapOr}
 use Rattle.solar_roll.specs.declared.roll.Panel.{Panel}
@@ -32,50 +32,67 @@ zHat = vector zero·0 zero·0 one
 -- the Sun's unit: (Sun - observer) / its norm, or [1, 0, 0] if the norm < 1e-12
 unfoldable pub sunUnit : Vector → Vector → Vector
 sunUnit sun observer =
-    let v = vector (sub binary64 (x sun) (x observer)) (sub binary64 (y sun) (y observer)) (sub binary64 (z sun) (z observer)) in
+    let v = vector (x sun ⊖ x observer) (y sun ⊖ y observer) (z sun ⊖ z observer) in
     cond (lt (norm3 v) NEAR_ZERO) xHat (over3 v (norm3 v))
+
+-- ---- Free, document 01's word for: no roll is better than another
 
 -- |sun·target| > 1 - 1e-12
 unfoldable pub sunAlongBoresight : Vector → Vector → Bool
-sunAlongBoresight target sun = lt (sub binary64 one NEAR_ZERO) (absOf (dot3 sun target))
-
--- ---- the panel
+sunAlongBoresight target sun = lt (one ⊖ NEAR_ZERO) (absOf (dot3 sun target))
 
 -- the panel's y-z norm <= 1e-12
 unfoldable pub panelIsFree : Vector → Bool
-panelIsFree normal = le (sqrtOf (add binary64 (mul binary64 (y normal) (y normal)) (mul binary64 (z normal) (z normal)))) NEAR_ZERO
+panelIsFree normal = le (sqrtOf (y normal ⊗ y normal ⊕ z normal ⊗ z normal)) NEAR_ZERO
+
+-- when a cell is Free: `roll_is_unconstrained` of the Rust
+unfoldable pub rollIsUnconstrained : Vector → Vector → Vector → Bool
+rollIsUnconstrained target sun normal = sunAlongBoresight target sun || panelIsFree normal
+
+-- ---- the body's axes: x is the boresight t
+
+-- v less its part along t
+unfoldable pub perpendicular : Vector → Vector → Vector
+perpendicular t v = let d = dot3 t v in vector (x v ⊖ d ⊗ x t) (y v ⊖ d ⊗ y t) (z v ⊖ d ⊗ z t)
+
+-- the reference where celestial north, [0, 0, 1], lies along the boresight: [0, 0, 1] if |t's z| < 0.9, else [0, 1, 0]
+unfoldable pub poleFallback : Vector → Vector
+poleFallback t = cond (lt (absOf (z t)) nineTenths) zHat yHat
+
+-- celestial north, projected onto the plane perpendicular to the boresight, over its norm; else the fallback so; else [0, 1, 0]
+unfoldable pub north : Vector → Vector
+north t = unwrapOr (normalize3 (perpendicular t zHat)) (unwrapOr (normalize3 (perpendicular t (poleFallback t))) yHat)
+
+-- y: north × t over its norm, or [0, 1, 0]
+unfoldable pub yAxis : Vector → Vector
+yAxis t = unwrapOr (normalize3 (cross3 (north t) t)) yHat
+
+-- z: t × y
+abbrev pub zAxis : Vector → Vector
+zAxis t = cross3 t (yAxis t)
+
+-- ---- the optimal roll, in degrees
 
 -- the angle of the panel's normal in the body's y-z plane
 unfoldable pub panelAngle : Vector → Float
 panelAngle normal = arctangent (z normal) (y normal)
 
--- what a cell's roll takes of the panel
-unfoldable pub panelOf : Vector → Panel
-panelOf normal = record { free = panelIsFree normal; angle = panelAngle normal }
+-- of a target, the Sun's unit and the panel's normal: the Sun's angle in the body's y-z plane less the panel's
+unfoldable pub solarOptimalRollDeg : Vector → Vector → Vector → Float
+solarOptimalRollDeg target sun normal = toDegrees (arctangent (dot3 sun (zAxis target)) (dot3 sun (yAxis target)) ⊖ panelAngle normal)
 
--- When a cell is Free, document 01's word for: no roll is better than another. `roll_is_unconstrained` of the Rust.
-unfoldable pub rollIsUnconstrained : Vector → Vector → Vector → Bool
-rollIsUnconstrained target sun normal = sunAlongBoresight target sun || panelIsFree normal
+-- ---- the difference of the rolls a and b, in degrees: the shorter arc between them, in 0 to 180, or NaN
 
--- ---- the body's axes
+unfoldable pub circularDiffDeg : Float → Float → Float
+circularDiffDeg a b = let d = remEuclid (a ⊖ b) fullTurn in halfTurn ⊖ absOf (d ⊖ halfTurn)
 
--- v less its part along t
-unfoldable pub perpendicular : Vector → Vector → Vector
-perpendicular t v =
-    let d = dot3 t v in
-    vector (sub binary64 (x v) (mul binary64 d (x t))) (sub binary64 (y v) (mul binary64 d (y t))) (sub binary64 (z v) (mul binary64 d (z t)))
+-- ---- the even samples of a turn
 
--- the reference where celestial north, [0, 0, 1], lies along the boresight t: [0, 0, 1] if |t's z| < 0.9, else [0, 1, 0]
-unfoldable pub poleFallback : Vector → Vector
-poleFallback t = cond (lt (absOf (z t)) nineTenths) zHat yHat
+-- the step of n samples: 360 / n
+unfoldable pub sampleStep : ℕ → Float
+sampleStep n = fullTurn ⊘ ofInt binary64 (pos n)
 
--- celestial north, projected onto the plane perpendicular to the boresight t, over its norm; else the fallback so; else [0, 1, 0]
-unfoldable pub north : Vector → Vector
-north t = unwrapOr (normalize3 (perpendicular t zHat)) (unwrapOr (normalize3 (perpendicular t (poleFallback t))) yHat)
-
--- the body's y axis: north × t over its norm, or [0, 1, 0]
-unfoldable pub yAxis : Vector → Vector
-yAxis t = unwrapOr (normalize3 (cross3 (north t) t)) yHat
+-- ---- their pieces, which the code works out
 
 -- the three axes, as `[[f64; 3]; 3]` holds them, and one of them
 abbrev pub Axes : Type 0
@@ -84,33 +101,18 @@ Axes = List Vector
 abbrev pub axis : ℕ → Axes → Vector
 axis k axes = getD axes k []
 
--- x is the boresight, y = north × x, z = x × y
+-- of a target, for all its cells: x, y and z
 unfoldable pub bodyAxes : Vector → Axes
-bodyAxes t = t ∷ yAxis t ∷ cross3 t (yAxis t) ∷ []
+bodyAxes t = t ∷ yAxis t ∷ zAxis t ∷ []
 
--- ---- the optimal roll, in degrees
+-- of the panel, for all cells
+unfoldable pub panelOf : Vector → Panel
+panelOf normal = record { free = panelIsFree normal; angle = panelAngle normal }
 
--- of a body's axes, the Sun's unit and the panel's angle: the Sun's angle in the body's y-z plane less the panel's
+-- the optimal roll, from a body's axes, the Sun's unit and the panel's angle
 unfoldable pub rollDegIn : Axes → Vector → Float → Float
-rollDegIn axes sun angle = toDegrees (sub binary64 (arctangent (dot3 sun (axis 2 axes)) (dot3 sun (axis 1 axes))) angle)
+rollDegIn axes sun angle = toDegrees (arctangent (dot3 sun (axis 2 axes)) (dot3 sun (axis 1 axes)) ⊖ angle)
 
--- of a target, the Sun's unit and the panel's normal
-unfoldable pub solarOptimalRollDeg : Vector → Vector → Vector → Float
-solarOptimalRollDeg target sun normal = rollDegIn (bodyAxes target) sun (panelAngle normal)
-
--- ---- the difference of two rolls: the shorter arc between them
-
--- that of a turn by x: 180 - |x rem 360 - 180|
+-- the shorter arc of a turn by x
 unfoldable pub arc : Float → Float
-arc x = let d = remEuclid x fullTurn in sub binary64 halfTurn (absOf (sub binary64 d halfTurn))
-
--- the difference of the rolls a and b, in degrees: in 0 to 180, or NaN
-unfoldable pub circularDiffDeg : Float → Float → Float
-unfolding arc
-circularDiffDeg a b = arc (sub binary64 a b)
-
--- ---- the even samples of a turn
-
--- the step of n samples: 360 / n
-unfoldable pub sampleStep : ℕ → Float
-sampleStep n = div binary64 fullTurn (ofInt binary64 (pos n))
+arc x = let d = remEuclid x fullTurn in halfTurn ⊖ absOf (d ⊖ halfTurn)

@@ -3,9 +3,19 @@ use crate::cell::ConfiguredRoll;
 use crate::cell::bad_direction;
 use crate::cell::bad_position;
 ghost use mathlib.Core.Path.{_≡_};
-ghost use lib.ListN.{length, getD};
+ghost use lib.ListN.{getD};
 ghost use lib.Ieee.{nan};
-ghost use Rattle.solar_roll.specs.Plan.{planOf, triple, rowDirection, rowConfig, unlikeLengths, tooMany, samplingOf, samplingOrNone, planRefusal};
+ghost use Rattle.solar_roll.specs.Plan.{planOf, triple, rowDirection, rowConfig, unlikeLengths, tooMany, samplesRefusal, samplesOrNoneRefusal, planRefusal};
+
+// The most rows, times and cells of a plan.
+pub const MOST_ROWS: usize = 65_536;
+
+pub const MOST_TIMES: usize = 65_536;
+
+pub const MOST_CELLS: usize = 1_048_576;
+
+// The largest n.
+const MOST_SAMPLES: u64 = 3_600;
 
 // The settings of a row.
 pub struct SolarRollConfig {
@@ -64,43 +74,43 @@ fn unlike_lengths(targets: usize, suns: usize, observers: usize) -> bool
 fn too_many(rows: usize, times: usize) -> bool
     ensures { λ r. ⌜ r ≡ tooMany rows times ⌝ }
 {
-    if 65536 < rows {
+    if MOST_ROWS < rows {
         return true;
     }
-    if 65536 < times {
+    if MOST_TIMES < times {
         return true;
     }
-    1048576 < rows * times
+    MOST_CELLS < rows * times
 }
 
 // 3 unless there are 1 to 3,600 samples, else 0.
-pub fn sampling(n: u64) -> u64
-    ensures { λ r. ⌜ r ≡ samplingOf n ⌝ }
+pub fn samples_refusal(n: u64) -> u64
+    ensures { λ r. ⌜ r ≡ samplesRefusal n ⌝ }
 {
     if n < 1 {
         return 3;
     }
-    if 3600 < n { 3 } else { 0 }
+    if MOST_SAMPLES < n { 3 } else { 0 }
 }
 
 // 3 for more than 3,600 samples, else 0.
-pub fn sampling_or_none(n: u64) -> u64
-    ensures { λ r. ⌜ r ≡ samplingOrNone n ⌝ }
+pub fn samples_or_none_refusal(n: u64) -> u64
+    ensures { λ r. ⌜ r ≡ samplesOrNoneRefusal n ⌝ }
 {
-    if 3600 < n { 3 } else { 0 }
+    if MOST_SAMPLES < n { 3 } else { 0 }
 }
 
-// The number of the plan's first refusal, 0 for none. `sampling` is the number said in the place of
+// The number of the plan's first refusal, 0 for none. `said` is the number said in the place of
 // 3, 0 for none, and `beyond` says that a used length lies beyond its buffer.
 pub fn plan_refusal(
     targets: &[f64],
     suns: &[f64],
     observers: &[f64],
     config: SolarRollConfig,
-    sampling: u64,
+    said: u64,
     beyond: bool,
 ) -> u64
-    ensures { λ r. ⌜ r ≡ planRefusal (planOf (now (targets .entry)) (now (suns .entry)) (now (observers .entry)) config) sampling beyond ⌝ }
+    ensures { λ r. ⌜ r ≡ planRefusal (planOf (now (targets .entry)) (now (suns .entry)) (now (observers .entry)) config) said beyond ⌝ }
 {
     let panel_normal = config.panel_normal;
     if unlike_lengths(targets.len(), suns.len(), observers.len()) {
@@ -112,8 +122,8 @@ pub fn plan_refusal(
     if too_many(targets.len() / 3, suns.len() / 3) {
         return 2;
     }
-    if sampling != 0 {
-        return sampling;
+    if said != 0 {
+        return said;
     }
     if bad_position(suns) {
         return 4;

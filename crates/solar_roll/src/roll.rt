@@ -15,14 +15,14 @@ use float::sqrt;
 use float::to_degrees;
 ghost use mathlib.Core.Path.{_≡_};
 ghost use mathlib.Core.List.{[]};
-ghost use Prim.Native.Nat.{_≤_, min};
+ghost use Prim.Native.Nat.{ℕ, _≤_, min};
 ghost use mathlib.Core.Bool.{true};
-ghost use lib.Ieee.{binary64, nan, sub, neg, lt};
+ghost use lib.Ieee.{nan, neg, lt};
 ghost use lib.ListN.{length, getD};
 ghost use Rattle.buffers.specs.Lent.{filled};
-ghost use Rattle.float.specs.Arithmetic.{fullTurn, toDegrees};
+ghost use Rattle.float.specs.Arithmetic.{_⊖_, fullTurn, toDegrees};
 ghost use Rattle.solar_roll.specs.Vectors.{dot3};
-ghost use Rattle.solar_roll.specs.Roll.{sunUnit, sunAlongBoresight, panelIsFree, panelAngle, panelOf, rollIsUnconstrained, perpendicular, poleFallback, north, bodyAxes, rollDegIn, solarOptimalRollDeg, arc, circularDiffDeg};
+ghost use Rattle.solar_roll.specs.Roll.{sunUnit, sunAlongBoresight, panelIsFree, panelOf, rollIsUnconstrained, perpendicular, poleFallback, north, bodyAxes, rollDegIn, solarOptimalRollDeg, arc, circularDiffDeg};
 
 // The unit vector from the observer to the Sun.
 pub fn sun_unit(sun: [f64; 3], observer: [f64; 3]) -> [f64; 3]
@@ -49,7 +49,7 @@ pub fn sun_along_boresight(target: [f64; 3], sun_unit: [f64; 3]) -> bool
 }
 
 // What all cells share of a panel: whether its normal has no part in the body's y-z plane, so that
-// no roll changes its light, and else the normal's angle there.
+// no roll changes its light; and the normal's angle there, which is worked out in either case.
 pub struct Panel {
     pub free: bool,
     pub angle: f64,
@@ -122,7 +122,7 @@ pub fn body_axes(target: [f64; 3]) -> [[f64; 3]; 3]
 }
 
 // The optimal roll of a cell, from what its row and its panel share.
-pub fn roll_deg_in(axes: [[f64; 3]; 3], sun_unit: [f64; 3], panel_angle: f64) -> f64
+pub(crate) fn roll_deg_in(axes: [[f64; 3]; 3], sun_unit: [f64; 3], panel_angle: f64) -> f64
     ensures { λ r. ⌜ r ≡ rollDegIn axes «sun_unit» «panel_angle» ⌝ }
 {
     let y_axis = axes[1];
@@ -148,7 +148,7 @@ fn parts_along(units: &[[f64; 3]], axis: [f64; 3], count: usize, parts: &mut [f6
 // Makes of each of the Sun's angles the roll.
 fn to_rolls(panel_angle: f64, count: usize, rolls: &mut [f64])
     requires { ⌜ count ≤ length (now rolls) ⌝ }
-    ensures { λ _. ⌜ now (rolls .exit) ≡ filled count (λ k. toDegrees (sub binary64 (getD (now (rolls .entry)) k nan) «panel_angle»)) (now (rolls .entry)) ⌝ }
+    ensures { λ _. ⌜ now (rolls .exit) ≡ filled count (λ k. toDegrees (getD (now (rolls .entry)) k nan ⊖ «panel_angle»)) (now (rolls .entry)) ⌝ }
 {
     let mut k = 0;
     while k < count {
@@ -161,7 +161,8 @@ fn to_rolls(panel_angle: f64, count: usize, rolls: &mut [f64])
 // The optimal rolls of cells of one row, side by side, a cell for each of the Sun's units: as many as the shorter list
 // has, and at most 64.
 pub fn rolls_deg_in(axes: [[f64; 3]; 3], units: &[[f64; 3]], panel_angle: f64, rolls: &mut [f64])
-    ensures { λ _. ⌜ now (rolls .exit) ≡ filled (min 64 (min (length (now (rolls .entry))) (length (now (units .entry))))) (λ k. rollDegIn axes (getD (now (units .entry)) k []) «panel_angle») (now (rolls .entry)) ⌝ }
+    ensures { λ _. let count : ℕ = min 64 (min (length (now (rolls .entry))) (length (now (units .entry)))) in
+        ⌜ now (rolls .exit) ≡ filled count (λ k. rollDegIn axes (getD (now (units .entry)) k []) «panel_angle») (now (rolls .entry)) ⌝ }
 {
     let count = smaller(64, smaller(rolls.len(), units.len()));
     let y_axis = axes[1];

@@ -1,6 +1,5 @@
 -- How a call's answer goes out to C: one 64-bit number, which C reads as signed. Definitions only. Assumes nothing.
-use mathlib.Core.Path.{_≡_}
-use Prim.Native.Nat.{ℕ, zero, suc, _-_, _%_, _^_}
+use Prim.Native.Nat.{ℕ, _-_, _%_, _^_}
 use lib.Ieee.{Float}
 use Rattle.buffers.specs.Refusal.{Reply, refused, accepted}
 use Rattle.solar_roll.specs.declared.cell.CellRoll.{CellRoll}

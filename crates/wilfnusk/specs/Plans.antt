@@ -14,6 +14,7 @@ use Rattle.solar_roll.specs.declared.plan.SolarRollConfig.{SolarRollConfig}
 unfoldable pub configured : ℕ → Float → ConfiguredRoll
 configured hasRoll roll = cond (eqb hasRoll 0) None (Some roll)
 
+-- a plan's settings: the tolerance, the configured roll and the panel's normal
 unfoldable pub settings : Float → ℕ → Float → Float → Float → Float → SolarRollConfig
 unfolding configured
 settings tolerance hasRoll roll panelX panelY panelZ =

@@ -2,6 +2,7 @@
 use crate::answers::int64;
 use crate::plans::settings;
 ghost use mathlib.Core.Path.{_≡_};
+ghost use Rattle.roll_sweep.specs.Sweep.{Sweep};
 ghost use Rattle.journal.specs.Calls.{beginReply, beginBytes, workReply, workBytes, recoverReply, collectReply, collectMask};
 ghost use Rattle.journal.specs.Range.{rangeReply, rangeBytes, rangeStopped};
 ghost use Rattle.journal.specs.Plan.{lentSweep};
@@ -23,8 +24,10 @@ pub extern "C" fn wilfnusk_begin(
     journal: &mut [u8],
     used: u64,
 ) -> u64
-    ensures { λ r. ⌜ r ≡ int64 (beginReply (lentSweep (now (targets .entry)) (now (suns .entry)) (now (observers .entry)) (settings «tolerance_deg» «has_roll» «roll_deg» «panel_x» «panel_y» «panel_z») n) (now (journal .entry)) used) ⌝ }
-    ensures { λ r. ⌜ now (journal .exit) ≡ beginBytes (lentSweep (now (targets .entry)) (now (suns .entry)) (now (observers .entry)) (settings «tolerance_deg» «has_roll» «roll_deg» «panel_x» «panel_y» «panel_z») n) (now (journal .entry)) used ⌝ }
+    ensures { λ r. let s : Sweep = lentSweep (now (targets .entry)) (now (suns .entry)) (now (observers .entry))
+        (settings «tolerance_deg» «has_roll» «roll_deg» «panel_x» «panel_y» «panel_z») n in
+        ⌜ (r ≡ int64 (beginReply s (now (journal .entry)) used))
+        × (now (journal .exit) ≡ beginBytes s (now (journal .entry)) used) ⌝ }
 {
     let config = settings(tolerance_deg, has_roll, roll_deg, panel_x, panel_y, panel_z);
     int64(journal::begin(targets, suns, observers, config, n, journal, used))
@@ -46,8 +49,10 @@ pub extern "C" fn wilfnusk_work(
     journal: &mut [u8],
     used: u64,
 ) -> u64
-    ensures { λ r. ⌜ r ≡ int64 (workReply (lentSweep (now (targets .entry)) (now (suns .entry)) (now (observers .entry)) (settings «tolerance_deg» «has_roll» «roll_deg» «panel_x» «panel_y» «panel_z») n) chunk (now (journal .entry)) used) ⌝ }
-    ensures { λ r. ⌜ now (journal .exit) ≡ workBytes (lentSweep (now (targets .entry)) (now (suns .entry)) (now (observers .entry)) (settings «tolerance_deg» «has_roll» «roll_deg» «panel_x» «panel_y» «panel_z») n) chunk (now (journal .entry)) used ⌝ }
+    ensures { λ r. let s : Sweep = lentSweep (now (targets .entry)) (now (suns .entry)) (now (observers .entry))
+        (settings «tolerance_deg» «has_roll» «roll_deg» «panel_x» «panel_y» «panel_z») n in
+        ⌜ (r ≡ int64 (workReply s chunk (now (journal .entry)) used))
+        × (now (journal .exit) ≡ workBytes s chunk (now (journal .entry)) used) ⌝ }
 {
     let config = settings(tolerance_deg, has_roll, roll_deg, panel_x, panel_y, panel_z);
     int64(journal::work(targets, suns, observers, config, n, chunk, journal, used))
@@ -71,9 +76,11 @@ pub extern "C" fn wilfnusk_work_range(
     used: u64,
     stopped: &mut u64,
 ) -> u64
-    ensures { λ r. ⌜ r ≡ int64 (rangeReply (lentSweep (now (targets .entry)) (now (suns .entry)) (now (observers .entry)) (settings «tolerance_deg» «has_roll» «roll_deg» «panel_x» «panel_y» «panel_z») n) from to (now (journal .entry)) used) ⌝ }
-    ensures { λ r. ⌜ now (journal .exit) ≡ rangeBytes (lentSweep (now (targets .entry)) (now (suns .entry)) (now (observers .entry)) (settings «tolerance_deg» «has_roll» «roll_deg» «panel_x» «panel_y» «panel_z») n) from to (now (journal .entry)) used ⌝ }
-    ensures { λ r. ⌜ now (stopped .exit) ≡ rangeStopped (lentSweep (now (targets .entry)) (now (suns .entry)) (now (observers .entry)) (settings «tolerance_deg» «has_roll» «roll_deg» «panel_x» «panel_y» «panel_z») n) from to (now (journal .entry)) used (now (stopped .entry)) ⌝ }
+    ensures { λ r. let s : Sweep = lentSweep (now (targets .entry)) (now (suns .entry)) (now (observers .entry))
+        (settings «tolerance_deg» «has_roll» «roll_deg» «panel_x» «panel_y» «panel_z») n in
+        ⌜ (r ≡ int64 (rangeReply s from to (now (journal .entry)) used))
+        × (now (journal .exit) ≡ rangeBytes s from to (now (journal .entry)) used)
+        × (now (stopped .exit) ≡ rangeStopped s from to (now (journal .entry)) used (now (stopped .entry))) ⌝ }
 {
     let config = settings(tolerance_deg, has_roll, roll_deg, panel_x, panel_y, panel_z);
     int64(journal::work_range(
@@ -105,7 +112,9 @@ pub extern "C" fn wilfnusk_recover(
     journal: &[u8],
     used: u64,
 ) -> u64
-    ensures { λ r. ⌜ r ≡ int64 (recoverReply (lentSweep (now (targets .entry)) (now (suns .entry)) (now (observers .entry)) (settings «tolerance_deg» «has_roll» «roll_deg» «panel_x» «panel_y» «panel_z») n) (now (journal .entry)) used) ⌝ }
+    ensures { λ r. let s : Sweep = lentSweep (now (targets .entry)) (now (suns .entry)) (now (observers .entry))
+        (settings «tolerance_deg» «has_roll» «roll_deg» «panel_x» «panel_y» «panel_z») n in
+        ⌜ r ≡ int64 (recoverReply s (now (journal .entry)) used) ⌝ }
 {
     let config = settings(tolerance_deg, has_roll, roll_deg, panel_x, panel_y, panel_z);
     int64(journal::recover(targets, suns, observers, config, n, journal, used))
@@ -127,8 +136,10 @@ pub extern "C" fn wilfnusk_collect(
     used: u64,
     mask: &mut [u8],
 ) -> u64
-    ensures { λ r. ⌜ r ≡ int64 (collectReply (lentSweep (now (targets .entry)) (now (suns .entry)) (now (observers .entry)) (settings «tolerance_deg» «has_roll» «roll_deg» «panel_x» «panel_y» «panel_z») n) (now (journal .entry)) used (now (mask .entry))) ⌝ }
-    ensures { λ r. ⌜ now (mask .exit) ≡ collectMask (lentSweep (now (targets .entry)) (now (suns .entry)) (now (observers .entry)) (settings «tolerance_deg» «has_roll» «roll_deg» «panel_x» «panel_y» «panel_z») n) (now (journal .entry)) used (now (mask .entry)) ⌝ }
+    ensures { λ r. let s : Sweep = lentSweep (now (targets .entry)) (now (suns .entry)) (now (observers .entry))
+        (settings «tolerance_deg» «has_roll» «roll_deg» «panel_x» «panel_y» «panel_z») n in
+        ⌜ (r ≡ int64 (collectReply s (now (journal .entry)) used (now (mask .entry))))
+        × (now (mask .exit) ≡ collectMask s (now (journal .entry)) used (now (mask .entry))) ⌝ }
 {
     let config = settings(tolerance_deg, has_roll, roll_deg, panel_x, panel_y, panel_z);
     int64(journal::collect(targets, suns, observers, config, n, journal, used, mask))

@@ -4,8 +4,10 @@ use crate::answers::minus;
 use windows::Duration;
 use windows::total_violation_duration;
 ghost use mathlib.Core.Path.{_≡_};
+ghost use lib.Ieee.{Float};
+ghost use Rattle.buffers.specs.Refusal.{Reply};
 ghost use Rattle.windows.specs.Calls.{violationReply, violationColumns, visibilityReply, visibilityColumns, expandReply, expandMask, durationReply};
-ghost use Rattle.windows.specs.Windows.{columns};
+ghost use Rattle.windows.specs.Windows.{Columns, columns};
 ghost use Rattle.wilfnusk.specs.Answers.{int64, numberAnswer, numberWritten};
 
 #[no_mangle]
@@ -20,11 +22,11 @@ pub extern "C" fn wilfnusk_violation_windows(
     severity: &mut [f64],
     is_last: &mut [u8],
 ) -> u64
-    ensures { λ r. ⌜ r ≡ int64 (violationReply (now (mask .entry)) (now (times .entry)) (now (severities .entry))
-        (columns (now (first .entry)) (now (last .entry)) (now («first_time» .entry)) (now («last_time» .entry)) (now (severity .entry)) (now («is_last» .entry)))) ⌝ }
-    ensures { λ _. ⌜ columns (now (first .exit)) (now (last .exit)) (now («first_time» .exit)) (now («last_time» .exit)) (now (severity .exit)) (now («is_last» .exit))
-        ≡ violationColumns (now (mask .entry)) (now (times .entry)) (now (severities .entry))
-        (columns (now (first .entry)) (now (last .entry)) (now («first_time» .entry)) (now («last_time» .entry)) (now (severity .entry)) (now («is_last» .entry))) ⌝ }
+    ensures { λ r. let lent : Columns = columns (now (first .entry)) (now (last .entry)) (now («first_time» .entry)) (now («last_time» .entry))
+        (now (severity .entry)) (now («is_last» .entry)) in
+        ⌜ (r ≡ int64 (violationReply (now (mask .entry)) (now (times .entry)) (now (severities .entry)) lent))
+        × (columns (now (first .exit)) (now (last .exit)) (now («first_time» .exit)) (now («last_time» .exit)) (now (severity .exit)) (now («is_last» .exit))
+        ≡ violationColumns (now (mask .entry)) (now (times .entry)) (now (severities .entry)) lent) ⌝ }
 {
     int64(windows::violation_windows(
         mask,
@@ -50,11 +52,11 @@ pub extern "C" fn wilfnusk_visibility_windows(
     severity: &mut [f64],
     is_last: &mut [u8],
 ) -> u64
-    ensures { λ r. ⌜ r ≡ int64 (visibilityReply (now (mask .entry)) (now (times .entry))
-        (columns (now (first .entry)) (now (last .entry)) (now («first_time» .entry)) (now («last_time» .entry)) (now (severity .entry)) (now («is_last» .entry)))) ⌝ }
-    ensures { λ _. ⌜ columns (now (first .exit)) (now (last .exit)) (now («first_time» .exit)) (now («last_time» .exit)) (now (severity .exit)) (now («is_last» .exit))
-        ≡ visibilityColumns (now (mask .entry)) (now (times .entry))
-        (columns (now (first .entry)) (now (last .entry)) (now («first_time» .entry)) (now («last_time» .entry)) (now (severity .entry)) (now («is_last» .entry))) ⌝ }
+    ensures { λ r. let lent : Columns = columns (now (first .entry)) (now (last .entry)) (now («first_time» .entry)) (now («last_time» .entry))
+        (now (severity .entry)) (now («is_last» .entry)) in
+        ⌜ (r ≡ int64 (visibilityReply (now (mask .entry)) (now (times .entry)) lent))
+        × (columns (now (first .exit)) (now (last .exit)) (now («first_time» .exit)) (now («last_time» .exit)) (now (severity .exit)) (now («is_last» .exit))
+        ≡ visibilityColumns (now (mask .entry)) (now (times .entry)) lent) ⌝ }
 {
     int64(windows::visibility_windows(
         mask,
@@ -87,8 +89,8 @@ pub extern "C" fn wilfnusk_total_violation_duration(
     last_time: &[i64],
     seconds: &mut f64,
 ) -> u64
-    ensures { λ r. ⌜ r ≡ int64 (numberAnswer (durationReply (now («first_time» .entry)) (now («last_time» .entry)))) ⌝ }
-    ensures { λ _. ⌜ now (seconds .exit) ≡ numberWritten (durationReply (now («first_time» .entry)) (now («last_time» .entry))) (now (seconds .entry)) ⌝ }
+    ensures { λ r. let total : Reply Float = durationReply (now («first_time» .entry)) (now («last_time» .entry)) in
+        ⌜ (r ≡ int64 (numberAnswer total)) × (now (seconds .exit) ≡ numberWritten total (now (seconds .entry))) ⌝ }
 {
     match total_violation_duration(first_time, last_time) {
         Duration::Seconds(total) => {

@@ -4,7 +4,7 @@ use crate::plans::asked;
 use crate::plans::settings;
 ghost use mathlib.Core.Path.{_≡_};
 ghost use lib.ListN.{length};
-ghost use Rattle.solar_roll.specs.Plan.{planOf, samplingOrNone};
+ghost use Rattle.solar_roll.specs.Plan.{Plan, planOf, samplesOrNoneRefusal};
 ghost use Rattle.solar_masks.specs.Mask.{atRoll, atConfigured, atEveryRoll, cellsReply, maskAfter, valuesAfter};
 ghost use Rattle.solar_masks.specs.Row.{rowReply, rowMaskAfter, severitiesAfter};
 ghost use Rattle.solar_masks.specs.Field.{fieldReply, fieldAfter};
@@ -25,8 +25,10 @@ pub extern "C" fn wilfnusk_named_values(
     panel_z: f64,
     out: &mut [f64],
 ) -> u64
-    ensures { λ r. ⌜ r ≡ int64 (cellsReply (planOf (now (targets .entry)) (now (suns .entry)) (now (observers .entry)) (settings «tolerance_deg» «has_roll» «roll_deg» «panel_x» «panel_y» «panel_z»)) 0 (length (now (out .entry)))) ⌝ }
-    ensures { λ r. ⌜ now (out .exit) ≡ valuesAfter (planOf (now (targets .entry)) (now (suns .entry)) (now (observers .entry)) (settings «tolerance_deg» «has_roll» «roll_deg» «panel_x» «panel_y» «panel_z»)) (now (out .entry)) ⌝ }
+    ensures { λ r. let p : Plan = planOf (now (targets .entry)) (now (suns .entry)) (now (observers .entry))
+        (settings «tolerance_deg» «has_roll» «roll_deg» «panel_x» «panel_y» «panel_z») in
+        ⌜ (r ≡ int64 (cellsReply p 0 (length (now (out .entry)))))
+        × (now (out .exit) ≡ valuesAfter p (now (out .entry))) ⌝ }
 {
     let config = settings(tolerance_deg, has_roll, roll_deg, panel_x, panel_y, panel_z);
     int64(solar_masks::named_values(targets, suns, observers, config, out))
@@ -45,8 +47,10 @@ pub extern "C" fn wilfnusk_in_constraint_batch(
     panel_z: f64,
     mask: &mut [u8],
 ) -> u64
-    ensures { λ r. ⌜ r ≡ int64 (cellsReply (planOf (now (targets .entry)) (now (suns .entry)) (now (observers .entry)) (settings «tolerance_deg» «has_roll» «roll_deg» «panel_x» «panel_y» «panel_z»)) 0 (length (now (mask .entry)))) ⌝ }
-    ensures { λ r. ⌜ now (mask .exit) ≡ maskAfter (planOf (now (targets .entry)) (now (suns .entry)) (now (observers .entry)) (settings «tolerance_deg» «has_roll» «roll_deg» «panel_x» «panel_y» «panel_z»)) 0 atConfigured (now (mask .entry)) ⌝ }
+    ensures { λ r. let p : Plan = planOf (now (targets .entry)) (now (suns .entry)) (now (observers .entry))
+        (settings «tolerance_deg» «has_roll» «roll_deg» «panel_x» «panel_y» «panel_z») in
+        ⌜ (r ≡ int64 (cellsReply p 0 (length (now (mask .entry)))))
+        × (now (mask .exit) ≡ maskAfter p 0 atConfigured (now (mask .entry))) ⌝ }
 {
     let config = settings(tolerance_deg, has_roll, roll_deg, panel_x, panel_y, panel_z);
     int64(solar_masks::in_constraint_batch(targets, suns, observers, config, mask))
@@ -67,8 +71,10 @@ pub extern "C" fn wilfnusk_in_constraint_batch_at_roll(
     roll_at_deg: f64,
     mask: &mut [u8],
 ) -> u64
-    ensures { λ r. ⌜ r ≡ int64 (cellsReply (planOf (now (targets .entry)) (now (suns .entry)) (now (observers .entry)) (settings «tolerance_deg» «has_roll» «roll_deg» «panel_x» «panel_y» «panel_z»)) 0 (length (now (mask .entry)))) ⌝ }
-    ensures { λ r. ⌜ now (mask .exit) ≡ maskAfter (planOf (now (targets .entry)) (now (suns .entry)) (now (observers .entry)) (settings «tolerance_deg» «has_roll» «roll_deg» «panel_x» «panel_y» «panel_z»)) 0 (atRoll (asked fixed «roll_at_deg»)) (now (mask .entry)) ⌝ }
+    ensures { λ r. let p : Plan = planOf (now (targets .entry)) (now (suns .entry)) (now (observers .entry))
+        (settings «tolerance_deg» «has_roll» «roll_deg» «panel_x» «panel_y» «panel_z») in
+        ⌜ (r ≡ int64 (cellsReply p 0 (length (now (mask .entry)))))
+        × (now (mask .exit) ≡ maskAfter p 0 (atRoll (asked fixed «roll_at_deg»)) (now (mask .entry))) ⌝ }
 {
     let config = settings(tolerance_deg, has_roll, roll_deg, panel_x, panel_y, panel_z);
     let roll = asked(fixed, roll_at_deg);
@@ -89,8 +95,10 @@ pub extern "C" fn wilfnusk_constrained_at_every_roll(
     n: u64,
     mask: &mut [u8],
 ) -> u64
-    ensures { λ r. ⌜ r ≡ int64 (cellsReply (planOf (now (targets .entry)) (now (suns .entry)) (now (observers .entry)) (settings «tolerance_deg» «has_roll» «roll_deg» «panel_x» «panel_y» «panel_z»)) (samplingOrNone n) (length (now (mask .entry)))) ⌝ }
-    ensures { λ r. ⌜ now (mask .exit) ≡ maskAfter (planOf (now (targets .entry)) (now (suns .entry)) (now (observers .entry)) (settings «tolerance_deg» «has_roll» «roll_deg» «panel_x» «panel_y» «panel_z»)) (samplingOrNone n) (atEveryRoll n) (now (mask .entry)) ⌝ }
+    ensures { λ r. let p : Plan = planOf (now (targets .entry)) (now (suns .entry)) (now (observers .entry))
+        (settings «tolerance_deg» «has_roll» «roll_deg» «panel_x» «panel_y» «panel_z») in
+        ⌜ (r ≡ int64 (cellsReply p (samplesOrNoneRefusal n) (length (now (mask .entry)))))
+        × (now (mask .exit) ≡ maskAfter p (samplesOrNoneRefusal n) (atEveryRoll n) (now (mask .entry))) ⌝ }
 {
     let config = settings(tolerance_deg, has_roll, roll_deg, panel_x, panel_y, panel_z);
     int64(solar_masks::in_constraint_batch_constrained_at_every_roll(
@@ -118,9 +126,11 @@ pub extern "C" fn wilfnusk_evaluate(
     mask: &mut [u8],
     severities: &mut [f64],
 ) -> u64
-    ensures { λ r. ⌜ r ≡ int64 (rowReply (planOf (now (targets .entry)) (now (suns .entry)) (now (observers .entry)) (settings «tolerance_deg» «has_roll» «roll_deg» «panel_x» «panel_y» «panel_z»)) target (length (now (mask .entry))) (length (now (severities .entry)))) ⌝ }
-    ensures { λ r. ⌜ now (mask .exit) ≡ rowMaskAfter (planOf (now (targets .entry)) (now (suns .entry)) (now (observers .entry)) (settings «tolerance_deg» «has_roll» «roll_deg» «panel_x» «panel_y» «panel_z»)) target (now (mask .entry)) (now (severities .entry)) ⌝ }
-    ensures { λ r. ⌜ now (severities .exit) ≡ severitiesAfter (planOf (now (targets .entry)) (now (suns .entry)) (now (observers .entry)) (settings «tolerance_deg» «has_roll» «roll_deg» «panel_x» «panel_y» «panel_z»)) target (now (mask .entry)) (now (severities .entry)) ⌝ }
+    ensures { λ r. let p : Plan = planOf (now (targets .entry)) (now (suns .entry)) (now (observers .entry))
+        (settings «tolerance_deg» «has_roll» «roll_deg» «panel_x» «panel_y» «panel_z») in
+        ⌜ (r ≡ int64 (rowReply p target (length (now (mask .entry))) (length (now (severities .entry)))))
+        × (now (mask .exit) ≡ rowMaskAfter p target (now (mask .entry)) (now (severities .entry)))
+        × (now (severities .exit) ≡ severitiesAfter p target (now (mask .entry)) (now (severities .entry))) ⌝ }
 {
     let config = settings(tolerance_deg, has_roll, roll_deg, panel_x, panel_y, panel_z);
     int64(solar_masks::evaluate(targets, suns, observers, config, target, mask, severities))
@@ -141,8 +151,10 @@ pub extern "C" fn wilfnusk_field_of_regard_violated_batch(
     n: u64,
     mask: &mut [u8],
 ) -> u64
-    ensures { λ r. ⌜ r ≡ int64 (fieldReply (planOf (now (targets .entry)) (now (suns .entry)) (now (observers .entry)) (settings «tolerance_deg» «has_roll» «roll_deg» «panel_x» «panel_y» «panel_z»)) (samplingOrNone n) time (length (now (mask .entry)))) ⌝ }
-    ensures { λ r. ⌜ now (mask .exit) ≡ fieldAfter (planOf (now (targets .entry)) (now (suns .entry)) (now (observers .entry)) (settings «tolerance_deg» «has_roll» «roll_deg» «panel_x» «panel_y» «panel_z»)) (samplingOrNone n) time (atEveryRoll n) (now (mask .entry)) ⌝ }
+    ensures { λ r. let p : Plan = planOf (now (targets .entry)) (now (suns .entry)) (now (observers .entry))
+        (settings «tolerance_deg» «has_roll» «roll_deg» «panel_x» «panel_y» «panel_z») in
+        ⌜ (r ≡ int64 (fieldReply p (samplesOrNoneRefusal n) time (length (now (mask .entry)))))
+        × (now (mask .exit) ≡ fieldAfter p (samplesOrNoneRefusal n) time (atEveryRoll n) (now (mask .entry))) ⌝ }
 {
     let config = settings(tolerance_deg, has_roll, roll_deg, panel_x, panel_y, panel_z);
     int64(solar_masks::field_of_regard_violated_batch(
@@ -171,8 +183,10 @@ pub extern "C" fn wilfnusk_field_of_regard_violated_at_roll(
     roll_at_deg: f64,
     mask: &mut [u8],
 ) -> u64
-    ensures { λ r. ⌜ r ≡ int64 (fieldReply (planOf (now (targets .entry)) (now (suns .entry)) (now (observers .entry)) (settings «tolerance_deg» «has_roll» «roll_deg» «panel_x» «panel_y» «panel_z»)) 0 time (length (now (mask .entry)))) ⌝ }
-    ensures { λ r. ⌜ now (mask .exit) ≡ fieldAfter (planOf (now (targets .entry)) (now (suns .entry)) (now (observers .entry)) (settings «tolerance_deg» «has_roll» «roll_deg» «panel_x» «panel_y» «panel_z»)) 0 time (atRoll (Sweep «roll_at_deg»)) (now (mask .entry)) ⌝ }
+    ensures { λ r. let p : Plan = planOf (now (targets .entry)) (now (suns .entry)) (now (observers .entry))
+        (settings «tolerance_deg» «has_roll» «roll_deg» «panel_x» «panel_y» «panel_z») in
+        ⌜ (r ≡ int64 (fieldReply p 0 time (length (now (mask .entry)))))
+        × (now (mask .exit) ≡ fieldAfter p 0 time (atRoll (Sweep «roll_at_deg»)) (now (mask .entry))) ⌝ }
 {
     let config = settings(tolerance_deg, has_roll, roll_deg, panel_x, panel_y, panel_z);
     int64(solar_masks::field_of_regard_violated_at_roll(

@@ -3,8 +3,8 @@ use crate::answers::minus;
 use solar_roll::CellRoll;
 use solar_roll::cell_roll;
 ghost use mathlib.Core.Path.{_≡_};
-ghost use Rattle.buffers.specs.Refusal.{reply};
-ghost use Rattle.solar_roll.specs.Vectors.{vector};
+ghost use Rattle.buffers.specs.Refusal.{Reply, reply};
+ghost use Rattle.solar_roll.specs.Vectors.{Vector, vector};
 ghost use Rattle.solar_roll.specs.Roll.{sunUnit};
 ghost use Rattle.solar_roll.specs.Cell.{cellRefusal, optimalRoll};
 ghost use Rattle.wilfnusk.specs.Answers.{int64, cellAnswer, cellWritten};
@@ -25,13 +25,12 @@ pub extern "C" fn wilfnusk_cell(
     panel_z: f64,
     roll: &mut f64,
 ) -> u64
-    ensures { λ r. ⌜ (r ≡ int64 (cellAnswer (reply
-        (cellRefusal (vector «target_x» «target_y» «target_z») (vector «sun_x» «sun_y» «sun_z») (vector «observer_x» «observer_y» «observer_z») (vector «panel_x» «panel_y» «panel_z»))
-        (optimalRoll (vector «target_x» «target_y» «target_z») (sunUnit (vector «sun_x» «sun_y» «sun_z») (vector «observer_x» «observer_y» «observer_z»)) (vector «panel_x» «panel_y» «panel_z»)))))
-        × (now (roll .exit) ≡ cellWritten (reply
-        (cellRefusal (vector «target_x» «target_y» «target_z») (vector «sun_x» «sun_y» «sun_z») (vector «observer_x» «observer_y» «observer_z») (vector «panel_x» «panel_y» «panel_z»))
-        (optimalRoll (vector «target_x» «target_y» «target_z») (sunUnit (vector «sun_x» «sun_y» «sun_z») (vector «observer_x» «observer_y» «observer_z»)) (vector «panel_x» «panel_y» «panel_z»)))
-        (now (roll .entry))) ⌝ }
+    ensures { λ r. let target : Vector = vector «target_x» «target_y» «target_z» in
+        let sun : Vector = vector «sun_x» «sun_y» «sun_z» in
+        let observer : Vector = vector «observer_x» «observer_y» «observer_z» in
+        let panel : Vector = vector «panel_x» «panel_y» «panel_z» in
+        let said : Reply CellRoll = reply (cellRefusal target sun observer panel) (optimalRoll target (sunUnit sun observer) panel) in
+        ⌜ (r ≡ int64 (cellAnswer said)) × (now (roll .exit) ≡ cellWritten said (now (roll .entry))) ⌝ }
 {
     let target = [target_x, target_y, target_z];
     let sun = [sun_x, sun_y, sun_z];

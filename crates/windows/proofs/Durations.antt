@@ -1,15 +1,15 @@
 -- Seconds: sizes of whole numbers, a window's seconds as the machine computes them, and their sum, which is exact as f64. Assumes nothing.
-use Prim.Native.Nat.{ℕ, zero, suc, _+_, _-_, _*_, _/_, _^_, _≤_, _<_}
+use Prim.Native.Nat.{ℕ, zero, suc, _+_, _*_, _/_, _^_, _≤_, _<_}
 use native.Mathlib.Omega.{arith}
 use native.Mathlib.Numerals.{add-one}
 use mathlib.Core.Path.{_≡_, refl, sym, _∙_, ap, subst}
-use mathlib.Core.Bool.{Bool, true, false, _||_}
+use mathlib.Core.Bool.{Bool, true, false}
 use mathlib.Core.List.{List, [], _∷_}
 use lib.ListN.{length, getD, drop, drop-of-length-le}
 use lib.Seq.{drop-cons}
 use lib.Dec.{ltb}
 use lib.IntN.{ℤ, pos, negsuc, negℤ, natAbs, _+ℤ_, _-ℤ_, +ℤ-assoc, +ℤ-idl, +ℤ-idr}
-use lib.Signed.{mag, ltZ, quotZ}
+use lib.Signed.{mag, quotZ}
 use lib.Ieee as Ieee
 use lib.Ieee.{Float, binary64, ofInt, add}
 use lib.Ieee.Exact.{HasValue}
@@ -180,14 +180,14 @@ total-size (f ∷ F) [] a b = omega arith
 total-size (f ∷ F) (l ∷ L) a b =
     omega (arith, sum-size (seconds f l) (totalSeconds F L), seconds-size f l (or-left (beyond f) (any beyond F) a) (or-left (beyond l) (any beyond L) b), total-size F L (or-right (beyond f) (any beyond F) a) (or-right (beyond l) (any beyond L) b))
 
-abbrev minus : ℤ → Bool
-minus (pos n) = false
-minus (negsuc n) = true
+abbrev pub negative : ℤ → Bool
+negative (pos n) = false
+negative (negsuc n) = true
 
-whole-float : (z : ℤ) → natAbs z ≤ 2 ^ 53 → HasValue (ofInt binary64 z) (minus z) (natAbs z) 1
+whole-float : (z : ℤ) → natAbs z ≤ 2 ^ 53 → HasValue (ofInt binary64 z) (negative z) (natAbs z) 1
 unfolding ofInt
 whole-float (pos n) h = round-whole binary64 false n h
 whole-float (negsuc n) h = round-whole binary64 true (suc n) h
 
-pub total-exact : (F L : List ℤ) → durationRefusal F L ≡ 0 → HasValue (ofInt binary64 (totalSeconds F L)) (minus (totalSeconds F L)) (natAbs (totalSeconds F L)) 1
+pub total-exact : (F L : List ℤ) → durationRefusal F L ≡ 0 → HasValue (ofInt binary64 (totalSeconds F L)) (negative (totalSeconds F L)) (natAbs (totalSeconds F L)) 1
 total-exact F L e = let k = duration-accepted F L e in whole-float (totalSeconds F L) (omega (arith, total-size F L (k .first) (k .last), k .few))

@@ -4,19 +4,19 @@ use Prim.Native.Nat.{ℕ, zero, suc, _+_, _-_, _≤_, _<_}
 use native.Mathlib.Nat.{eq-or-lt-of-le, add-zero}
 use native.Mathlib.Omega.{arith}
 use mathlib.Core.Path.{_≡_, refl, sym, _∙_, ap, subst}
-use mathlib.Core.Logic.{_⊎_, inl, inr, ⊎-elim}
+use mathlib.Core.Logic.{_⊎_, ⊎-elim}
 use mathlib.Core.Bool.{Bool, true, false, not, cond, _&&_, _||_, true≢false}
-use mathlib.Core.List.{List, [], _∷_, map, List·Memᴰ, List·Memᴰ·head, List·Memᴰ·tail, List·Memᴰ·not-nil, List·Memᴰ·cases-cons, List·Memᴰ·eq-of-singleton}
+use mathlib.Core.List.{List, [], _∷_, map, List·Memᴰ, List·Memᴰ·head, List·Memᴰ·not-nil, List·Memᴰ·cases-cons, List·Memᴰ·eq-of-singleton}
 use lib.ListN.{length, getD}
 use lib.Dec.{ltb, eqb}
 use lib.IntN.{ℤ, pos, negsuc}
 use lib.Signed.{ltZ}
-use borrow.Author.Tests.{lt-ltb, le-ltb, ltb-true, ltb-false}
+use borrow.Author.Tests.{le-ltb, ltb-true, ltb-false}
 use Rattle.buffers.specs.Ranges.{flag, any}
-use Rattle.windows.specs.Runs.{Run, Open, shut, since, runsFrom, run, are, violationRuns}
+use Rattle.windows.specs.Runs.{Run, Open, shut, since, runsFrom, run, samplesAre, violationRuns}
 use Rattle.windows.specs.Refusal.{badMark}
 use Rattle.windows.specs.Expand.{Span, span, spans, Increasing, inOrder, skip, inFirst, expandedInOrder, expandedReordered, expanded}
-use Rattle.windows.proofs.MaximalRuns.{From, Past, later, length-are}
+use Rattle.windows.proofs.MaximalRuns.{Past, later, length-samples}
 
 -- ---- the order of times
 asym : (a b : ℤ) → ltZ a b ≡ true → ltZ b a ≡ false
@@ -152,12 +152,12 @@ ordered (t ∷ u ∷ ts) h =
     ap (λ (x : Bool). not x && inOrder (u ∷ ts)) (h 0 (omega arith))
     ∙ ordered (u ∷ ts) (λ k q. let e : suc (k + 1) ≡ suc k + 1 = omega arith in ap (λ (j : ℕ). ltZ (getD (t ∷ u ∷ ts) j (pos 0)) (getD (u ∷ ts) k (pos 0))) e ∙ h (suc k) (omega arith))
 
-marks-back : (m : List ℕ) → any badMark m ≡ false → map flag (are 1 m) ≡ m
-unfolding any badMark are
+marks-back : (m : List ℕ) → any badMark m ≡ false → map flag (samplesAre 1 m) ≡ m
+unfolding any badMark samplesAre
 marks-back [] e = refl
 marks-back (b ∷ m) e = go b (ltb 1 b) refl (marks-back m) e
   where
-    go : (b : ℕ) (x : Bool) → ltb 1 b ≡ x → (any badMark m ≡ false → map flag (are 1 m) ≡ m) → (x || any badMark m) ≡ false → flag (eqb b 1) ∷ map flag (are 1 m) ≡ b ∷ m
+    go : (b : ℕ) (x : Bool) → ltb 1 b ≡ x → (any badMark m ≡ false → map flag (samplesAre 1 m) ≡ m) → (x || any badMark m) ≡ false → flag (eqb b 1) ∷ map flag (samplesAre 1 m) ≡ b ∷ m
     go zero false p f e = ap (λ l. 0 ∷ l) (f e)
     go zero true p f e = absurd (true≢false e)
     go (suc zero) false p f e = ap (λ l. 1 ∷ l) (f e)
@@ -171,8 +171,8 @@ unfolding expanded violationRuns
 mask-back m times l e up =
     let T : ℕ → ℤ = λ k. getD times k (pos 0) in
     let ws = spans (map (λ (r : Run). T (r .first)) (violationRuns m)) (map (λ (r : Run). T (r .last)) (violationRuns m)) in
-    let lm : length (are 1 m) ≡ length m = length-are 1 m in
+    let lm : length (samplesAre 1 m) ≡ length m = length-samples 1 m in
     ap (λ (x : Bool). cond x (expandedInOrder times ws) (expandedReordered times ws)) (ordered times (λ k h. asym (T k) (T (k + 1)) (up k (k + 1) (omega arith) h)))
     ∙ ap (expandedInOrder times) (spans-map (λ (r : Run). T (r .first)) (λ (r : Run). T (r .last)) (violationRuns m))
-    ∙ runs-back T (length times) up 0 shut (are 1 m) times tt (omega arith) (omega arith) (λ k h. ap T (let z : k ≡ 0 + k = omega arith in z))
+    ∙ runs-back T (length times) up 0 shut (samplesAre 1 m) times tt (omega arith) (omega arith) (λ k h. ap T (let z : k ≡ 0 + k = omega arith in z))
     ∙ marks-back m e

@@ -7,18 +7,19 @@ use native.Mathlib.Omega.{arith}
 use native.Mathlib.Decide.{decLe}
 use mathlib.Core.Path.{_≡_, refl, sym, _∙_, ap, ap₂, subst}
 use mathlib.Core.Logic.{_⊎_, inl, inr, ⊎-elim}
-use mathlib.Core.Bool.{Bool, true, false, not, _&&_, _||_, cond, true≢false, or-true}
-use mathlib.Core.List.{List, [], _∷_, map, List·Memᴰ, List·Memᴰ·head, List·Memᴰ·tail, List·Memᴰ·not-nil, List·Memᴰ·cases-cons, List·Memᴰ·eq-of-singleton}
-use lib.ListN.{length, getD, length-map, List·getD-eq-default}
+use mathlib.Core.Bool.{Bool, true, false, _||_, cond, true≢false, or-true}
+use mathlib.Core.List.{List, [], _∷_, List·Memᴰ, List·Memᴰ·head, List·Memᴰ·tail, List·Memᴰ·not-nil, List·Memᴰ·cases-cons, List·Memᴰ·eq-of-singleton}
+use lib.ListN.{length, length-map, List·getD-eq-default}
 use lib.Dec.{ltb, eqb}
 use borrow.Author.Tests.{ltb-true, lt-ltb, eq-eqb, eqb-true}
 use Rattle.buffers.specs.Ranges.{flag}
-use Rattle.windows.specs.Runs.{Run, run, Open, shut, since, runsFrom, are, filter, violationRuns, ruleV, visibilityRuns, starts}
-use Rattle.windows.specs.Maximal.{at, is, Maximal, Visible, InOrder, Exactly}
+use Rattle.windows.specs.Runs.{Run, run, Open, shut, since, runsFrom, samplesAre, filter, violationRuns, ruleV, visibilityRuns}
+use Rattle.windows.specs.Steps.{starts}
+use Rattle.windows.specs.Maximal.{trueAt, sampleIs, Maximal, Visible, InOrder, Exactly}
 
 -- `m` are the samples of g from i on
 Tail : (ℕ → Bool) → ℕ → List Bool → Type 0
-Tail g i m = (k : ℕ) → at m k ≡ g (i + k)
+Tail g i m = (k : ℕ) → trueAt m k ≡ g (i + k)
 
 -- what the open run is, before sample i
 abbrev Good : (ℕ → Bool) → ℕ → Open → Type 0
@@ -211,24 +212,24 @@ at-most-half m = omega (arith, as-many-as-starts m, few-starts false m)
 
 -- ---- of a whole row
 
-samples : (m : List Bool) → Tail (at m) 0 m
+samples : (m : List Bool) → Tail (trueAt m) 0 m
 unfolding Tail
-samples m k = let e : k ≡ 0 + k = omega arith in ap (at m) e
+samples m k = let e : k ≡ 0 + k = omega arith in ap (trueAt m) e
 
-none-before : (m : List Bool) → Good (at m) 0 shut
+none-before : (m : List Bool) → Good (trueAt m) 0 shut
 none-before m k h = let z : ⊥ = omega arith in absurd z
 
-pub each-is-maximal : (m : List Bool) (r : Run) → List·Memᴰ r (runsFrom 0 shut m) → Maximal (at m) r
-each-is-maximal m r h = sound (at m) 0 shut m (samples m) (none-before m) r h
+pub each-is-maximal : (m : List Bool) (r : Run) → List·Memᴰ r (runsFrom 0 shut m) → Maximal (trueAt m) r
+each-is-maximal m r h = sound (trueAt m) 0 shut m (samples m) (none-before m) r h
 
-pub each-maximal-is-there : (m : List Bool) (r : Run) → Maximal (at m) r → List·Memᴰ r (runsFrom 0 shut m)
-each-maximal-is-there m r x = complete (at m) 0 shut m (samples m) (none-before m) r x (omega arith)
+pub each-maximal-is-there : (m : List Bool) (r : Run) → Maximal (trueAt m) r → List·Memᴰ r (runsFrom 0 shut m)
+each-maximal-is-there m r x = complete (trueAt m) 0 shut m (samples m) (none-before m) r x (omega arith)
 
 pub in-order : (m : List Bool) → InOrder (runsFrom 0 shut m)
 in-order m = order 0 shut m tt
 
 -- the last sample of a maximal run is one of the row
-pub within : (m : List Bool) (r : Run) → Maximal (at m) r → r .last < length m
+pub within : (m : List Bool) (r : Run) → Maximal (trueAt m) r → r .last < length m
 within m r x = elim (decLe (length m) (r .last)) [ yes h ↦ clash (x .inside (r .last) (x .ordered) (omega arith)) (List·getD-eq-default m false h) | no h ↦ omega arith ]
 
 -- ---- filtered lists
@@ -280,22 +281,22 @@ filter-order p (r ∷ l) o = go (p r) (filter-order p l (o .2))
 pub exactly-one : (P : Run → Type 0) (ps qs : List Run) → Exactly P ps → Exactly P qs → ps ≡ qs
 exactly-one P ps qs p q = unique ps qs (p .order) (q .order) (λ x h. q .each x (p .only x h)) (λ x h. p .each x (q .only x h))
 
-pub length-are : (v : ℕ) (m : List ℕ) → length (are v m) ≡ length m
-unfolding are
-length-are v m = length-map m (λ (b : ℕ). eqb b v)
+pub length-samples : (v : ℕ) (m : List ℕ) → length (samplesAre v m) ≡ length m
+unfolding samplesAre
+length-samples v m = length-map m (λ (b : ℕ). eqb b v)
 
-pub violation-runs : (m : List ℕ) → Exactly (Maximal (is 1 m)) (violationRuns m)
-unfolding violationRuns are
-violation-runs m = record { only = each-is-maximal (are 1 m); each = each-maximal-is-there (are 1 m); order = in-order (are 1 m) }
+pub violation-runs : (m : List ℕ) → Exactly (Maximal (sampleIs 1 m)) (violationRuns m)
+unfolding violationRuns samplesAre
+violation-runs m = record { only = each-is-maximal (samplesAre 1 m); each = each-maximal-is-there (samplesAre 1 m); order = in-order (samplesAre 1 m) }
 
 -- how many: the marked samples with no marked one directly before them
-pub violation-count : (m : List ℕ) → length (violationRuns m) ≡ starts false (are 1 m)
+pub violation-count : (m : List ℕ) → length (violationRuns m) ≡ starts false (samplesAre 1 m)
 unfolding violationRuns
-violation-count m = as-many-as-starts (are 1 m)
+violation-count m = as-many-as-starts (samplesAre 1 m)
 
 pub violation-bound : (m : List ℕ) → length (violationRuns m) ≤ (length m + 1) / 2
 unfolding violationRuns
-violation-bound m = omega (arith, at-most-half (are 1 m), length-are 1 m)
+violation-bound m = omega (arith, at-most-half (samplesAre 1 m), length-samples 1 m)
 
 kept-yes : (n : ℕ) (r : Run) → ruleV n r ≡ true → (r .first < r .last) ⊎ (r .last + 1 ≡ n)
 unfolding ruleV
@@ -312,13 +313,13 @@ yes-kept n r (inl h) = rw (lt-ltb (r .first) (r .last) h)
 yes-kept n r (inr h) = rw (eq-eqb _ _ h) (or-true (ltb (r .first) (r .last)))
 
 pub visibility-runs : (m : List ℕ) → Exactly (Visible m) (visibilityRuns m)
-unfolding visibilityRuns are
+unfolding visibilityRuns samplesAre
 visibility-runs m = record {
-  only = λ r h. let q = in-filter (ruleV (length m)) r (runsFrom 0 shut (are 0 m)) h in record { clear = each-is-maximal (are 0 m) r (q .0); long = kept-yes (length m) r (q .1) };
-  each = λ r x. to-filter (ruleV (length m)) r (runsFrom 0 shut (are 0 m)) (each-maximal-is-there (are 0 m) r (x .clear)) (yes-kept (length m) r (x .long));
-  order = filter-order (ruleV (length m)) (runsFrom 0 shut (are 0 m)) (in-order (are 0 m));
+  only = λ r h. let q = in-filter (ruleV (length m)) r (runsFrom 0 shut (samplesAre 0 m)) h in record { clear = each-is-maximal (samplesAre 0 m) r (q .0); long = kept-yes (length m) r (q .1) };
+  each = λ r x. to-filter (ruleV (length m)) r (runsFrom 0 shut (samplesAre 0 m)) (each-maximal-is-there (samplesAre 0 m) r (x .clear)) (yes-kept (length m) r (x .long));
+  order = filter-order (ruleV (length m)) (runsFrom 0 shut (samplesAre 0 m)) (in-order (samplesAre 0 m));
 }
 
 pub visibility-bound : (m : List ℕ) → length (visibilityRuns m) ≤ (length m + 1) / 2
 unfolding visibilityRuns
-visibility-bound m = omega (arith, filter-length (ruleV (length m)) (runsFrom 0 shut (are 0 m)), at-most-half (are 0 m), length-are 0 m)
+visibility-bound m = omega (arith, filter-length (ruleV (length m)) (runsFrom 0 shut (samplesAre 0 m)), at-most-half (samplesAre 0 m), length-samples 0 m)

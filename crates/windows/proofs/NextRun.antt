@@ -1,19 +1,19 @@
 -- The runs of a mask, one after the other: what the loops over a mask ask. In order: how many elements lead a list; a clear sample is passed, and a
 -- run ends; what is left of a listing's runs after each; how many runs start from a sample on. Assumes nothing.
 use Prim.Native.Nat.{ℕ, zero, suc, _+_, _-_, _≤_, _<_}
-use native.Mathlib.Nat.{add-zero, add-suc, suc-add}
+use native.Mathlib.Nat.{add-zero}
 use native.Mathlib.Numerals.{add-one}
 use native.Mathlib.Omega.{arith}
 use mathlib.Core.Path.{_≡_, refl, sym, _∙_, ap, subst}
-use mathlib.Core.Bool.{Bool, true, false, not, _&&_, _||_, cond, or-true, true≢false}
+use mathlib.Core.Bool.{Bool, true, false, not, _&&_, cond}
 use mathlib.Core.List.{List, [], _∷_, map}
 use lib.ListN.{length, getD, drop, length-drop, drop-of-length-le}
-use lib.Seq.{drop-cons, drop-drop, getD-drop}
-use lib.Dec.{ltb, eqb}
-use borrow.Author.Tests.{lt-ltb, le-ltb, eq-eqb, ne-eqb, eqb-true}
+use lib.Seq.{drop-cons, drop-drop}
+use lib.Dec.{eqb}
+use borrow.Author.Tests.{eq-eqb}
 use Rattle.buffers.specs.Ranges.{flag}
-use Rattle.windows.specs.Runs.{Run, run, Open, shut, since, runsFrom, are, filter, violationRuns, visibilityRuns, starts}
-use Rattle.windows.specs.Steps.{leading, byteOf, keeps, runsLeft, Next}
+use Rattle.windows.specs.Runs.{Run, run, shut, since, runsFrom, samplesAre, filter, violationRuns, visibilityRuns}
+use Rattle.windows.specs.Steps.{leading, starts, byteOf, keeps, runsLeft, IsNextRun}
 use Rattle.windows.specs.declared.Listing.{Listing}
 use Rattle.windows.specs.declared.Listing.the-variants.{Violations, Visibility}
 
@@ -86,10 +86,10 @@ module _ (v : ℕ) (mask : List ℕ) where
 
   -- the maximal runs from sample i on, where none is open
   abbrev rest : ℕ → List Run
-  rest i = runsFrom i shut (are v (drop i mask))
+  rest i = runsFrom i shut (samplesAre v (drop i mask))
 
-  beyond-leading : (p : Bool → Bool) (i : ℕ) → drop (leading p (are v (drop i mask))) (are v (drop i mask)) ≡ are v (drop (i + leading (λ b. p (eqb b v)) (drop i mask)) mask)
-  unfolding are
+  beyond-leading : (p : Bool → Bool) (i : ℕ) → drop (leading p (samplesAre v (drop i mask))) (samplesAre v (drop i mask)) ≡ samplesAre v (drop (i + leading (λ b. p (eqb b v)) (drop i mask)) mask)
+  unfolding samplesAre
   beyond-leading p i =
       ap (λ (k : ℕ). drop k (map marked (drop i mask))) (leading-map marked p (drop i mask))
       ∙ drop-map marked (leading (λ b. p (eqb b v)) (drop i mask)) (drop i mask)
@@ -97,10 +97,10 @@ module _ (v : ℕ) (mask : List ℕ) where
 
   -- a clear sample is passed
   pub passed : (i : ℕ) → i < length mask → eqb (getD mask i 0) v ≡ false → rest i ≡ rest (i + 1)
-  unfolding runsFrom are
+  unfolding runsFrom samplesAre
   passed i h e =
-      ap (λ (m : List ℕ). runsFrom i shut (are v m)) (drop-cons mask i 0 h)
-      ∙ ap (λ (b : Bool). runsFrom i shut (b ∷ are v (drop (suc i) mask))) e
+      ap (λ (m : List ℕ). runsFrom i shut (samplesAre v m)) (drop-cons mask i 0 h)
+      ∙ ap (λ (b : Bool). runsFrom i shut (b ∷ samplesAre v (drop (suc i) mask))) e
       ∙ ap rest (sym (add-one i))
 
   -- what the search for a run's end says
@@ -110,21 +110,21 @@ module _ (v : ℕ) (mask : List ℕ) where
     pub left : rest i ≡ run i (j - 1) ∷ rest j
 
   pub stopped : (i j : ℕ) → i < length mask → getD mask i 0 ≡ v → j ≡ i + 1 + leading marked (drop (i + 1) mask) → Stopped i j
-  unfolding are
+  unfolding samplesAre
   stopped i j h g p =
       let n = leading marked (drop i mask) in
       let b : n ≤ length mask - i = subst (λ (k : ℕ). n ≤ k) (length-drop i mask) (leading-length marked (drop i mask)) in
       let q : n ≡ suc (leading marked (drop (i + 1) mask)) = here marked mask 0 i h ∙ ap (λ (t : Bool). cond t (suc (leading marked (drop (i + 1) mask))) 0) (eq-eqb (getD mask i 0) v g) in
       let e : j ≡ i + n = omega arith in
       let some : 0 < n = omega arith in
-      let same : leading itself (are v (drop i mask)) ≡ n = leading-map marked itself (drop i mask) in
+      let same : leading itself (samplesAre v (drop i mask)) ≡ n = leading-map marked itself (drop i mask) in
       record {
         later = omega arith;
         in-row = omega arith;
         left =
-            open-run i (are v (drop i mask)) (rw same some)
-            ∙ close-run i i (are v (drop i mask))
-            ∙ ap (λ (k : ℕ). run i (i + k - 1) ∷ runsFrom (i + k) shut (drop (leading itself (are v (drop i mask))) (are v (drop i mask)))) same
+            open-run i (samplesAre v (drop i mask)) (rw same some)
+            ∙ close-run i i (samplesAre v (drop i mask))
+            ∙ ap (λ (k : ℕ). run i (i + k - 1) ∷ runsFrom (i + k) shut (drop (leading itself (samplesAre v (drop i mask))) (samplesAre v (drop i mask)))) same
             ∙ ap (λ (m : List Bool). run i (i + n - 1) ∷ runsFrom (i + n) shut m) (beyond-leading itself i)
             ∙ ap (λ (k : ℕ). run i (k - 1) ∷ rest k) (sym e);
       }
@@ -150,11 +150,11 @@ module _ (l : Listing) (mask : List ℕ) where
   left-passed i j s e = by-test i j false s e
 
   pub left-none : (i : ℕ) → length mask ≤ i → runsLeft l mask i ≡ []
-  unfolding runsLeft filter runsFrom are
-  left-none i h = ap (λ (m : List ℕ). keep (runsFrom i shut (are (byteOf l) m))) (drop-of-length-le mask h)
+  unfolding runsLeft filter runsFrom samplesAre
+  left-none i h = ap (λ (m : List ℕ). keep (runsFrom i shut (samplesAre (byteOf l) m))) (drop-of-length-le mask h)
 
   -- a run that is found, and the end of the row
-  pub next-some : (from i j : ℕ) → from ≤ i → Stopped (byteOf l) mask i j → runsLeft l mask i ≡ runsLeft l mask from → keeps l (length mask) (run i (j - 1)) ≡ true → Next l mask from i j
+  pub next-some : (from i j : ℕ) → from ≤ i → Stopped (byteOf l) mask i j → runsLeft l mask i ≡ runsLeft l mask from → keeps l (length mask) (run i (j - 1)) ≡ true → IsNextRun l mask from i j
   next-some from i j h s w e = record {
     within = s .in-row;
     onward = λ k. omega (arith, s .later);
@@ -162,7 +162,7 @@ module _ (l : Listing) (mask : List ℕ) where
     none = λ k. let z : ⊥ = omega (arith, s .later) in absurd z;
   }
 
-  pub next-none : (from i n : ℕ) → n ≡ length mask → length mask ≤ i → runsLeft l mask i ≡ runsLeft l mask from → Next l mask from n n
+  pub next-none : (from i n : ℕ) → n ≡ length mask → length mask ≤ i → runsLeft l mask i ≡ runsLeft l mask from → IsNextRun l mask from n n
   next-none from i n e h w = record {
     within = omega arith;
     onward = λ k. omega arith;
@@ -179,7 +179,7 @@ filter-all p (x ∷ l) h = ap (λ (b : Bool). cond b (x ∷ filter p l) (filter 
 
 pub violations-left : (mask : List ℕ) → runsLeft Violations mask 0 ≡ violationRuns mask
 unfolding runsLeft violationRuns keeps byteOf
-violations-left mask = filter-all (keeps Violations (length mask)) (runsFrom 0 shut (are 1 mask)) (λ x. refl)
+violations-left mask = filter-all (keeps Violations (length mask)) (runsFrom 0 shut (samplesAre 1 mask)) (λ x. refl)
 
 pub visibility-left : (mask : List ℕ) → runsLeft Visibility mask 0 ≡ visibilityRuns mask
 unfolding runsLeft visibilityRuns keeps byteOf
@@ -189,30 +189,30 @@ visibility-left mask = refl
 
 module _ (mask : List ℕ) where
   -- whether sample k is marked
-  abbrev pub at : ℕ → Bool
-  at k = eqb (getD mask k 0) 1
+  abbrev pub markedAt : ℕ → Bool
+  markedAt k = eqb (getD mask k 0) 1
 
   -- how many runs of marked samples start from sample i on, where i is not the first
   pub startsLeft : ℕ → ℕ
-  startsLeft i = starts (at (i - 1)) (are 1 (drop i mask))
+  startsLeft i = starts (markedAt (i - 1)) (samplesAre 1 (drop i mask))
 
-  here-or-on : (i : ℕ) (b : Bool) → i < length mask → starts b (are 1 (drop i mask)) ≡ flag (at i && not b) + startsLeft (i + 1)
-  unfolding starts are startsLeft
+  here-or-on : (i : ℕ) (b : Bool) → i < length mask → starts b (samplesAre 1 (drop i mask)) ≡ flag (markedAt i && not b) + startsLeft (i + 1)
+  unfolding starts samplesAre startsLeft
   here-or-on i b h =
       let e : i ≡ i + 1 - 1 = omega arith in
-      rw (add-one i, drop-cons mask i 0) (ap (λ (k : ℕ). flag (at i && not b) + starts (at k) (are 1 (drop (suc i) mask))) (e ∙ ap (λ (k : ℕ). k - 1) (add-one i)))
+      rw (add-one i, drop-cons mask i 0) (ap (λ (k : ℕ). flag (markedAt i && not b) + starts (markedAt k) (samplesAre 1 (drop (suc i) mask))) (e ∙ ap (λ (k : ℕ). k - 1) (add-one i)))
 
-  pub starts-none : length mask ≡ 0 → 0 ≡ starts false (are 1 mask)
-  unfolding starts are
-  starts-none h = let n : length mask ≤ 0 = omega arith in sym (ap (λ (l : List ℕ). starts false (are 1 l)) (drop-of-length-le mask n))
+  pub starts-none : length mask ≡ 0 → 0 ≡ starts false (samplesAre 1 mask)
+  unfolding starts samplesAre
+  starts-none h = let n : length mask ≤ 0 = omega arith in sym (ap (λ (l : List ℕ). starts false (samplesAre 1 l)) (drop-of-length-le mask n))
 
-  pub starts-first : 0 < length mask → starts false (are 1 mask) ≡ flag (at 0 && true) + startsLeft 1
+  pub starts-first : 0 < length mask → starts false (samplesAre 1 mask) ≡ flag (markedAt 0 && true) + startsLeft 1
   starts-first h = here-or-on 0 false h
 
-  pub starts-next : (i : ℕ) → i < length mask → startsLeft i ≡ flag (at i && not (at (i - 1))) + startsLeft (i + 1)
+  pub starts-next : (i : ℕ) → i < length mask → startsLeft i ≡ flag (markedAt i && not (markedAt (i - 1))) + startsLeft (i + 1)
   unfolding startsLeft
-  starts-next i h = here-or-on i (at (i - 1)) h
+  starts-next i h = here-or-on i (markedAt (i - 1)) h
 
   pub starts-end : (i : ℕ) → length mask ≤ i → startsLeft i ≡ 0
-  unfolding starts are startsLeft
-  starts-end i h = ap (λ (l : List ℕ). starts (at (i - 1)) (are 1 l)) (drop-of-length-le mask h)
+  unfolding starts samplesAre startsLeft
+  starts-end i h = ap (λ (l : List ℕ). starts (markedAt (i - 1)) (samplesAre 1 l)) (drop-of-length-le mask h)

@@ -1,21 +1,21 @@
 -- Refusals of the window calls: what an accepted call knows, and what follows from an answer for what is written. Assumes nothing.
-use mathlib.Core.Path.{_≡_, refl, sym, _∙_, ap, subst}
+use mathlib.Core.Path.{_≡_, refl, _∙_, ap}
 use mathlib.Core.Logic.{_⊎_, inl, inr}
-use mathlib.Core.Bool.{Bool, true, false, not, _||_, true≢false}
+use mathlib.Core.Bool.{Bool, true, false, not, _||_}
 use mathlib.Core.List.{List, [], _∷_}
 use Prim.Native.Nat.{ℕ, zero, suc, _≤_, _<_}
 use native.Mathlib.Omega.{arith}
 use lib.ListN.{length, getD}
-use lib.Dec.{ltb, eqb}
+use lib.Dec.{eqb}
 use lib.IntN.{ℤ}
 use lib.Ieee.{Float}
 use borrow.Author.Tests.{ltb-false, lt-ltb, le-ltb, eq-eqb, eqb-true, not-false}
 use Rattle.buffers.specs.Ranges.{any}
-use Rattle.buffers.specs.Refusal.{Conditions, first, Reply, refused, accepted, reply}
+use Rattle.buffers.specs.Refusal.{first, Reply, reply}
 use Rattle.buffers.proofs.Tests.{or-left, or-right}
 use Rattle.buffers.proofs.Ranges.{any-getD}
 use Rattle.buffers.proofs.Refusal.{first-clears}
-use Rattle.windows.specs.Refusal.{beyond, badMark, badSeverity, differ, noRoom, windowsConditions, windowsRefusal}
+use Rattle.windows.specs.Refusal.{mostLent, beyond, badMark, badSeverity, differ, windowsConditions, windowsRefusal}
 use Rattle.windows.specs.Expand.{expandConditions, expandRefusal}
 use Rattle.windows.specs.Seconds.{durationConditions, durationRefusal}
 use Rattle.windows.specs.Steps.{countOf}
@@ -28,22 +28,22 @@ same-at n ns i e h = eqb-true (getD ns i 0) n (not-false (eqb (getD ns i 0) n) (
 
 -- ---- what an accepted call knows
 
-pub record Accepted (uneven : Bool) (mask : List ℕ) (times : List ℤ) (severities : List Float) (short : Bool) : Type 0 where
+pub record WindowsAccepted (uneven : Bool) (mask : List ℕ) (times : List ℤ) (severities : List Float) (short : Bool) : Type 0 where
   pub even : uneven ≡ false
-  pub few : length mask ≤ 65_536
+  pub few : length mask ≤ mostLent
   pub timely : any beyond times ≡ false
   pub marks : any badMark mask ≡ false
   pub rated : any badSeverity severities ≡ false
   pub room : short ≡ false
 
 pub windows-accepted : (uneven : Bool) (mask : List ℕ) (times : List ℤ) (severities : List Float) (short : Bool)
-    → windowsRefusal uneven mask times severities short ≡ 0 → Accepted uneven mask times severities short
+    → windowsRefusal uneven mask times severities short ≡ 0 → WindowsAccepted uneven mask times severities short
 unfolding windowsRefusal
 windows-accepted uneven mask times severities short e =
     let c = first-clears (windowsConditions uneven mask times severities short) refl e in
     record {
       even = c .0;
-      few = ltb-false 65_536 (length mask) (c .1 .0);
+      few = ltb-false mostLent (length mask) (c .1 .0);
       timely = c .1 .1 .0;
       marks = or-left (any badMark mask) (any badSeverity severities) (c .1 .1 .1 .0);
       rated = or-right (any badMark mask) (any badSeverity severities) (c .1 .1 .1 .0);
@@ -62,7 +62,7 @@ expand-accepted firsts lasts times places e =
 
 pub record Summable (firsts lasts : List ℤ) : Type 0 where
   pub even : length lasts ≡ length firsts
-  pub few : length firsts ≤ 65_536
+  pub few : length firsts ≤ mostLent
   pub first : any beyond firsts ≡ false
   pub last : any beyond lasts ≡ false
 
@@ -72,7 +72,7 @@ duration-accepted firsts lasts e =
     let c = first-clears (durationConditions firsts lasts) refl e in
     record {
       even = same-at (length firsts) (length lasts ∷ []) 0 (c .0) (omega arith);
-      few = ltb-false 65_536 (length firsts) (c .1 .0);
+      few = ltb-false mostLent (length firsts) (c .1 .0);
       first = or-left (any beyond firsts) (any beyond lasts) (c .1 .1 .0);
       last = or-right (any beyond firsts) (any beyond lasts) (c .1 .1 .0);
     }
@@ -94,31 +94,31 @@ module _ (uneven : Bool) (mask : List ℕ) (times : List ℤ) (severities : List
   unfolding windowsRefusal first
   refuses-1 e = rw e
 
-  pub refuses-2 : uneven ≡ false → 65_536 < length mask → why ≡ 2
+  pub refuses-2 : uneven ≡ false → mostLent < length mask → why ≡ 2
   unfolding windowsRefusal first
-  refuses-2 e h = rw (e, lt-ltb 65_536 (length mask) h)
+  refuses-2 e h = rw (e, lt-ltb mostLent (length mask) h)
 
-  module _ (e : uneven ≡ false) (h : length mask ≤ 65_536) where
+  module _ (e : uneven ≡ false) (h : length mask ≤ mostLent) where
     pub refuses-8 : any beyond times ≡ true → why ≡ 8
     unfolding windowsRefusal first
-    refuses-8 t = rw (e, le-ltb 65_536 (length mask) h, t)
+    refuses-8 t = rw (e, le-ltb mostLent (length mask) h, t)
 
     pub refuses-14 : any beyond times ≡ false → (any badMark mask || any badSeverity severities) ≡ true → why ≡ 14
     unfolding windowsRefusal first
-    refuses-14 t m = rw (e, le-ltb 65_536 (length mask) h, t, m)
+    refuses-14 t m = rw (e, le-ltb mostLent (length mask) h, t, m)
 
     pub refuses-7 : any beyond times ≡ false → (any badMark mask || any badSeverity severities) ≡ false → short ≡ true → why ≡ 7
     unfolding windowsRefusal first
-    refuses-7 t m s = rw (e, le-ltb 65_536 (length mask) h, t, m, s)
+    refuses-7 t m s = rw (e, le-ltb mostLent (length mask) h, t, m, s)
 
     pub accepts : any beyond times ≡ false → (any badMark mask || any badSeverity severities) ≡ false → short ≡ false → why ≡ 0
     unfolding windowsRefusal first
-    accepts t m s = rw (e, le-ltb 65_536 (length mask) h, t, m, s)
+    accepts t m s = rw (e, le-ltb mostLent (length mask) h, t, m, s)
 
 -- ---- *Expand*, accepted
 
-pub expand-accepts : (firsts lasts times : List ℤ) (places : ℕ) → length lasts ≡ length firsts → length firsts ≤ 65_536 → length times ≤ 65_536
+pub expand-accepts : (firsts lasts times : List ℤ) (places : ℕ) → length lasts ≡ length firsts → length firsts ≤ mostLent → length times ≤ mostLent
     → any beyond firsts ≡ false → any beyond lasts ≡ false → any beyond times ≡ false → length times ≤ places → expandRefusal firsts lasts times places ≡ 0
 unfolding expandRefusal first differ any
 expand-accepts firsts lasts times places e n m a b c h =
-    rw (eq-eqb (length lasts) (length firsts) e, le-ltb 65_536 (length firsts) n, le-ltb 65_536 (length times) m, a, b, c, le-ltb places (length times) h)
+    rw (eq-eqb (length lasts) (length firsts) e, le-ltb mostLent (length firsts) n, le-ltb mostLent (length times) m, a, b, c, le-ltb places (length times) h)

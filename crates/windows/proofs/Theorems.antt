@@ -1,35 +1,35 @@
 -- Section 5's theorems, about the definitions that the public contracts cite: what the violation windows and the visibility windows of a row are;
 -- that expanding the violation windows gives the mask back; `ConstraintResult`'s visibility windows; the sum of seconds. Last, what a row's listings
 -- and its expansion say together when they are accepted. Assumes nothing.
-use mathlib.Core.Path.{_≡_, refl, sym, _∙_, ap, subst}
-use mathlib.Core.Bool.{Bool, true, false, _||_}
-use mathlib.Core.List.{List, [], _∷_, _++_, map, map-map, List·Memᴰ, List·Memᴰ·head, List·Memᴰ·tail}
-use Prim.Native.Nat.{ℕ, zero, suc, _+_, _/_, _≤_, _<_}
+use mathlib.Core.Path.{_≡_, refl, sym, _∙_, ap}
+use mathlib.Core.Bool.{Bool, false, _||_}
+use mathlib.Core.List.{List, [], _∷_, map, map-map, List·Memᴰ, List·Memᴰ·head, List·Memᴰ·tail}
+use Prim.Native.Nat.{ℕ, _+_, _/_, _≤_, _<_}
 use native.Mathlib.Omega.{arith}
 use lib.ListN.{length, getD, take, length-map}
 use lib.Seq.{take-at}
-use lib.Dec.{ltb}
-use lib.IntN.{ℤ, pos}
+use lib.IntN.{ℤ, pos, natAbs}
 use lib.Ieee.{Float, nan, binary64, ofInt}
-use borrow.Author.Tests.{lt-ltb, le-ltb, eq-eqb}
+use lib.Ieee.Exact.{HasValue}
 use Rattle.buffers.specs.Ranges.{any}
 use Rattle.buffers.specs.Lent.{over}
 use Rattle.buffers.specs.Refusal.{first}
-use Rattle.buffers.proofs.Tests.{or-left, or-right, or-none}
+use Rattle.buffers.proofs.Tests.{or-left, or-none}
 use Rattle.buffers.proofs.Ranges.{any-getD}
 use Rattle.float.specs.Arithmetic.{zero·0}
-use Rattle.windows.specs.Runs.{Run, run, are, violationRuns, visibilityRuns, starts}
-use Rattle.windows.specs.Maximal.{Maximal, Visible, Exactly, is}
+use Rattle.windows.specs.Runs.{Run, samplesAre, violationRuns, visibilityRuns}
+use Rattle.windows.specs.Maximal.{Maximal, Visible, Exactly, sampleIs}
 use Rattle.windows.specs.Windows.{largest, windowOf, violationWindows, visibilityWindows, Columns, written}
-use Rattle.windows.specs.Refusal.{beyond, badMark, badSeverity, differ, lengths, noRoom, windowsRefusal, violationRefusal, visibilityRefusal}
-use Rattle.windows.specs.Expand.{Span, spans, Increasing, expanded, constraintResultVisibility, expandRefusal}
+use Rattle.windows.specs.Refusal.{mostLent, beyond, badMark, badSeverity, differ, lengths, noRoom, violationRefusal}
+use Rattle.windows.specs.Expand.{spans, Increasing, expanded, constraintResultVisibility, expandRefusal}
 use Rattle.windows.specs.Seconds.{totalSeconds, floatSeconds, durationRefusal}
+use Rattle.windows.specs.Steps.{starts}
 use Rattle.windows.specs.declared.Window.{Window}
-use Rattle.windows.proofs.MaximalRuns.{violation-runs, visibility-runs, violation-count, violation-bound, visibility-bound, within, length-are}
+use Rattle.windows.proofs.MaximalRuns.{violation-runs, visibility-runs, violation-count, violation-bound, visibility-bound, within, length-samples}
 use Rattle.windows.proofs.Severities.{Largest, severity-is-largest}
 use Rattle.windows.proofs.MaskBack.{mask-back}
-use Rattle.windows.proofs.Refusals.{Accepted, windows-accepted, expand-accepts, same-at}
-use Rattle.windows.proofs.Durations.{float-sum-exact}
+use Rattle.windows.proofs.Refusals.{WindowsAccepted, windows-accepted, expand-accepts, same-at}
+use Rattle.windows.proofs.Durations.{negative, float-sum-exact, total-exact}
 
 -- ---- violation windows
 
@@ -37,13 +37,13 @@ use Rattle.windows.proofs.Durations.{float-sum-exact}
 -- them, so at most (times + 1) / 2; and a run's severity is the largest of its samples', where all severities are accepted.
 pub record ViolationWindows (mask : List ℕ) (times : List ℤ) (severities : List Float) : Type 0 where
   pub windows : violationWindows mask times severities ≡ map (windowOf times (largest severities)) (violationRuns mask)
-  pub runs : Exactly (Maximal (is 1 mask)) (violationRuns mask)
-  pub count : length (violationWindows mask times severities) ≡ starts false (are 1 mask)
+  pub runs : Exactly (Maximal (sampleIs 1 mask)) (violationRuns mask)
+  pub count : length (violationWindows mask times severities) ≡ starts false (samplesAre 1 mask)
   pub bound : length (violationWindows mask times severities) ≤ (length mask + 1) / 2
   pub severity : length severities ≡ length mask → any badSeverity severities ≡ false → (r : Run) → List·Memᴰ r (violationRuns mask) → Largest severities (r .first) (r .last) (largest severities r)
 
 pub violation-windows : (mask : List ℕ) (times : List ℤ) (severities : List Float) → ViolationWindows mask times severities
-unfolding violationWindows are
+unfolding violationWindows samplesAre
 violation-windows mask times severities = record {
   windows = refl;
   runs = violation-runs mask;
@@ -51,7 +51,7 @@ violation-windows mask times severities = record {
   bound = omega (arith, length-map (violationRuns mask) (windowOf times (largest severities)), violation-bound mask);
   severity = λ e g r h.
       let m = violation-runs mask .only r h in
-      severity-is-largest severities r (m .ordered) (λ k a b. any-getD badSeverity severities nan k g (omega (arith, within (are 1 mask) r m, length-are 1 mask)));
+      severity-is-largest severities r (m .ordered) (λ k a b. any-getD badSeverity severities nan k g (omega (arith, within (samplesAre 1 mask) r m, length-samples 1 mask)));
 }
 
 -- ---- visibility windows
@@ -99,16 +99,17 @@ module _ (mask : List ℕ) (times : List ℤ) (severities : List Float) where
   unfolding constraintResultVisibility
   constraint-result l e up = ap visibilityRuns (expand-gives-mask l e up)
 
--- of any windows and times: those of the expanded mask
-pub constraint-result-expanded : (times : List ℤ) (ws : List Span) → constraintResultVisibility times ws ≡ visibilityRuns (expanded times ws)
-unfolding constraintResultVisibility
-constraint-result-expanded times ws = refl
-
 -- ---- seconds
 
--- the seconds of accepted windows, summed as f64 in their order from zero, are the whole-number sum
-pub seconds-exact : (firsts lasts : List ℤ) → durationRefusal firsts lasts ≡ 0 → floatSeconds zero·0 firsts lasts ≡ ofInt binary64 (totalSeconds firsts lasts)
-seconds-exact = float-sum-exact
+-- "summed as f64, exactly": the seconds of the windows, summed as f64 in their order from zero, are their whole-number sum as an f64, and that f64 is
+-- exactly this number
+pub record SecondsExact (firsts lasts : List ℤ) : Type 0 where
+  pub summed : floatSeconds zero·0 firsts lasts ≡ ofInt binary64 (totalSeconds firsts lasts)
+  pub exactly : HasValue (ofInt binary64 (totalSeconds firsts lasts)) (negative (totalSeconds firsts lasts)) (natAbs (totalSeconds firsts lasts)) 1
+
+-- of accepted windows
+pub seconds-exact : (firsts lasts : List ℤ) → durationRefusal firsts lasts ≡ 0 → SecondsExact firsts lasts
+seconds-exact firsts lasts ok = record { summed = float-sum-exact firsts lasts ok; exactly = total-exact firsts lasts ok }
 
 -- ---- a row: both listings and the expansion, accepted
 
@@ -150,7 +151,7 @@ module _ (mask : List ℕ) (times : List ℤ) (severities : List Float) (d : Col
   abbrev ws : List Window
   ws = violationWindows mask times severities
 
-  facts : Accepted (differ (length mask ∷ length times ∷ length severities ∷ []) || differ (lengths d)) mask times severities (noRoom (lengths d) (length (violationRuns mask)))
+  facts : WindowsAccepted (differ (length mask ∷ length times ∷ length severities ∷ []) || differ (lengths d)) mask times severities (noRoom (lengths d) (length (violationRuns mask)))
   unfolding violationRefusal
   facts = windows-accepted _ mask times severities _ ok
 
@@ -158,8 +159,8 @@ module _ (mask : List ℕ) (times : List ℤ) (severities : List Float) (d : Col
   timed = same-at (length mask) (length times ∷ length severities ∷ []) 0 (or-left (differ (length mask ∷ length times ∷ length severities ∷ [])) (differ (lengths d)) (facts .even)) (omega arith)
 
   in-row : (r : Run) → List·Memᴰ r (violationRuns mask) → (r .first ≤ r .last) × (r .last < length times)
-  unfolding are
-  in-row r h = let m = violation-runs mask .only r h in (m .ordered, omega (arith, within (are 1 mask) r m, length-are 1 mask, timed))
+  unfolding samplesAre
+  in-row r h = let m = violation-runs mask .only r h in (m .ordered, omega (arith, within (samplesAre 1 mask) r m, length-samples 1 mask, timed))
 
   pub row-expand-accepted : (places : ℕ) → length times ≤ places
       → expandRefusal (take (length ws) (written ws d .firstTime)) (take (length ws) (written ws d .lastTime)) times places ≡ 0
@@ -170,7 +171,7 @@ module _ (mask : List ℕ) (times : List ℤ) (severities : List Float) (d : Col
       (any-map beyond (λ (r : Run). getD times (r .first) (pos 0)) (violationRuns mask) (λ r h. let b = in-row r h in any-getD beyond times (pos 0) (r .first) (facts .timely) (omega arith)))
       (any-map beyond (λ (r : Run). getD times (r .last) (pos 0)) (violationRuns mask) (λ r h. any-getD beyond times (pos 0) (r .last) (facts .timely) (in-row r h .1))))
     where
-      accept : (rs : List Run) → length rs ≤ 65_536 → any beyond (map (λ (r : Run). getD times (r .first) (pos 0)) rs) ≡ false → any beyond (map (λ (r : Run). getD times (r .last) (pos 0)) rs) ≡ false
+      accept : (rs : List Run) → length rs ≤ mostLent → any beyond (map (λ (r : Run). getD times (r .first) (pos 0)) rs) ≡ false → any beyond (map (λ (r : Run). getD times (r .last) (pos 0)) rs) ≡ false
           → expandRefusal (map (λ (r : Run). getD times (r .first) (pos 0)) rs) (map (λ (r : Run). getD times (r .last) (pos 0)) rs) times places ≡ 0
       accept rs few a b = expand-accepts (map (λ (r : Run). getD times (r .first) (pos 0)) rs) (map (λ (r : Run). getD times (r .last) (pos 0)) rs) times places
           (length-map rs _ ∙ sym (length-map rs _)) (rw (length-map rs (λ (r : Run). getD times (r .first) (pos 0))) few) (omega (arith, facts .few, timed)) a b (facts .timely) room

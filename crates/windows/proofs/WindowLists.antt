@@ -25,7 +25,7 @@ use Rattle.buffers.proofs.Refusal.{written-none, written-some}
 use Rattle.windows.specs.Runs.{Run, run, violationRuns, visibilityRuns}
 use Rattle.windows.specs.Windows.{windowOf, violationWindows, visibilityWindows, Columns, written}
 use Rattle.windows.specs.Refusal.{differ, lengths, noRoom, windowsRefusal, violationRefusal, visibilityRefusal}
-use Rattle.windows.specs.Steps.{severityOf, runsLeft, windowsLeft, Next, Row, Room, stored, countOf}
+use Rattle.windows.specs.Steps.{severityOf, runsLeft, windowsLeft, IsNextRun, Row, Room, stored, countOf}
 use Rattle.windows.specs.declared.Window.{Window}
 use Rattle.windows.specs.declared.Listing.{Listing}
 use Rattle.windows.specs.declared.Listing.the-variants.{Violations, Visibility}
@@ -36,7 +36,7 @@ use Rattle.windows.proofs.Refusals.{same-at, windows-accepted, counted}
 
 module _ (l : Listing) (mask : List ℕ) (times : List ℤ) (severities : List Float) where
   -- where windows are left, a run is found
-  pub next-found : (from first end : ℕ) → Next l mask from first end → 0 < length (windowsLeft l mask times severities from) → first < end
+  pub next-found : (from first end : ℕ) → IsNextRun l mask from first end → 0 < length (windowsLeft l mask times severities from) → first < end
   unfolding windowsLeft
   next-found from first end n h =
       elim (decLe (suc first) end) [
@@ -54,7 +54,7 @@ module _ (l : Listing) (mask : List ℕ) (times : List ℤ) (severities : List F
     pub flagged : w .«is_last» ≤ 1
     pub onward : w .last + 1 ≡ end
 
-  pub next-is : (from first end : ℕ) (w : Window) → Next l mask from first end → first < end → w ≡ windowOf times (severityOf l severities) (run first (end - 1)) → NextWindow from end w
+  pub next-is : (from first end : ℕ) (w : Window) → IsNextRun l mask from first end → first < end → w ≡ windowOf times (severityOf l severities) (run first (end - 1)) → NextWindow from end w
   unfolding windowsLeft windowOf
   next-is from first end w n h p =
       let W : Run → Window = windowOf times (severityOf l severities) in
@@ -78,23 +78,23 @@ module _ (l : Listing) (mask : List ℕ) (times : List ℤ) (severities : List F
   abbrev left : ℕ → List Window
   left = windowsLeft l mask times severities
 
-  pub record Reached (k from : ℕ) : Type 0 where
+  pub record WindowsPassed (k from : ℕ) : Type 0 where
     pub in-row : from ≤ length mask
     pub left : windowsLeft l mask times severities from ≡ drop k (windowsLeft l mask times severities 0)
 
-  pub reached-none : Reached 0 0
-  reached-none = record { in-row = omega arith; left = refl }
+  pub passed-none : WindowsPassed 0 0
+  passed-none = record { in-row = omega arith; left = refl }
 
-  pub some-left : (k from : ℕ) → Reached k from → k < length (left 0) → 0 < length (left from)
+  pub some-left : (k from : ℕ) → WindowsPassed k from → k < length (left 0) → 0 < length (left from)
   some-left k from r h = rw (r .left, length-drop k (left 0)) (omega arith)
 
-  pub reached-next : (k from : ℕ) (w : Window) → Reached k from → left from ≡ w ∷ left (w .last + 1) → w .last < length mask → Reached (k + 1) (w .last + 1)
-  reached-next k from w r e h = record {
+  pub passed-next : (k from : ℕ) (w : Window) → WindowsPassed k from → left from ≡ w ∷ left (w .last + 1) → w .last < length mask → WindowsPassed (k + 1) (w .last + 1)
+  passed-next k from w r e h = record {
     in-row = omega arith;
     left = sym (ap (λ (j : ℕ). drop j (left 0)) (add-one k) ∙ drop-head k (left 0) w (left (w .last + 1)) (sym (r .left) ∙ e) .0);
   }
 
-  pub taken-next : (k from : ℕ) (w : Window) → Reached k from → left from ≡ w ∷ left (w .last + 1) → take (k + 1) (left 0) ≡ take k (left 0) ++ (w ∷ [])
+  pub taken-next : (k from : ℕ) (w : Window) → WindowsPassed k from → left from ≡ w ∷ left (w .last + 1) → take (k + 1) (left 0) ≡ take k (left 0) ++ (w ∷ [])
   taken-next k from w r e = ap (λ (j : ℕ). take j (left 0)) (add-one k) ∙ drop-head k (left 0) w (left (w .last + 1)) (sym (r .left) ∙ e) .1
 
 -- ---- columns
@@ -153,13 +153,13 @@ module _ (t : List Window) (d c : Columns) (e : c ≡ written t d) where
 
 -- k windows of a listing are stored into the columns d, which are then the columns c
 pub record Storing (l : Listing) (mask : List ℕ) (times : List ℤ) (severities : List Float) (k from : ℕ) (d c : Columns) : Type 0 where
-  pub reached : Reached l mask times severities k from
-  pub are : c ≡ written (take k (windowsLeft l mask times severities 0)) d
+  pub passed : WindowsPassed l mask times severities k from
+  pub holds : c ≡ written (take k (windowsLeft l mask times severities 0)) d
 
 module _ (l : Listing) (mask : List ℕ) (times : List ℤ) (severities : List Float) where
   pub storing-none : (d : Columns) → Storing l mask times severities 0 0 d d
   unfolding written over
-  storing-none d = record { reached = reached-none l mask times severities; are = refl }
+  storing-none d = record { passed = passed-none l mask times severities; holds = refl }
 
   -- n windows are to be stored
   module _ (n k from : ℕ) (d c : Columns) (h : n ≤ length (windowsLeft l mask times severities 0)) (room : Room n d) (s : Storing l mask times severities k from d c) where
@@ -167,17 +167,17 @@ module _ (l : Listing) (mask : List ℕ) (times : List ℤ) (severities : List F
     done j = length-take-le k (left l mask times severities 0) (omega arith)
 
     pub storing-room : k < n → Room (k + 1) c
-    storing-room j = room-left (take k (left l mask times severities 0)) d c (s .are) (k + 1) n (omega (arith, done (omega arith))) (omega arith) room
+    storing-room j = room-left (take k (left l mask times severities 0)) d c (s .holds) (k + 1) n (omega (arith, done (omega arith))) (omega arith) room
 
     pub storing-lengths : k ≤ n → SameLengths d c
-    storing-lengths j = same-lengths (take k (left l mask times severities 0)) d c (s .are) n (omega (arith, done j)) room
+    storing-lengths j = same-lengths (take k (left l mask times severities 0)) d c (s .holds) n (omega (arith, done j)) room
 
     pub storing-next : k < n → (end : ℕ) (w : Window) (c' : Columns) → NextWindow l mask times severities from end w → c' ≡ stored k w c → Storing l mask times severities (k + 1) end d c'
     storing-next j end w c' x q = record {
-      reached = subst (Reached l mask times severities (k + 1)) (x .onward) (reached-next l mask times severities k from w (s .reached) (x .left) (x .in-row));
-      are =
-          store-next (take k (left l mask times severities 0)) d c (s .are) k n w c' q (done (omega arith)) j room
-          ∙ ap (λ (t : List Window). written t d) (sym (taken-next l mask times severities k from w (s .reached) (x .left)));
+      passed = subst (WindowsPassed l mask times severities (k + 1)) (x .onward) (passed-next l mask times severities k from w (s .passed) (x .left) (x .in-row));
+      holds =
+          store-next (take k (left l mask times severities 0)) d c (s .holds) k n w c' q (done (omega arith)) j room
+          ∙ ap (λ (t : List Window). written t d) (sym (taken-next l mask times severities k from w (s .passed) (x .left)));
     }
 
 -- ---- the two listings. What the calls answer and leave is shown of both at once, from what is said of each here
@@ -191,26 +191,26 @@ wrote W old ws why n count r z e h q =
     (counted why n count r e h)
 
 -- of the samples of a row, whose lengths may be uneven, a listing gives the n windows ws; it looks at the severities `rated` and, lent places, refuses by `why`
-pub record Listed (l : Listing) (mask : List ℕ) (times : List ℤ) (severities rated : List Float) (uneven : Bool) (n : ℕ) (ws : List Window) (why : List ℕ → ℕ) : Type 0 where
-  pub are : windowsLeft l mask times severities 0 ≡ ws
+pub record ListingGives (l : Listing) (mask : List ℕ) (times : List ℤ) (severities rated : List Float) (uneven : Bool) (n : ℕ) (ws : List Window) (why : List ℕ → ℕ) : Type 0 where
+  pub all : windowsLeft l mask times severities 0 ≡ ws
   pub many : n ≡ length ws
   pub row : uneven ≡ false → Row l mask times severities
   pub refuses : (places : List ℕ) → why places ≡ windowsRefusal (uneven || differ places) mask times rated (noRoom places n)
 
 module _ (mask : List ℕ) (times : List ℤ) (severities : List Float) where
-  pub violations : Listed Violations mask times severities severities (differ (length mask ∷ length times ∷ length severities ∷ [])) (length (violationRuns mask)) (violationWindows mask times severities) (violationRefusal mask times severities)
+  pub violations : ListingGives Violations mask times severities severities (differ (length mask ∷ length times ∷ length severities ∷ [])) (length (violationRuns mask)) (violationWindows mask times severities) (violationRefusal mask times severities)
   unfolding windowsLeft violationWindows severityOf violationRefusal
   violations = record {
-    are = ap (map (windowOf times (severityOf Violations severities))) (violations-left mask);
+    all = ap (map (windowOf times (severityOf Violations severities))) (violations-left mask);
     many = sym (length-map (violationRuns mask) _);
     row = λ e. record { timed = same-at (length mask) (length times ∷ length severities ∷ []) 0 e (omega arith); rated = λ q. same-at (length mask) (length times ∷ length severities ∷ []) 1 e (omega arith) };
     refuses = λ places. refl;
   }
 
-  pub visibility : Listed Visibility mask times severities [] (differ (length mask ∷ length times ∷ [])) (length (visibilityRuns mask)) (visibilityWindows mask times) (visibilityRefusal mask times)
+  pub visibility : ListingGives Visibility mask times severities [] (differ (length mask ∷ length times ∷ [])) (length (visibilityRuns mask)) (visibilityWindows mask times) (visibilityRefusal mask times)
   unfolding windowsLeft visibilityWindows severityOf visibilityRefusal
   visibility = record {
-    are = ap (map (windowOf times (severityOf Visibility severities))) (visibility-left mask);
+    all = ap (map (windowOf times (severityOf Visibility severities))) (visibility-left mask);
     many = sym (length-map (visibilityRuns mask) _);
     row = λ e. record { timed = same-at (length mask) (length times ∷ []) 0 e (omega arith); rated = λ q. let z : _≡_ {A = ℕ} 0 1 = cc in let w : ⊥ = omega arith in absurd w };
     refuses = λ places. refl;
@@ -224,7 +224,7 @@ pub record Storable (l : Listing) (mask : List ℕ) (times : List ℤ) (severiti
   pub room : count ≤ places
 
 -- r is the answer, u says whether the lent places are uneven, the first of them being `room`, and count windows are stored
-module _ {l : Listing} {mask : List ℕ} {times : List ℤ} {severities rated : List Float} {uneven : Bool} {n : ℕ} {ws : List Window} {why : List ℕ → ℕ} (k : Listed l mask times severities rated uneven n ws why)
+module _ {l : Listing} {mask : List ℕ} {times : List ℤ} {severities rated : List Float} {uneven : Bool} {n : ℕ} {ws : List Window} {why : List ℕ → ℕ} (k : ListingGives l mask times severities rated uneven n ws why)
     (u : Bool) (room count : ℕ) (r : Reply ℕ) (h : count ≡ countOf r) (q : r ≡ reply (windowsRefusal (uneven || u) mask times rated (ltb room n)) n) where
   storable : Storable l mask times severities u count room
   storable =
@@ -232,7 +232,7 @@ module _ {l : Listing} {mask : List ℕ} {times : List ℤ} {severities rated : 
       (λ (a : (windowsRefusal (uneven || u) mask times rated (ltb room n) ≡ 0) × (count ≡ n)).
       let f = windows-accepted (uneven || u) mask times rated (ltb room n) (a .0) in
       record {
-        few = omega (arith, k .many, ap length (k .are));
+        few = omega (arith, k .many, ap length (k .all));
         row = λ z. k .row (or-left uneven u (f .even));
         even = λ z. or-right uneven u (f .even);
         room = omega (arith, ltb-false room n (f .room));
@@ -252,7 +252,7 @@ module _ {l : Listing} {mask : List ℕ} {times : List ℤ} {severities rated : 
   leaves W old c places e f z w =
       let a = answered places e f in (
         a ∙ ap (reply (why places)) (k .many),
-        w ∙ ap (λ (t : List Window). W (take count t)) (k .are) ∙ wrote W old ws (why places) n count r z a h (k .many),
+        w ∙ ap (λ (t : List Window). W (take count t)) (k .all) ∙ wrote W old ws (why places) n count r z a h (k .many),
       )
 
 -- ---- the listings into columns
@@ -277,7 +277,7 @@ even-room count d u e f h =
     ]
 
 -- d are the columns that are lent
-module _ {l : Listing} {mask : List ℕ} {times : List ℤ} {severities rated : List Float} {uneven : Bool} {n : ℕ} {ws : List Window} {why : List ℕ → ℕ} (k : Listed l mask times severities rated uneven n ws why)
+module _ {l : Listing} {mask : List ℕ} {times : List ℤ} {severities rated : List Float} {uneven : Bool} {n : ℕ} {ws : List Window} {why : List ℕ → ℕ} (k : ListingGives l mask times severities rated uneven n ws why)
     (d : Columns) (u : Bool) (count : ℕ) (r : Reply ℕ) (e : u ≡ differ (lengths d)) (h : count ≡ countOf r) (q : r ≡ reply (windowsRefusal (uneven || u) mask times rated (ltb (length (d .first)) n)) n) where
   pub columns-ready : (count ≤ length (windowsLeft l mask times severities 0)) × (0 < count → Row l mask times severities) × Room count d
   columns-ready = let s = storable k u (length (d .first)) count r h q in (s .few, s .row, even-room count d u e (s .even) (s .room))
@@ -289,7 +289,7 @@ module _ {l : Listing} {mask : List ℕ} {times : List ℤ} {severities rated : 
 -- ---- the listings into records
 
 -- ys is the lent list of them
-module _ {l : Listing} {mask : List ℕ} {times : List ℤ} {severities rated : List Float} {uneven : Bool} {n : ℕ} {ws : List Window} {why : List ℕ → ℕ} (k : Listed l mask times severities rated uneven n ws why)
+module _ {l : Listing} {mask : List ℕ} {times : List ℤ} {severities rated : List Float} {uneven : Bool} {n : ℕ} {ws : List Window} {why : List ℕ → ℕ} (k : ListingGives l mask times severities rated uneven n ws why)
     (ys : List Window) (count : ℕ) (r : Reply ℕ) (h : count ≡ countOf r) (q : r ≡ reply (windowsRefusal (uneven || false) mask times rated (ltb (length ys) n)) n) where
   pub records-ready : Storable l mask times severities false count (length ys)
   records-ready = storable k false (length ys) count r h q
@@ -304,15 +304,15 @@ pub record Pass (l : Listing) (mask : List ℕ) (times : List ℤ) (severities :
   pub from : ℕ
   pub zs : List Window
   pub few : k ≤ count
-  pub reached : Reached l mask times severities k from
-  pub are : zs ≡ over (take k (windowsLeft l mask times severities 0)) ys
+  pub passed : WindowsPassed l mask times severities k from
+  pub holds : zs ≡ over (take k (windowsLeft l mask times severities 0)) ys
 
 module _ {l : Listing} {mask : List ℕ} {times : List ℤ} {severities : List Float} {count : ℕ} (ys : List Window) (ok : Storable l mask times severities false count (length ys)) where
   abbrev Passes : Type 0
   Passes = Pass l mask times severities count ys
 
   abbrev pub pass-first : Passes
-  pass-first = record { k = 0; from = 0; zs = ys; few = omega arith; reached = reached-none l mask times severities; are = over-nil ys }
+  pass-first = record { k = 0; from = 0; zs = ys; few = omega arith; passed = passed-none l mask times severities; holds = over-nil ys }
 
   -- a later pass has fewer windows to store
   abbrev pub Nearer : Passes → Passes → Type 0
@@ -326,16 +326,16 @@ module _ {l : Listing} {mask : List ℕ} {times : List ℤ} {severities : List F
     taken = length-take-le (s .k) (left l mask times severities 0) (omega (arith, s .few, ok .few))
 
     pub pass-length : length (s .zs) ≡ length ys
-    pass-length = length-kept (s .zs) (take (s .k) (left l mask times severities 0)) ys (s .are) (omega (arith, taken, s .few, ok .room))
+    pass-length = length-kept (s .zs) (take (s .k) (left l mask times severities 0)) ys (s .holds) (omega (arith, taken, s .few, ok .room))
 
     -- what the next window asks
     pub pass-asks : s .k < count → (s .from ≤ length mask) × Row l mask times severities × (0 < length (windowsLeft l mask times severities (s .from)))
-    pass-asks j = (s .reached .in-row, ok .row (omega arith), some-left l mask times severities (s .k) (s .from) (s .reached) (omega (arith, ok .few)))
+    pass-asks j = (s .passed .in-row, ok .row (omega arith), some-left l mask times severities (s .k) (s .from) (s .passed) (omega (arith, ok .few)))
 
     pub pass-more : s .k < count → (w : Window) → left l mask times severities (s .from) ≡ w ∷ left l mask times severities (w .last + 1) → set (s .zs) (s .k) w ≡ over (take (s .k + 1) (windowsLeft l mask times severities 0)) ys
     pass-more j w e =
-        over-more (s .zs) (take (s .k) (left l mask times severities 0)) ys (s .k) w (s .are) taken (omega (arith, ok .room))
-        ∙ ap (λ (t : List Window). over t ys) (sym (taken-next l mask times severities (s .k) (s .from) w (s .reached) e))
+        over-more (s .zs) (take (s .k) (left l mask times severities 0)) ys (s .k) w (s .holds) taken (omega (arith, ok .room))
+        ∙ ap (λ (t : List Window). over t ys) (sym (taken-next l mask times severities (s .k) (s .from) w (s .passed) e))
 
     abbrev pub pass-next : s .k < count → (w : Window) → (left l mask times severities (s .from) ≡ w ∷ left l mask times severities (w .last + 1)) × (w .last < length mask) → Passes
     pass-next j w g = record {
@@ -343,9 +343,9 @@ module _ {l : Listing} {mask : List ℕ} {times : List ℤ} {severities : List F
       from = w .last + 1;
       zs = set (s .zs) (s .k) w;
       few = omega arith;
-      reached = reached-next l mask times severities (s .k) (s .from) w (s .reached) (g .0) (g .1);
-      are = pass-more j w (g .0);
+      passed = passed-next l mask times severities (s .k) (s .from) w (s .passed) (g .0) (g .1);
+      holds = pass-more j w (g .0);
     }
 
     pub pass-last : count ≤ s .k → s .zs ≡ over (take count (windowsLeft l mask times severities 0)) ys
-    pass-last j = let same : s .k ≡ count = omega (arith, s .few) in s .are ∙ ap (λ (m : ℕ). over (take m (left l mask times severities 0)) ys) same
+    pass-last j = let same : s .k ≡ count = omega (arith, s .few) in s .holds ∙ ap (λ (m : ℕ). over (take m (left l mask times severities 0)) ys) same

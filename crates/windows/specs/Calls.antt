@@ -13,18 +13,22 @@ use Rattle.windows.specs.Expand.{spans, expanded, expandRefusal}
 use Rattle.windows.specs.Seconds.{totalSeconds, durationRefusal}
 use Rattle.windows.specs.declared.Window.{Window}
 
--- ---- the listings: how many windows there are, and the six lent columns c with these in their first places
+-- ---- the listings into six lent columns c
 
+-- how many violation windows there are
 abbrev pub violationReply : List ℕ → List ℤ → List Float → Columns → Reply ℕ
 violationReply mask times severities c = reply (violationRefusal mask times severities (lengths c)) (length (violationWindows mask times severities))
 
+-- c with the violation windows in its first places
 abbrev pub violationColumns : List ℕ → List ℤ → List Float → Columns → Columns
 violationColumns mask times severities c =
     unlessRefused (violationRefusal mask times severities (lengths c)) (written (violationWindows mask times severities) c) c
 
+-- how many visibility windows there are
 abbrev pub visibilityReply : List ℕ → List ℤ → Columns → Reply ℕ
 visibilityReply mask times c = reply (visibilityRefusal mask times (lengths c)) (length (visibilityWindows mask times))
 
+-- c with the visibility windows in its first places
 abbrev pub visibilityColumns : List ℕ → List ℤ → Columns → Columns
 visibilityColumns mask times c = unlessRefused (visibilityRefusal mask times (lengths c)) (written (visibilityWindows mask times) c) c
 
@@ -48,11 +52,13 @@ visibilityRecordsReply mask times out = reply (visibilityRefusal mask times (len
 abbrev pub visibilityRecords : List ℕ → List ℤ → List Window → List Window
 visibilityRecords mask times out = unlessRefused (visibilityRefusal mask times (length out ∷ [])) (over (visibilityWindows mask times) out) out
 
--- ---- expand, of windows by their first and last times: 0, and the lent mask with a byte for each of the times in its first places
+-- ---- expand, of windows by their first and last times
 
+-- 0 where it accepts
 abbrev pub expandReply : List ℤ → List ℤ → List ℤ → List ℕ → Reply ℕ
 expandReply firsts lasts times mask = reply (expandRefusal firsts lasts times (length mask)) 0
 
+-- the lent mask with a byte for each of the times in its first places
 abbrev pub expandMask : List ℤ → List ℤ → List ℤ → List ℕ → List ℕ
 expandMask firsts lasts times mask =
     unlessRefused (expandRefusal firsts lasts times (length mask)) (over (expanded times (spans firsts lasts)) mask) mask

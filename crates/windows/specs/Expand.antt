@@ -11,13 +11,14 @@ use lib.Signed.{ltZ}
 use Rattle.buffers.specs.Ranges.{flag, any}
 use Rattle.buffers.specs.Refusal.{Conditions, first}
 use Rattle.windows.specs.Runs.{Run, visibilityRuns}
-use Rattle.windows.specs.Refusal.{beyond, differ}
+use Rattle.windows.specs.Refusal.{mostLent, beyond, differ}
 
 -- a window's first and last time
 pub record Span : Type 0 where
   pub first : ℤ
   pub last : ℤ
 
+-- the window from time f to time l
 abbrev pub span : ℤ → ℤ → Span
 span f l = record { first = f; last = l }
 
@@ -67,8 +68,9 @@ unfoldable pub expandedReordered : List ℤ → List Span → List ℕ
 unfolding inSome
 expandedReordered ts ws = map (λ (t : ℤ). flag (inSome t ws)) ts
 
--- ---- the mask of the times, a byte a time
+-- ---- both branches
 
+-- the mask of the times, a byte a time: 1 where a window holds it
 unfoldable pub expanded : List ℤ → List Span → List ℕ
 unfolding inOrder expandedInOrder expandedReordered
 expanded ts ws = cond (inOrder ts) (expandedInOrder ts ws) (expandedReordered ts ws)
@@ -82,11 +84,12 @@ constraintResultVisibility ts ws = visibilityRuns (expanded ts ws)
 abbrev pub expandConditions : List ℤ → List ℤ → List ℤ → ℕ → Conditions
 expandConditions firsts lasts times places =
     (differ (length firsts ∷ length lasts ∷ []), 1)
-    ∷ (ltb 65_536 (length firsts) || ltb 65_536 (length times), 2)
+    ∷ (ltb mostLent (length firsts) || ltb mostLent (length times), 2)
     ∷ (any beyond firsts || (any beyond lasts || any beyond times), 8)
     ∷ (ltb places (length times), 7)
     ∷ []
 
+-- the number of the first of these that holds, 0 for none
 unfoldable pub expandRefusal : List ℤ → List ℤ → List ℤ → ℕ → ℕ
 unfolding first
 expandRefusal firsts lasts times places = first (expandConditions firsts lasts times places)

@@ -6,16 +6,16 @@ use mathlib.Core.Bool.{Bool, true, false}
 use mathlib.Core.List.{List, [], _∷_, List·Memᴰ}
 use Prim.Native.Nat.{ℕ, suc, _+_, _≤_, _<_}
 use lib.ListN.{length, getD}
-use Rattle.windows.specs.Runs.{Run, are}
+use Rattle.windows.specs.Runs.{Run, samplesAre}
 
--- the sample k of a row; past its end there is none, which counts as false
-abbrev pub at : List Bool → ℕ → Bool
-at m k = getD m k false
+-- whether sample k of a row is there, and true
+abbrev pub trueAt : List Bool → ℕ → Bool
+trueAt m k = getD m k false
 
 -- whether sample k of a mask is there, and is the byte v
-abbrev pub is : ℕ → List ℕ → ℕ → Bool
-unfolding are
-is v m k = at (are v m) k
+abbrev pub sampleIs : ℕ → List ℕ → ℕ → Bool
+unfolding samplesAre
+sampleIs v m k = trueAt (samplesAre v m) k
 
 -- r is a maximal run of the samples at which g is true: neither the sample before it nor the one after it is
 pub record Maximal (g : ℕ → Bool) (r : Run) : Type 0 where
@@ -26,7 +26,7 @@ pub record Maximal (g : ℕ → Bool) (r : Run) : Type 0 where
 
 -- a run that rule V keeps: maximal among the clear samples, of two samples or more, or reaching the last
 pub record Visible (m : List ℕ) (r : Run) : Type 0 where
-  pub clear : Maximal (is 0 m) r
+  pub clear : Maximal (sampleIs 0 m) r
   pub long : (r .first < r .last) ⊎ (r .last + 1 ≡ length m)
 
 -- in time order, none touching the next, so each once

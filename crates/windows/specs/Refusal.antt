@@ -13,7 +13,11 @@ use Rattle.float.specs.Arithmetic.{signBitOf, finite}
 use Rattle.windows.specs.Runs.{violationRuns, visibilityRuns}
 use Rattle.windows.specs.Windows.{Columns}
 
--- a time beyond 4 * 10 ^ 18 nanoseconds either way
+-- the most samples of a row, and the most windows, that a call is lent
+abbrev pub mostLent : ℕ
+mostLent = 65_536
+
+-- a time beyond 4 * 10 ^ 18 nanoseconds either way (negsuc n is -(n + 1))
 unfoldable pub beyond : ℤ → Bool
 beyond t = ltZ t (negsuc 3_999_999_999_999_999_999) || ltZ (pos 4_000_000_000_000_000_000) t
 
@@ -44,23 +48,24 @@ noRoom (p ∷ ps) n = ltb p n
 abbrev pub windowsConditions : Bool → List ℕ → List ℤ → List Float → Bool → Conditions
 windowsConditions uneven mask times severities short =
     (uneven, 1)
-    ∷ (ltb 65_536 (length mask), 2)
+    ∷ (ltb mostLent (length mask), 2)
     ∷ (any beyond times, 8)
     ∷ (any badMark mask || any badSeverity severities, 14)
     ∷ (short, 7)
     ∷ []
 
+-- the number of the first of these that holds, 0 for none
 unfoldable pub windowsRefusal : Bool → List ℕ → List ℤ → List Float → Bool → ℕ
 unfolding first
 windowsRefusal uneven mask times severities short = first (windowsConditions uneven mask times severities short)
 
--- `places` are the lengths of the lent columns, or the length of the one lent list of records
+-- of the violation listing, 0 for none: `places` are the lengths of the lent columns, or the length of the one lent list of records
 unfoldable pub violationRefusal : List ℕ → List ℤ → List Float → List ℕ → ℕ
 unfolding windowsRefusal differ noRoom violationRuns
 violationRefusal mask times severities places =
     windowsRefusal (differ (length mask ∷ length times ∷ length severities ∷ []) || differ places) mask times severities (noRoom places (length (violationRuns mask)))
 
--- visibility lends no severities
+-- of the visibility listing, 0 for none: visibility lends no severities
 unfoldable pub visibilityRefusal : List ℕ → List ℤ → List ℕ → ℕ
 unfolding windowsRefusal differ noRoom visibilityRuns
 visibilityRefusal mask times places =

@@ -1,16 +1,17 @@
--- Section 5's runs of a row of samples: the maximal runs of marked samples, and of the clear ones those that rule V keeps, in time order. A run is
--- its first and its last sample number. Definitions only. Assumes nothing.
-use mathlib.Core.Bool.{Bool, true, false, not, _&&_, _||_, cond}
+-- Section 5's runs of a row of samples: the maximal runs of marked samples, and of the clear ones those that rule V keeps, in time order. Definitions
+-- only. Assumes nothing.
+use mathlib.Core.Bool.{Bool, true, false, _||_, cond}
 use mathlib.Core.List.{List, [], _∷_, map}
 use Prim.Native.Nat.{ℕ, suc, _+_, _-_}
 use lib.ListN.{length}
 use lib.Dec.{ltb, eqb}
-use Rattle.buffers.specs.Ranges.{flag}
 
+-- a run of samples: the numbers of its first and of its last
 pub record Run : Type 0 where
   pub first : ℕ
   pub last : ℕ
 
+-- the run from sample f to sample l
 abbrev pub run : ℕ → ℕ → Run
 run f l = record { first = f; last = l }
 
@@ -29,8 +30,8 @@ runsFrom i (since s) (true ∷ m) = runsFrom (suc i) (since s) m
 runsFrom i (since s) (false ∷ m) = run s (i - 1) ∷ runsFrom (suc i) shut m
 
 -- which samples of a mask are the byte v
-unfoldable pub are : ℕ → List ℕ → List Bool
-are v = map (λ (b : ℕ). eqb b v)
+unfoldable pub samplesAre : ℕ → List ℕ → List Bool
+samplesAre v = map (λ (b : ℕ). eqb b v)
 
 -- the elements that have the property p, in their order
 unfoldable pub filter : {A : Type 0} → (A → Bool) → List A → List A
@@ -39,8 +40,8 @@ filter p (x ∷ xs) = cond (p x) (x ∷ filter p xs) (filter p xs)
 
 -- the maximal runs of marked samples: a mask's byte is 1 where the sample is marked, 0 where it is clear
 unfoldable pub violationRuns : List ℕ → List Run
-unfolding runsFrom are
-violationRuns m = runsFrom 0 shut (are 1 m)
+unfolding runsFrom samplesAre
+violationRuns m = runsFrom 0 shut (samplesAre 1 m)
 
 -- Rule V, a term of document 01, of a clear run in a row of n samples: it has two samples or more, or it reaches the last sample
 unfoldable pub ruleV : ℕ → Run → Bool
@@ -48,10 +49,5 @@ ruleV n r = ltb (r .first) (r .last) || eqb (r .last + 1) n
 
 -- the maximal runs of clear samples that rule V keeps
 unfoldable pub visibilityRuns : List ℕ → List Run
-unfolding runsFrom are filter ruleV
-visibilityRuns m = filter (ruleV (length m)) (runsFrom 0 shut (are 0 m))
-
--- how many samples are true with no true one directly before them; b is the sample before the first of the list
-unfoldable pub starts : Bool → List Bool → ℕ
-starts b [] = 0
-starts b (x ∷ m) = flag (x && not b) + starts x m
+unfolding runsFrom samplesAre filter ruleV
+visibilityRuns m = filter (ruleV (length m)) (runsFrom 0 shut (samplesAre 0 m))

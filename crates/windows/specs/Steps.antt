@@ -1,16 +1,17 @@
 -- What the private functions of the listings say to one another: which runs a listing gives, and what is left of them from a sample on. No public
 -- contract cites these. Definitions only. Assumes nothing.
 use mathlib.Core.Path.{_≡_}
-use mathlib.Core.Bool.{Bool, true, cond}
+use mathlib.Core.Bool.{Bool, true, not, _&&_, cond}
 use mathlib.Core.List.{List, [], _∷_, map}
-use Prim.Native.Nat.{ℕ, zero, suc, _-_, _≤_, _<_}
+use Prim.Native.Nat.{ℕ, suc, _+_, _-_, _≤_, _<_}
 use lib.ListN.{length, drop, set}
 use lib.Dec.{leb}
 use lib.IntN.{ℤ}
 use lib.Ieee.{Float}
+use Rattle.buffers.specs.Ranges.{flag}
 use Rattle.buffers.specs.Refusal.{Reply, refused, accepted}
 use Rattle.float.specs.Arithmetic.{zero·0}
-use Rattle.windows.specs.Runs.{Run, run, shut, runsFrom, are, filter, ruleV}
+use Rattle.windows.specs.Runs.{Run, run, shut, runsFrom, samplesAre, filter, ruleV}
 use Rattle.windows.specs.Windows.{Columns, largest, windowOf}
 use Rattle.windows.specs.declared.Window.{Window}
 use Rattle.windows.specs.declared.Listing.{Listing}
@@ -24,6 +25,11 @@ topBit n = leb 0x8000_0000_0000_0000 n
 unfoldable pub leading : {A : Type 0} → (A → Bool) → List A → ℕ
 leading p [] = 0
 leading p (x ∷ xs) = cond (p x) (suc (leading p xs)) 0
+
+-- how many samples are true with no true one directly before them; b is the sample before the first of the list
+unfoldable pub starts : Bool → List Bool → ℕ
+starts b [] = 0
+starts b (x ∷ m) = flag (x && not b) + starts x m
 
 -- the byte whose runs a listing gives
 unfoldable pub byteOf : Listing → ℕ
@@ -44,15 +50,16 @@ severityOf Visibility severities r = zero·0
 
 -- the runs of a listing from sample i on, where no run is open before it
 unfoldable pub runsLeft : Listing → List ℕ → ℕ → List Run
-unfolding filter keeps runsFrom are byteOf
-runsLeft l mask i = filter (keeps l (length mask)) (runsFrom i shut (are (byteOf l) (drop i mask)))
+unfolding filter keeps runsFrom samplesAre byteOf
+runsLeft l mask i = filter (keeps l (length mask)) (runsFrom i shut (samplesAre (byteOf l) (drop i mask)))
 
+-- and their windows
 unfoldable pub windowsLeft : Listing → List ℕ → List ℤ → List Float → ℕ → List Window
 unfolding windowOf severityOf runsLeft
 windowsLeft l mask times severities i = map (windowOf times (severityOf l severities)) (runsLeft l mask i)
 
 -- the next run of a listing from sample `from` on goes from `first` to `end` - 1; if there is none, both are the row's length
-pub record Next (l : Listing) (mask : List ℕ) (from first end : ℕ) : Type 0 where
+pub record IsNextRun (l : Listing) (mask : List ℕ) (from first end : ℕ) : Type 0 where
   pub within : end ≤ length mask
   pub onward : from < length mask → from < end
   pub some : first < end → runsLeft l mask from ≡ run first (end - 1) ∷ runsLeft l mask end

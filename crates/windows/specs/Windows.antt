@@ -1,7 +1,6 @@
 -- Section 5's window records: of each run its sample numbers, its times, its severity and its last flag; the lists of violation and of visibility
 -- windows; and these lists written as columns. Definitions only. Assumes nothing.
-use mathlib.Core.Path.{_≡_}
-use mathlib.Core.Bool.{Bool, cond}
+use mathlib.Core.Bool.{cond}
 use mathlib.Core.List.{List, map}
 use Prim.Native.Nat.{ℕ, zero, suc, _+_, _-_}
 use lib.ListN.{length, getD}
@@ -40,6 +39,7 @@ windowOf times severity r = record {
   «is_last» = flag (eqb (r .last + 1) (length times));
 }
 
+-- violation windows have the largest severity in their run
 unfoldable pub violationWindows : List ℕ → List ℤ → List Float → List Window
 unfolding windowOf largest violationRuns
 violationWindows mask times severities = map (windowOf times (largest severities)) (violationRuns mask)
@@ -49,8 +49,9 @@ unfoldable pub visibilityWindows : List ℕ → List ℤ → List Window
 unfolding windowOf visibilityRuns
 visibilityWindows mask times = map (windowOf times (λ (r : Run). zero·0)) (visibilityRuns mask)
 
--- ---- columns: a lent list for each field of the record
+-- ---- columns
 
+-- a lent list for each field of the record
 pub record Columns : Type 0 where
   pub first : List ℕ
   pub last : List ℕ
@@ -59,6 +60,7 @@ pub record Columns : Type 0 where
   pub severity : List Float
   pub isLast : List ℕ
 
+-- the columns of six lists, in the order in which a listing is lent them
 abbrev pub columns : List ℕ → List ℕ → List ℤ → List ℤ → List Float → List ℕ → Columns
 columns f l ft lt s il = record { first = f; last = l; firstTime = ft; lastTime = lt; severity = s; isLast = il }
 

@@ -1,5 +1,6 @@
 // Windows back to a mask: `_get_constraint_vec`, both branches.
 ghost use mathlib.Core.Path.{_≡_};
+ghost use mathlib.Core.List.{List};
 ghost use Prim.Native.Nat.{_<_, _≤_};
 ghost use lib.ListN.{length, getD, drop};
 ghost use lib.IntN.{pos};
@@ -7,8 +8,9 @@ ghost use lib.Signed.{ltZ};
 ghost use Rattle.buffers.specs.Ranges.{flag};
 ghost use Rattle.buffers.specs.Lent.{over};
 ghost use Rattle.buffers.specs.Refusal.{replyOf};
-ghost use Rattle.windows.specs.Expand.{spans, inOrder, skip, inFirst, expandedInOrder, inSome, expandedReordered, expandRefusal};
+ghost use Rattle.windows.specs.Expand.{Span, spans, inOrder, skip, inFirst, expandedInOrder, inSome, expandedReordered, expandRefusal};
 ghost use Rattle.windows.specs.Calls.{expandReply, expandMask};
+use crate::refusal::MOST_LENT;
 use crate::refusal::any_beyond;
 use buffers::Answer;
 
@@ -43,8 +45,8 @@ fn in_order(times: &[i64]) -> bool
 // The first window from number `from` on that did not end before time i.
 fn skip_ended(first: &[i64], last: &[i64], from: usize, times: &[i64], i: usize) -> usize
     requires { ⌜ (i < length (now times)) × (from ≤ length (now last)) × (length (now last) ≡ length (now first)) ⌝ }
-    ensures { λ r. ⌜ (r ≤ length (now (last .entry)))
-        × (drop r (spans (now (first .entry)) (now (last .entry))) ≡ skip (getD (now (times .entry)) i (pos 0)) (drop from (spans (now (first .entry)) (now (last .entry))))) ⌝ }
+    ensures { λ r. let ws : List Span = spans (now (first .entry)) (now (last .entry)) in
+        ⌜ (r ≤ length (now (last .entry))) × (drop r ws ≡ skip (getD (now (times .entry)) i (pos 0)) (drop from ws)) ⌝ }
 {
     let mut j = from;
     while j < last.len() {
@@ -126,10 +128,10 @@ fn expand_refusal(first: &[i64], last: &[i64], times: &[i64], places: usize) -> 
     if last.len() != first.len() {
         return 1;
     }
-    if 65_536 < first.len() {
+    if MOST_LENT < first.len() {
         return 2;
     }
-    if 65_536 < times.len() {
+    if MOST_LENT < times.len() {
         return 2;
     }
     if any_beyond(first) {

@@ -1,19 +1,20 @@
 // The windows of a row: each by value, and listed into lent columns.
 ghost use mathlib.Core.Path.{_≡_};
-ghost use mathlib.Core.Bool.{_||_};
-ghost use mathlib.Core.List.{[], _∷_};
-ghost use Prim.Native.Nat.{_+_, _<_, _≤_};
-ghost use lib.ListN.{length, take, set};
+ghost use mathlib.Core.Bool.{Bool, _||_};
+ghost use mathlib.Core.List.{List, [], _∷_};
+ghost use Prim.Native.Nat.{ℕ, _+_, _<_, _≤_};
+ghost use lib.ListN.{length, take};
 ghost use lib.Dec.{eqb, ltb};
 ghost use Rattle.buffers.specs.Ranges.{flag};
 ghost use Rattle.buffers.specs.Refusal.{reply, replyOf};
 ghost use Rattle.windows.specs.Runs.{Run, run, violationRuns, visibilityRuns};
-ghost use Rattle.windows.specs.Windows.{largest, windowOf, columns, written};
+ghost use Rattle.windows.specs.Windows.{largest, windowOf, Columns, columns, written};
 ghost use Rattle.windows.specs.Refusal.{differ, windowsRefusal};
 ghost use Rattle.windows.specs.Calls.{violationReply, violationColumns, visibilityReply, visibilityColumns};
 ghost use Rattle.windows.specs.Steps.{severityOf, runsLeft, windowsLeft, Row, Room, stored, countOf};
 use crate::Listing;
 use crate::Window;
+use crate::refusal::MOST_LENT;
 use crate::refusal::any_bad_mark;
 use crate::refusal::any_bad_severity;
 use crate::refusal::any_beyond;
@@ -99,10 +100,10 @@ pub(crate) fn next_window(
     severities: &[f64],
     from: usize,
 ) -> Window
-    requires { ⌜ (from ≤ length (now mask)) × Row listing (now mask) (now times) (now severities) × (0 < length (windowsLeft listing (now mask) (now times) (now severities) from)) ⌝ }
-    ensures { λ r. ⌜ (windowsLeft listing (now (mask .entry)) (now (times .entry)) (now (severities .entry)) from
-        ≡ r ∷ windowsLeft listing (now (mask .entry)) (now (times .entry)) (now (severities .entry)) (r .last + 1))
-        × (r .last < length (now (mask .entry))) × (r .«is_last» ≤ 1) ⌝ }
+    requires { ⌜ (from ≤ length (now mask)) × Row listing (now mask) (now times) (now severities)
+        × (0 < length (windowsLeft listing (now mask) (now times) (now severities) from)) ⌝ }
+    ensures { λ r. let left : ℕ → List Window = windowsLeft listing (now (mask .entry)) (now (times .entry)) (now (severities .entry)) in
+        ⌜ (left from ≡ r ∷ left (r .last + 1)) × (r .last < length (now (mask .entry))) × (r .«is_last» ≤ 1) ⌝ }
 {
     let run = next_run(listing, mask, from);
     let first = run.first;
@@ -117,19 +118,19 @@ pub(crate) fn violation_window(
     severities: &[f64],
     from: usize,
 ) -> Window
-    requires { ⌜ (from ≤ length (now mask)) × Row Listing.Violations (now mask) (now times) (now severities) × (0 < length (windowsLeft Listing.Violations (now mask) (now times) (now severities) from)) ⌝ }
-    ensures { λ r. ⌜ (windowsLeft Listing.Violations (now (mask .entry)) (now (times .entry)) (now (severities .entry)) from
-        ≡ r ∷ windowsLeft Listing.Violations (now (mask .entry)) (now (times .entry)) (now (severities .entry)) (r .last + 1))
-        × (r .last < length (now (mask .entry))) ⌝ }
+    requires { ⌜ (from ≤ length (now mask)) × Row Listing.Violations (now mask) (now times) (now severities)
+        × (0 < length (windowsLeft Listing.Violations (now mask) (now times) (now severities) from)) ⌝ }
+    ensures { λ r. let left : ℕ → List Window = windowsLeft Listing.Violations (now (mask .entry)) (now (times .entry)) (now (severities .entry)) in
+        ⌜ (left from ≡ r ∷ left (r .last + 1)) × (r .last < length (now (mask .entry))) ⌝ }
 {
     next_window(Listing::Violations, mask, times, severities, from)
 }
 
 pub(crate) fn visibility_window(mask: &[u8], times: &[i64], from: usize) -> Window
-    requires { ⌜ (from ≤ length (now mask)) × Row Listing.Visibility (now mask) (now times) [] × (0 < length (windowsLeft Listing.Visibility (now mask) (now times) [] from)) ⌝ }
-    ensures { λ r. ⌜ (windowsLeft Listing.Visibility (now (mask .entry)) (now (times .entry)) [] from
-        ≡ r ∷ windowsLeft Listing.Visibility (now (mask .entry)) (now (times .entry)) [] (r .last + 1))
-        × (r .last < length (now (mask .entry))) ⌝ }
+    requires { ⌜ (from ≤ length (now mask)) × Row Listing.Visibility (now mask) (now times) []
+        × (0 < length (windowsLeft Listing.Visibility (now mask) (now times) [] from)) ⌝ }
+    ensures { λ r. let left : ℕ → List Window = windowsLeft Listing.Visibility (now (mask .entry)) (now (times .entry)) [] in
+        ⌜ (left from ≡ r ∷ left (r .last + 1)) × (r .last < length (now (mask .entry))) ⌝ }
 {
     let none = [0.0f64; 0];
     next_window(Listing::Visibility, mask, times, &none, from)
@@ -146,9 +147,12 @@ fn store(
     severity: &mut [f64],
     is_last: &mut [u8],
 )
-    requires { ⌜ Room (k + 1) (columns (now first) (now last) (now «first_time») (now «last_time») (now severity) (now «is_last»)) × (w .«is_last» ≤ 1) ⌝ }
-    ensures { λ _. ⌜ columns (now (first .exit)) (now (last .exit)) (now («first_time» .exit)) (now («last_time» .exit)) (now (severity .exit)) (now («is_last» .exit))
-        ≡ stored k w (columns (now (first .entry)) (now (last .entry)) (now («first_time» .entry)) (now («last_time» .entry)) (now (severity .entry)) (now («is_last» .entry))) ⌝ }
+    requires { ⌜ Room (k + 1) (columns (now first) (now last) (now «first_time») (now «last_time») (now severity) (now «is_last»))
+        × (w .«is_last» ≤ 1) ⌝ }
+    ensures { λ _. let lent : Columns = columns (now (first .entry)) (now (last .entry)) (now («first_time» .entry)) (now («last_time» .entry))
+        (now (severity .entry)) (now («is_last» .entry)) in
+        ⌜ columns (now (first .exit)) (now (last .exit)) (now («first_time» .exit)) (now («last_time» .exit)) (now (severity .exit)) (now («is_last» .exit))
+        ≡ stored k w lent ⌝ }
 {
     let start = w.first_time;
     let end = w.last_time;
@@ -175,11 +179,13 @@ fn store_windows(
     severity: &mut [f64],
     is_last: &mut [u8],
 )
-    requires { ⌜ (count ≤ length (windowsLeft listing (now mask) (now times) (now severities) 0)) × (0 < count → Row listing (now mask) (now times) (now severities))
+    requires { ⌜ (count ≤ length (windowsLeft listing (now mask) (now times) (now severities) 0))
+        × (0 < count → Row listing (now mask) (now times) (now severities))
         × Room count (columns (now first) (now last) (now «first_time») (now «last_time») (now severity) (now «is_last»)) ⌝ }
-    ensures { λ _. ⌜ columns (now (first .exit)) (now (last .exit)) (now («first_time» .exit)) (now («last_time» .exit)) (now (severity .exit)) (now («is_last» .exit))
-        ≡ written (take count (windowsLeft listing (now (mask .entry)) (now (times .entry)) (now (severities .entry)) 0))
-        (columns (now (first .entry)) (now (last .entry)) (now («first_time» .entry)) (now («last_time» .entry)) (now (severity .entry)) (now («is_last» .entry))) ⌝ }
+    ensures { λ _. let lent : Columns = columns (now (first .entry)) (now (last .entry)) (now («first_time» .entry)) (now («last_time» .entry))
+        (now (severity .entry)) (now («is_last» .entry)) in
+        ⌜ columns (now (first .exit)) (now (last .exit)) (now («first_time» .exit)) (now («last_time» .exit)) (now (severity .exit)) (now («is_last» .exit))
+        ≡ written (take count (windowsLeft listing (now (mask .entry)) (now (times .entry)) (now (severities .entry)) 0)) lent ⌝ }
 {
     let mut k = 0usize;
     let mut from = 0usize;
@@ -203,7 +209,9 @@ fn answer_of(
     severities: &[f64],
     places: usize,
 ) -> Answer
-    ensures { λ r. ⌜ replyOf r ≡ reply (windowsRefusal («uneven_samples» || «uneven_places») (now (mask .entry)) (now (times .entry)) (now (severities .entry)) (ltb places (length (runsLeft listing (now (mask .entry)) 0)))) (length (runsLeft listing (now (mask .entry)) 0)) ⌝ }
+    ensures { λ r. let n : ℕ = length (runsLeft listing (now (mask .entry)) 0) in
+        let uneven : Bool = «uneven_samples» || «uneven_places» in
+        ⌜ replyOf r ≡ reply (windowsRefusal uneven (now (mask .entry)) (now (times .entry)) (now (severities .entry)) (ltb places n)) n ⌝ }
 {
     if uneven_samples {
         return Answer::Refused(1);
@@ -211,7 +219,7 @@ fn answer_of(
     if uneven_places {
         return Answer::Refused(1);
     }
-    if 65_536 < mask.len() {
+    if MOST_LENT < mask.len() {
         return Answer::Refused(2);
     }
     if any_beyond(times) {
@@ -238,7 +246,9 @@ pub(crate) fn violation_answer(
     uneven: bool,
     places: usize,
 ) -> Answer
-    ensures { λ r. ⌜ replyOf r ≡ reply (windowsRefusal (differ (length (now (mask .entry)) ∷ length (now (times .entry)) ∷ length (now (severities .entry)) ∷ []) || uneven) (now (mask .entry)) (now (times .entry)) (now (severities .entry)) (ltb places (length (violationRuns (now (mask .entry)))))) (length (violationRuns (now (mask .entry)))) ⌝ }
+    ensures { λ r. let n : ℕ = length (violationRuns (now (mask .entry))) in
+        let different : Bool = differ (length (now (mask .entry)) ∷ length (now (times .entry)) ∷ length (now (severities .entry)) ∷ []) in
+        ⌜ replyOf r ≡ reply (windowsRefusal (different || uneven) (now (mask .entry)) (now (times .entry)) (now (severities .entry)) (ltb places n)) n ⌝ }
 {
     let different = differ_three(mask.len(), times.len(), severities.len());
     answer_of(
@@ -254,7 +264,9 @@ pub(crate) fn violation_answer(
 
 // What the visibility listing answers.
 pub(crate) fn visibility_answer(mask: &[u8], times: &[i64], uneven: bool, places: usize) -> Answer
-    ensures { λ r. ⌜ replyOf r ≡ reply (windowsRefusal (differ (length (now (mask .entry)) ∷ length (now (times .entry)) ∷ []) || uneven) (now (mask .entry)) (now (times .entry)) [] (ltb places (length (visibilityRuns (now (mask .entry)))))) (length (visibilityRuns (now (mask .entry)))) ⌝ }
+    ensures { λ r. let n : ℕ = length (visibilityRuns (now (mask .entry))) in
+        let different : Bool = differ (length (now (mask .entry)) ∷ length (now (times .entry)) ∷ []) in
+        ⌜ replyOf r ≡ reply (windowsRefusal (different || uneven) (now (mask .entry)) (now (times .entry)) [] (ltb places n)) n ⌝ }
 {
     let none = [0.0f64; 0];
     let different = differ_two(mask.len(), times.len());
@@ -291,11 +303,11 @@ pub fn violation_windows(
     severity: &mut [f64],
     is_last: &mut [u8],
 ) -> Answer
-    ensures answer { λ r. ⌜ replyOf r ≡ violationReply (now (mask .entry)) (now (times .entry)) (now (severities .entry))
-        (columns (now (first .entry)) (now (last .entry)) (now («first_time» .entry)) (now («last_time» .entry)) (now (severity .entry)) (now («is_last» .entry))) ⌝ }
-    ensures columns { λ _. ⌜ columns (now (first .exit)) (now (last .exit)) (now («first_time» .exit)) (now («last_time» .exit)) (now (severity .exit)) (now («is_last» .exit))
-        ≡ violationColumns (now (mask .entry)) (now (times .entry)) (now (severities .entry))
-        (columns (now (first .entry)) (now (last .entry)) (now («first_time» .entry)) (now («last_time» .entry)) (now (severity .entry)) (now («is_last» .entry))) ⌝ }
+    ensures { λ r. let lent : Columns = columns (now (first .entry)) (now (last .entry)) (now («first_time» .entry)) (now («last_time» .entry))
+        (now (severity .entry)) (now («is_last» .entry)) in
+        ⌜ (replyOf r ≡ violationReply (now (mask .entry)) (now (times .entry)) (now (severities .entry)) lent)
+        × (columns (now (first .exit)) (now (last .exit)) (now («first_time» .exit)) (now («last_time» .exit)) (now (severity .exit)) (now («is_last» .exit))
+        ≡ violationColumns (now (mask .entry)) (now (times .entry)) (now (severities .entry)) lent) ⌝ }
 {
     let places = first.len();
     let uneven = differ_six(
@@ -335,11 +347,11 @@ pub fn visibility_windows(
     severity: &mut [f64],
     is_last: &mut [u8],
 ) -> Answer
-    ensures answer { λ r. ⌜ replyOf r ≡ visibilityReply (now (mask .entry)) (now (times .entry))
-        (columns (now (first .entry)) (now (last .entry)) (now («first_time» .entry)) (now («last_time» .entry)) (now (severity .entry)) (now («is_last» .entry))) ⌝ }
-    ensures columns { λ _. ⌜ columns (now (first .exit)) (now (last .exit)) (now («first_time» .exit)) (now («last_time» .exit)) (now (severity .exit)) (now («is_last» .exit))
-        ≡ visibilityColumns (now (mask .entry)) (now (times .entry))
-        (columns (now (first .entry)) (now (last .entry)) (now («first_time» .entry)) (now («last_time» .entry)) (now (severity .entry)) (now («is_last» .entry))) ⌝ }
+    ensures { λ r. let lent : Columns = columns (now (first .entry)) (now (last .entry)) (now («first_time» .entry)) (now («last_time» .entry))
+        (now (severity .entry)) (now («is_last» .entry)) in
+        ⌜ (replyOf r ≡ visibilityReply (now (mask .entry)) (now (times .entry)) lent)
+        × (columns (now (first .exit)) (now (last .exit)) (now («first_time» .exit)) (now («last_time» .exit)) (now (severity .exit)) (now («is_last» .exit))
+        ≡ visibilityColumns (now (mask .entry)) (now (times .entry)) lent) ⌝ }
 {
     let none = [0.0f64; 0];
     let places = first.len();

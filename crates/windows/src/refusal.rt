@@ -9,6 +9,9 @@ ghost use Rattle.windows.specs.Refusal.{beyond, badMark, badSeverity, di
 ghost use Rattle.windows.specs.Steps.{topBit};
 use std::num::wrapping_add_u64;
 
+// The most samples of a row, and the most windows, that a call is lent.
+pub(crate) const MOST_LENT: usize = 65_536;
+
 // Whether a is before b. The contract gives callers the plain fact on signed numbers.
 fn is_before(a: i64, b: i64) -> bool
     ensures { λ r. ⌜ r ≡ ltZ a b ⌝ }

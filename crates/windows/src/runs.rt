@@ -5,9 +5,11 @@ ghost use Prim.Native.Nat.{ℕ, _+_, _-_, _<_, _≤_};
 ghost use lib.ListN.{length, drop};
 ghost use lib.Dec.{eqb};
 ghost use Rattle.buffers.specs.Ranges.{flag};
-ghost use Rattle.windows.specs.Runs.{run, are, starts};
-ghost use Rattle.windows.specs.Steps.{leading, byteOf, keeps, runsLeft, Next};
+ghost use Rattle.windows.specs.Runs.{run, samplesAre};
+ghost use Rattle.windows.specs.Refusal.{mostLent};
+ghost use Rattle.windows.specs.Steps.{leading, starts, byteOf, keeps, runsLeft, IsNextRun};
 use crate::Listing;
+use crate::refusal::MOST_LENT;
 
 // The samples from first to end - 1.
 pub(crate) struct Stretch {
@@ -59,7 +61,7 @@ fn end_of_run(mask: &[u8], v: u8, from: usize) -> usize
 // The next run that is listed from sample `from` on, where no run is open. If there is none, it is empty at the end of the row.
 pub(crate) fn next_run(listing: Listing, mask: &[u8], from: usize) -> Stretch
     requires { ⌜ from ≤ length (now mask) ⌝ }
-    ensures { λ r. ⌜ Next listing (now (mask .entry)) from (r .first) (r .end) ⌝ }
+    ensures { λ r. ⌜ IsNextRun listing (now (mask .entry)) from (r .first) (r .end) ⌝ }
 {
     let samples = mask.len();
     let v = byte_of(listing);
@@ -109,8 +111,8 @@ fn start_at(before: u8, byte: u8) -> u32
 // How many runs of marked samples start in a row. No turn of the loop waits for the one before it, so that it can run over many
 // samples at a time: over more of them with a counter of 32 bits, which a row's count fits, than with one of 64.
 fn count_starts(mask: &[u8]) -> u32
-    requires { ⌜ length (now mask) ≤ 65_536 ⌝ }
-    ensures { λ r. ⌜ r ≡ starts false (are 1 (now (mask .entry))) ⌝ }
+    requires { ⌜ length (now mask) ≤ mostLent ⌝ }
+    ensures { λ r. ⌜ r ≡ starts false (samplesAre 1 (now (mask .entry))) ⌝ }
 {
     if mask.len() == 0 {
         return 0;
@@ -132,7 +134,7 @@ pub(crate) fn count_runs(listing: Listing, mask: &[u8]) -> usize
 {
     match listing {
         Listing::Violations => {
-            if mask.len() <= 65_536 {
+            if mask.len() <= MOST_LENT {
                 return count_starts(mask) as usize;
             }
             count_listed(listing, mask)

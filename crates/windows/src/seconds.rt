@@ -9,11 +9,13 @@ ghost use Rattle.windows.specs.Refusal.{beyond};
 ghost use Rattle.windows.specs.Seconds.{seconds, totalSeconds, durationRefusal, replyOfDuration};
 ghost use Rattle.windows.specs.Calls.{durationReply};
 use crate::Duration;
+use crate::refusal::MOST_LENT;
 use crate::refusal::any_beyond;
 
 // Window k's length in whole seconds, toward zero.
 fn window_seconds(first: &[i64], last: &[i64], k: usize) -> f64
-    requires { ⌜ (k < length (now first)) × (k < length (now last)) × (beyond (getD (now first) k (pos 0)) ≡ false) × (beyond (getD (now last) k (pos 0)) ≡ false) ⌝ }
+    requires { ⌜ (k < length (now first)) × (k < length (now last))
+        × (beyond (getD (now first) k (pos 0)) ≡ false) × (beyond (getD (now last) k (pos 0)) ≡ false) ⌝ }
     ensures { λ r. ⌜ r ≡ ofInt binary64 (seconds (getD (now (first .entry)) k (pos 0)) (getD (now (last .entry)) k (pos 0))) ⌝ }
 {
     let start = first[k];
@@ -44,7 +46,7 @@ fn duration_refusal(first: &[i64], last: &[i64]) -> u64
     if last.len() != first.len() {
         return 1;
     }
-    if 65_536 < first.len() {
+    if MOST_LENT < first.len() {
         return 2;
     }
     if any_beyond(first) {

@@ -6,8 +6,7 @@ use lib.Ieee.{nan}
 use lib.ListN.{length, getD}
 use Rattle.buffers.specs.Lent.{filled}
 use Rattle.buffers.proofs.Lent.{filled-then}
-use Rattle.float.specs.Arithmetic.{absOf}
-use Rattle.float.specs.Arctangent.{halved, ratio, turnedAngle, arctangent}
+use Rattle.float.specs.Arctangent.{halved, ratio, seriesAngle, quadrantAngle, turnedAngle, arctangent}
 use borrow.Author.Needs.{needs}
 use Rattle.float.proofs.angles.atan2_each.Statement.{statement}
 use Rattle.float.proofs.angles.atan2_each.Tie as tie
@@ -40,7 +39,7 @@ same-length : tie.Need-same-length
 same-length c = search needs
 
 returns : tie.Need-returns
-unfolding arctangent
+unfolding arctangent turnedAngle quadrantAngle seriesAngle ratio
 returns c =
     let t = c .before .before in
     let h3 = t .before .before .before .before in

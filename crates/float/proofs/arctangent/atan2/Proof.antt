@@ -1,6 +1,6 @@
 -- `float::arctangent::atan2` meets its contract. Assumes nothing.
 use borrow.Author.Needs.{needs}
-use Rattle.float.specs.Arctangent.{arctangent}
+use Rattle.float.specs.Arctangent.{ratio, seriesAngle, quadrantAngle, turnedAngle, arctangent}
 use Rattle.float.proofs.arctangent.atan2.Statement.{statement}
 use Rattle.float.proofs.arctangent.atan2.Tie as tie
 
@@ -20,7 +20,7 @@ turned-angle-requires : tie.Need-turned-angle-requires
 turned-angle-requires c κs = search needs
 
 returns : tie.Need-returns
-unfolding arctangent
+unfolding arctangent turnedAngle quadrantAngle seriesAngle ratio
 returns c = cc
 
 pub atan2-spec : {M : Type 1} → statement M

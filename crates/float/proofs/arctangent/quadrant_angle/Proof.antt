@@ -4,7 +4,7 @@ use mathlib.Core.Bool.{cond}
 use mathlib.Core.Logic.{⊎-elim}
 use lib.Ieee.{lt, eq}
 use Rattle.float.specs.Arithmetic.{zero·0}
-use Rattle.float.specs.Arctangent.{seriesAngle, quadrantAngle}
+use Rattle.float.specs.Arctangent.{quadrantAngle}
 use borrow.Author.Needs.{needs}
 use Rattle.float.proofs.arctangent.quadrant_angle.Statement.{statement}
 use Rattle.float.proofs.arctangent.quadrant_angle.Tie as tie

@@ -1,12 +1,12 @@
 -- `float::root::checked_to_two` meets its contract: a guess that passes the test is the number that steps 2 and 3 give. Assumes nothing.
 use mathlib.Core.Path.{_≡_, sym, ap, ap₂, _∙_, subst}
 use mathlib.Core.Bool.{false}
-use Prim.Native.Nat.{ℕ, _+_, _-_, _*_, _%_, _^_, _≤_, _<_}
+use Prim.Native.Nat.{_+_, _-_, _*_, _%_, _^_, _≤_, _<_}
 use native.Mathlib.Omega.{arith}
 use lib.Dec.{T, lit<}
 use lib.Ieee.{Float, binary64, toBits, ofBits, units, fits}
 use lib.Ieee.Bits.{ofBits-toBits}
-use Rattle.float.specs.Root.{magnitude}
+use Rattle.float.specs.RootSteps.{magnitude}
 use Rattle.float.specs.declared.root.Scaled.{Scaled}
 use Rattle.float.proofs.Patterns.{packed-is}
 use Rattle.float.proofs.Scaling.{Scales, scaled-facts}

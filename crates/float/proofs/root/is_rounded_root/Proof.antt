@@ -4,7 +4,7 @@ use mathlib.Core.Bool.{true≢false}
 use Prim.Native.Nat.{ℕ, _+_, _-_, _*_, _/_, _%_, _^_, _≤_, _<_}
 use native.Mathlib.Omega.{arith}
 use borrow.Author.Tests.{leb-true}
-use Rattle.float.specs.Root.{roundedRoot}
+use Rattle.float.specs.RootSteps.{roundedRoot}
 use Rattle.float.proofs.Guessed.{small, guessed}
 use borrow.Author.Needs.{needs}
 use Rattle.float.proofs.root.is_rounded_root.Statement.{statement}

@@ -4,7 +4,7 @@ use Prim.Native.Nat.{ℕ, _+_, _-_, _*_, _/_, _%_, _^_, _<_}
 use native.Mathlib.Omega.{arith}
 use lib.Count.{leadingZeros}
 use Rattle.float.proofs.Patterns.{subnormal, subnormal-magnitude, normal-magnitude}
-use Rattle.float.specs.Root.{magnitude}
+use Rattle.float.specs.RootSteps.{magnitude}
 use Rattle.float.proofs.Scaling.{pair-is}
 use borrow.Author.Needs.{needs}
 use Rattle.float.proofs.root.scale.Statement.{statement}

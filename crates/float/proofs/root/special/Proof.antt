@@ -9,7 +9,8 @@ use lib.Ieee.{Float, nan, inf, fin, binary64, up, down, eq, lt, ne, div, ofBits,
 use lib.Ieee.Compare.{differs-from-itself}
 use lib.Ieee.Fits.{up-pos, and-l}
 use borrow.Author.Tests.{ltb-true, lt-ltb}
-use Rattle.float.specs.Root.{sqrtOf, operandOf}
+use Rattle.float.specs.Root.{sqrtOf}
+use Rattle.float.specs.RootSteps.{operandOf}
 use Rattle.float.specs.declared.root.Operand.the-variants.{Answer, Positive}
 use Rattle.float.proofs.root.special.Statement.{statement}
 use Rattle.float.proofs.root.special.Tie as tie

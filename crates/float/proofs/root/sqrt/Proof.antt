@@ -5,7 +5,7 @@ use Prim.Native.Nat.{ℕ, _+_, _-_, _*_, _/_, _^_, _≤_, _<_}
 use native.Mathlib.Omega.{arith}
 use lib.Dec.{T}
 use lib.Ieee.{binary64, toBits, units}
-use Rattle.float.specs.Root.{magnitude}
+use Rattle.float.specs.RootSteps.{magnitude}
 use Rattle.float.specs.declared.root.Scaled.{Scaled}
 use Rattle.float.proofs.Scaling.{Scales, scaled-facts}
 use Rattle.float.proofs.Sign.{same-not-nan, above-not-nan}

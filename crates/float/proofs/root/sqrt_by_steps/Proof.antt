@@ -4,7 +4,7 @@ use Prim.Native.Nat.{_*_, _^_, _≤_, _<_}
 use native.Mathlib.Omega.{arith}
 use lib.Dec.{T}
 use lib.Ieee.{binary64, fits, toBits}
-use Rattle.float.specs.Root.{operandOf, magnitude}
+use Rattle.float.specs.RootSteps.{operandOf, magnitude}
 use Rattle.float.specs.declared.root.Operand.the-variants.{Positive}
 use Rattle.float.proofs.Steps.{left-over, answered, rooted}
 use Rattle.float.specs.declared.root.Scaled.{Scaled}

@@ -5,7 +5,6 @@ use Prim.Native.Nat.{ℕ}
 use native.Mathlib.Omega.{arith}
 use borrow.Author.Tests.{not-true, not-false}
 use borrow.Author.Needs.{needs}
-use Rattle.buffers.specs.Refusal.{replyOf}
 use Rattle.buffers.specs.Lent.{filled}
 use Rattle.roll_sweep.specs.Sweep.{Sweep, cells, chunks}
 use Rattle.journal.specs.Right.{wholeLines, torn}
@@ -33,26 +32,25 @@ enum-told : tie.Need-enum-told
 enum-told c = search needs
 
 returns : tie.Need-returns
-unfolding replyOf
 returns c =
     let x = c .before .before .before .before .before .before .before .before .before .before in
     let a = x .args in
     let b = a .journal .now in
-    λ s p. collect-refused s b (a .used) (a .mask .now) 11 (omega arith) (collect-11 s b (a .used) (a .mask .now) (p .plan)
-    (wrong-of s (a .cells) (a .n) (a .header .now) b (a .used) _ p (told-wrong _ _ (sym (c .before .before .before .before .check-journal .ensures .0) ∙ c .enum-told .given .1))))
+    λ s p. collect-refused s b (a .used) (a .mask .now) 11 (sym (collect-11 s b (a .used) (a .mask .now) (p .plan)
+    (wrong-of s (a .cells) (a .n) (a .header .now) b (a .used) _ p (told-wrong _ _ (sym (c .before .before .before .before .check-journal .ensures .0) ∙ c .enum-told .given .1))))) (λ z. omega arith)
 
 is-torn-requires : tie.Need-is-torn-requires
 is-torn-requires c κs = search needs
 
 returns-2 : tie.Need-returns-2
-unfolding replyOf
 returns-2 c =
     let x = c .before .before .before .before .before .before .before .before .before .before .before .before .before in
     let a = x .args in
     let b = a .journal .now in
     let r = told-right _ _ _ (sym (c .before .before .before .before .before .before .before .check-journal .ensures .0) ∙ c .before .before .before .probes .given .1) in
     let tables = c .before .before .before .before .before .before .before .check-journal .ensures .1 (r .0) in
-    λ s p. collect-refused s b (a .used) (a .mask .now) 12 (omega arith) (collect-12 s b (a .used) (a .mask .now) (p .plan) (wrong-of s (a .cells) (a .n) (a .header .now) b (a .used) _ p (r .0)) (sym (c .before .is-torn .ensures) ∙ c .if1 .taken))
+    λ s p. collect-refused s b (a .used) (a .mask .now) 12 (sym (collect-12 s b (a .used) (a .mask .now) (p .plan) (wrong-of s (a .cells) (a .n) (a .header .now) b (a .used) _ p (r .0)) (sym (c .before .is-torn .ensures) ∙ c .if1 .taken))
+    ) (λ z. omega arith)
 
 slice-aggregate-all-seen : tie.Need-slice-aggregate-all-seen
 slice-aggregate-all-seen c = search needs
@@ -64,7 +62,7 @@ all-seen-requires : tie.Need-all-seen-requires
 all-seen-requires c κs = search needs
 
 returns-3 : tie.Need-returns-3
-unfolding replyOf chunks
+unfolding chunks
 returns-3 c =
     let x = c .before .before .before .before .before .before .before .before .before .before .before .before .before .before .before .before in
     let a = x .args in
@@ -76,10 +74,10 @@ returns-3 c =
     sym (all-have-lines b _ _ (wholeLines (a .used)) tables (chunks (a .cells)) (omega (arith, x .pre .1))) ∙ sym (c .before .all-seen .ensures) ∙ not-true (c .before .all-seen .result) (c .if2 .taken) in
     let has : (s : Sweep) → cells s ≡ a .cells → hasChunks b (wholeLines (a .used)) (chunks (cells s)) ≡ false =
     λ s e. ap (λ (k : ℕ). hasChunks b (wholeLines (a .used)) (chunks k)) e ∙ v in
-    λ s p. collect-refused s b (a .used) (a .mask .now) 15 (omega arith) (collect-15 s b (a .used) (a .mask .now) (p .plan) (wrong-of s (a .cells) (a .n) (a .header .now) b (a .used) _ p (r .0)) m (has s (p .all)))
+    λ s p. collect-refused s b (a .used) (a .mask .now) 15 (sym (collect-15 s b (a .used) (a .mask .now) (p .plan) (wrong-of s (a .cells) (a .n) (a .header .now) b (a .used) _ p (r .0)) m (has s (p .all)))) (λ z. omega arith)
 
 returns-4 : tie.Need-returns-4
-unfolding replyOf chunks
+unfolding chunks
 returns-4 c =
     let x = c .before .before .before .before .before .before .before .before .before .before .before .before .before .before .before .before .before in
     let a = x .args in
@@ -91,7 +89,7 @@ returns-4 c =
     sym (all-have-lines b _ _ (wholeLines (a .used)) tables (chunks (a .cells)) (omega (arith, x .pre .1))) ∙ sym (c .before .before .all-seen .ensures) ∙ not-false (c .before .before .all-seen .result) (c .before .if2 .left) in
     let has : (s : Sweep) → cells s ≡ a .cells → hasChunks b (wholeLines (a .used)) (chunks (cells s)) ≡ true =
     λ s e. ap (λ (k : ℕ). hasChunks b (wholeLines (a .used)) (chunks k)) e ∙ v in
-    λ s p. collect-refused s b (a .used) (a .mask .now) 7 (omega arith) (collect-7 s b (a .used) (a .mask .now) (p .plan) (wrong-of s (a .cells) (a .n) (a .header .now) b (a .used) _ p (r .0)) m (has s (p .all)) (omega (arith, c .if3 .taken, p .all)))
+    λ s p. collect-refused s b (a .used) (a .mask .now) 7 (sym (collect-7 s b (a .used) (a .mask .now) (p .plan) (wrong-of s (a .cells) (a .n) (a .header .now) b (a .used) _ p (r .0)) m (has s (p .all)) (omega (arith, c .if3 .taken, p .all)))) (λ z. omega arith)
 
 slice-aggregate-write-cells : tie.Need-slice-aggregate-write-cells
 slice-aggregate-write-cells c = search needs
@@ -103,7 +101,7 @@ same-length : tie.Need-same-length
 same-length c = search needs
 
 returns-5 : tie.Need-returns-5
-unfolding replyOf chunks heldBit
+unfolding chunks heldBit
 returns-5 c =
     let x = c .before .before .before .before .before .before .before .before .before .before .before .before .before .before .before .before .before .before .before .before .before .before in
     let a = x .args in

@@ -2,7 +2,6 @@
 use mathlib.Core.Path.{sym, _∙_}
 use native.Mathlib.Omega.{arith}
 use borrow.Author.Needs.{needs}
-use Rattle.buffers.specs.Refusal.{replyOf}
 use Rattle.roll_sweep.specs.Sweep.{cells}
 use Rattle.journal.proofs.Chains.{wrong-of, recover-11, recover-0, recover-refused, recover-accepted}
 use Rattle.journal.proofs.Scan.{told-wrong, told-right}
@@ -28,7 +27,6 @@ enum-told-2 : tie.Need-enum-told-2
 enum-told-2 c = search needs
 
 returns : tie.Need-returns
-unfolding replyOf
 returns c =
     let x = c .before .before .before .before .before .before .before .before .before .before in
     let a = x .args in
@@ -38,13 +36,12 @@ returns c =
     λ s p. recover-accepted s b (a .used) _ (c .kept-length .ensures) (recover-0 s b (a .used) (p .plan) (wrong-of s (a .cells) (a .n) (a .header .now) b (a .used) _ p (r .0)))
 
 returns-2 : tie.Need-returns-2
-unfolding replyOf
 returns-2 c =
     let x = c .before .before .before .before .before .before .before .before .before in
     let a = x .args in
     let b = a .journal .now in
-    λ s p. recover-refused s b (a .used) 11 (omega arith) (recover-11 s b (a .used) (p .plan)
-    (wrong-of s (a .cells) (a .n) (a .header .now) b (a .used) _ p (told-wrong _ _ (sym (c .before .before .before .before .check-journal .ensures .0) ∙ c .enum-told2 .given .1))))
+    λ s p. recover-refused s b (a .used) 11 (sym (recover-11 s b (a .used) (p .plan)
+    (wrong-of s (a .cells) (a .n) (a .header .now) b (a .used) _ p (told-wrong _ _ (sym (c .before .before .before .before .check-journal .ensures .0) ∙ c .enum-told2 .given .1))))) (λ z. omega arith)
 
 pub recover-used-spec : {M : Type 1} → statement M
 recover-used-spec =

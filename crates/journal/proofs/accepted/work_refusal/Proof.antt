@@ -6,7 +6,7 @@ use native.Mathlib.Omega.{arith}
 use borrow.Author.Needs.{needs}
 use Rattle.roll_sweep.specs.Sweep.{Sweep, cells, chunks}
 use Rattle.journal.specs.Right.{wholeLines, torn, right}
-use Rattle.journal.specs.Pass.{Flags}
+use Rattle.journal.specs.Pass.{mostChunks, Flags}
 use Rattle.journal.proofs.Chains.{wrong-of, work-9, work-11, work-12, work-10, work-7, work-0}
 use Rattle.journal.proofs.Scan.{told-wrong, told-right, has-line, unseen}
 use Rattle.journal.proofs.accepted.work_refusal.Statement.{statement}
@@ -18,12 +18,12 @@ refuses k h e = absurd (omega arith)
 
 -- ---- what is known at the places of the code
 
--- the chunk exists, so it is one of 16384
+-- the chunk exists, so it is one of 16,384
 exists : (c : tie.Else1) (s : Sweep) → cells s ≡ c .before .before .before .before .args .cells → c .before .before .before .before .args .chunk < chunks (cells s)
 unfolding chunks
 exists c s e = omega (arith, c .if1 .left)
 
-within : (c : tie.Else1) → c .before .before .before .before .args .chunk < 16384
+within : (c : tie.Else1) → c .before .before .before .before .args .chunk < mostChunks
 within c = omega (arith, c .if1 .left, c .before .before .before .before .pre .1)
 
 -- the journal is right

@@ -4,8 +4,8 @@ use Prim.Native.Nat.{_+_, _*_}
 use lib.Dec.{eqb}
 use lib.ListN.{getD}
 use borrow.Author.Needs.{needs}
-use Rattle.journal.specs.Lines.{lineStart, chunkAt, maskAt, probesAt}
-use Rattle.journal.specs.Pass.{lineAt}
+use Rattle.journal.specs.Lines.{lineLength, headerLength, lineStart, chunkAt, maskAt, probesAt}
+use Rattle.journal.specs.Right.{lineAt}
 use Rattle.journal.proofs.line.read_line.Statement.{statement}
 use Rattle.journal.proofs.line.read_line.Tie as tie
 
@@ -45,7 +45,7 @@ returns c =
     let a = c .before .before .before .before .before .before .args in
     λ i.
     record {
-      framed = (c .before .before .before .before .are-digits .ensures i) && eqb (getD (a .journal .now) (107 + 33 * a .l + 32) 0) 10;
+      framed = (c .before .before .before .before .are-digits .ensures i) && eqb (getD (a .journal .now) (headerLength + lineLength * a .l + 32) 0) 10;
       chunk = c .before .before .hex-value .ensures i;
       mask = c .before .hex-value2 .ensures i;
       probes = c .hex-value3 .ensures i;

@@ -5,10 +5,10 @@ use Prim.Native.Nat.{ℕ, _-_, _≤_, _<_}
 use native.Mathlib.Omega.{arith}
 use borrow.Author.Tests.{not-true, not-false}
 use Rattle.journal.specs.Lines.{chunkAt, maskAt, probesAt, hasChunk, heldProbes}
-use Rattle.journal.specs.Right.{lineFits, linesRight}
-use Rattle.journal.specs.Pass.{lineAt, fits, Tables}
+use Rattle.journal.specs.Right.{lineAt, fits, lineFits, linesRight}
+use Rattle.journal.specs.Pass.{mostChunks, Tables}
 use Rattle.journal.specs.declared.line.Line.{Line}
-use Rattle.journal.proofs.Scan.{fits-read, fits-exists, chunks-le, lines-zero, lines-next, lines-unfit, lines-repeat, lines-few, probes-zero, probes-next, probes-lt, probes-fit, tables-zero, tables-next, unseen, has-line, is-wrong, is-right, blank-length}
+use Rattle.journal.proofs.Scan.{fits-exists, chunks-le, lines-zero, lines-next, lines-unfit, lines-repeat, lines-few, probes-zero, probes-next, probes-lt, probes-fit, tables-zero, tables-next, unseen, has-line, is-wrong, is-right, blank-length}
 use Rattle.journal.proofs.pass.check_lines.Statement.{statement}
 use Rattle.journal.proofs.pass.check_lines.Tie as tie
 
@@ -46,20 +46,18 @@ returns c =
     let a = c .before .before .before .before .before .before .before .before .args in
     let p = c .before .before .before .before .loop in
     let u : lineFits (a .cells) (a .n) (a .journal .now) (p .l) ≡ false =
-    sym (fits-read (a .cells) (a .n) (a .journal .now) (p .l))
-    ∙ ap (fits (a .cells) (a .n)) (sym (c .before .before .read-line .ensures))
+    ap (fits (a .cells) (a .n)) (sym (c .before .before .read-line .ensures))
     ∙ sym (c .before .line-fits .ensures)
     ∙ not-true (c .before .line-fits .result) (c .if1 .taken) in
     is-wrong _ _ _ (lines-unfit (a .cells) (a .n) (a .journal .now) (p .l) (a .lines) (omega arith) u)
 
--- the line fits, so its chunk is one of 16384
+-- the line fits, so its chunk is one of 16,384
 fitting : (c : tie.After-slice-known3 Inv-loop μ-loop) →
     lineFits (c .before .before .before .before .before .before .before .before .before .args .cells) (c .before .before .before .before .before .before .before .before .before .args .n) (c .before .before .before .before .before .before .before .before .before .args .journal .now) (c .before .before .before .before .before .loop .l) ≡ true
 fitting c =
     let a = c .before .before .before .before .before .before .before .before .before .args in
     let p = c .before .before .before .before .before .loop in
-    sym (fits-read (a .cells) (a .n) (a .journal .now) (p .l))
-    ∙ ap (fits (a .cells) (a .n)) (sym (c .before .before .before .read-line .ensures))
+    ap (fits (a .cells) (a .n)) (sym (c .before .before .before .read-line .ensures))
     ∙ sym (c .before .before .line-fits .ensures)
     ∙ not-false (c .before .before .line-fits .result) (c .before .if1 .left)
 
@@ -78,7 +76,7 @@ probes-read : (c : tie.After-slice-known3 Inv-loop μ-loop) →
 unfolding lineAt
 probes-read c = ap (λ (x : Line). x .probes) (c .before .before .before .read-line .ensures)
 
-within : (c : tie.After-slice-known3 Inv-loop μ-loop) → c .before .before .before .read-line .result .chunk < 16384
+within : (c : tie.After-slice-known3 Inv-loop μ-loop) → c .before .before .before .read-line .result .chunk < mostChunks
 within c =
     let s = c .before .before .before .before .before .before .before .before .before in
     let a = s .args in

@@ -7,7 +7,8 @@ use lib.Dec.{leb, ltb}
 use lib.Count.{ones}
 use borrow.Author.Tests.{lt-leb, le-leb, not-true, not-false}
 use borrow.Author.Needs.{needs}
-use Rattle.journal.proofs.Possible.{possible-at, marked-le, least-le, most-le, cells-le}
+use Rattle.roll_sweep.proofs.Chunks.{cells-le}
+use Rattle.journal.proofs.Possible.{possible-at, marked-le, least-le, most-le}
 use Rattle.journal.proofs.pass.is_possible.Statement.{statement}
 use Rattle.journal.proofs.pass.is_possible.Tie as tie
 

@@ -6,6 +6,7 @@ use borrow.Author.Tests.{lt-ltb, le-ltb}
 use borrow.Author.Needs.{needs}
 use Rattle.journal.specs.Right.{wholeLines}
 use Rattle.journal.specs.Calls.{kept}
+use Rattle.journal.specs.Lines.{lineLength, headerLength}
 use Rattle.journal.proofs.pass.kept_length.Statement.{statement}
 use Rattle.journal.proofs.pass.kept_length.Tie as tie
 
@@ -26,7 +27,7 @@ add-result c = omega (arith, c .whole-lines .ensures)
 
 returns-2 : tie.Need-returns-2
 unfolding kept
-returns-2 c = ap (λ (l : ℕ). 107 + 33 * l) (c .whole-lines .ensures) ∙ sym (simp (le-ltb _ _ (c .before .if1 .left)))
+returns-2 c = ap (λ (l : ℕ). headerLength + lineLength * l) (c .whole-lines .ensures) ∙ sym (simp (le-ltb _ _ (c .before .if1 .left)))
 
 pub kept-length-spec : {M : Type 1} → statement M
 kept-length-spec =

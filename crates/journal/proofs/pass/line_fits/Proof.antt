@@ -5,8 +5,7 @@ use lib.Dec.{ltb}
 use borrow.Author.Tests.{lt-ltb, le-ltb, not-true, not-false}
 use borrow.Author.Needs.{needs}
 use Rattle.roll_sweep.specs.Sweep.{chunks}
-use Rattle.journal.specs.Right.{possible}
-use Rattle.journal.specs.Pass.{fits}
+use Rattle.journal.specs.Right.{possible, fits}
 use Rattle.journal.proofs.pass.line_fits.Statement.{statement}
 use Rattle.journal.proofs.pass.line_fits.Tie as tie
 

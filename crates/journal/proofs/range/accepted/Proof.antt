@@ -1,6 +1,6 @@
 -- `journal::range::accepted` meets its contract. Assumes nothing.
 use borrow.Author.Needs.{needs}
-use Rattle.roll_sweep.proofs.Accepted.{answer-swept, answer-never}
+use Rattle.roll_sweep.proofs.ChunkFacts.{answer-swept, answer-never}
 use Rattle.journal.proofs.range.accepted.Statement.{statement}
 use Rattle.journal.proofs.range.accepted.Tie as tie
 

@@ -11,6 +11,7 @@ use Rattle.buffers.proofs.Ranges.{length-tab, tab-ext}
 use Rattle.buffers.proofs.Lent.{take-filled}
 use Rattle.solar_roll.specs.Vectors.{Vector}
 use Rattle.solar_roll.specs.Plan.{Plan, planOf, timesOf, sunAt}
+use Rattle.journal.specs.Plan.{tableTimes}
 use Rattle.journal.proofs.range.append_by_units.Statement.{statement}
 use Rattle.journal.proofs.range.append_by_units.Tie as tie
 
@@ -25,9 +26,9 @@ unfolding sunAt
 table c =
     let x = c .before .before .before .before .before .before .before .before in
     let p : Plan = plan x in
-    let blank = replicate 8784 (replicate 3 (ofBits binary64 0)) in
+    let blank = replicate tableTimes (replicate 3 (ofBits binary64 0)) in
     let F : ℕ → Vector = λ t. sunAt p (0 + t) in
-    let all : min (length blank) (timesOf p - 0) ≡ timesOf p = omega (arith, length-replicate {A = Vector} 8784 (replicate 3 (ofBits binary64 0)), x .pre .1) in
+    let all : min (length blank) (timesOf p - 0) ≡ timesOf p = omega (arith, length-replicate {A = Vector} tableTimes (replicate 3 (ofBits binary64 0)), x .pre .1) in
     ap (take (timesOf p)) (c .sun-units .ensures ∙ ap (λ (m : ℕ). filled m F blank) all)
     ∙ take-filled F (timesOf p) blank
     ∙ tab-ext (timesOf p) F (sunAt p) (λ t h. ap (sunAt p) (omega arith))

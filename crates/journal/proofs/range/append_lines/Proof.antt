@@ -5,7 +5,7 @@ use native.Mathlib.Omega.{arith}
 use lib.Ieee.{Float, binary64, ofBits}
 use lib.ListN.{length, take, replicate, length-replicate}
 use borrow.Author.Needs.{needs}
-use Rattle.solar_roll.specs.Plan.{Plan, planOf}
+use Rattle.solar_roll.specs.Plan.{mostSamples, Plan, planOf}
 use Rattle.roll_sweep.specs.Rolls.{evenRolls}
 use Rattle.roll_sweep.proofs.Even.{length-even, even-lent}
 use Rattle.journal.specs.Pass.{Ready}
@@ -27,7 +27,7 @@ known x = passed _ _ _ _ (x .pre .plan)
 even : (c : tie.After-even-rolls) → take (c .before .before .before .before .before .before .before .args .n) (c .even-rolls .last .1 .0) ≡ evenRolls (c .before .before .before .before .before .before .before .args .n)
 even c =
     let x = c .before .before .before .before .before .before .before in
-    ap (take (x .args .n)) (c .even-rolls .ensures) ∙ even-lent (x .args .n) (replicate 3600 (ofBits binary64 0)) (omega (arith, length-replicate {A = Float} 3600 (ofBits binary64 0), (known x) .most))
+    ap (take (x .args .n)) (c .even-rolls .ensures) ∙ even-lent (x .args .n) (replicate mostSamples (ofBits binary64 0)) (omega (arith, length-replicate {A = Float} mostSamples (ofBits binary64 0), (known x) .most))
 
 length-rolls : (c : tie.After-even-rolls) → length (take (c .before .before .before .before .before .before .before .args .n) (c .even-rolls .last .1 .0)) ≡ c .before .before .before .before .before .before .before .args .n
 length-rolls c = ap length (even c) ∙ length-even _

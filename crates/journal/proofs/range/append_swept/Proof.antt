@@ -9,11 +9,11 @@ use Rattle.buffers.specs.Lent.{put}
 use Rattle.solar_roll.specs.Plan.{planOf}
 use Rattle.roll_sweep.specs.Sweep.{cells, chunks}
 use Rattle.roll_sweep.specs.declared.chunk.Swept.{Swept}
-use Rattle.journal.specs.Lines.{lineText, lineOf}
+use Rattle.journal.specs.Lines.{lineLength, lineText, lineOf}
 use Rattle.journal.specs.Plan.{sweepOf, lentSweep}
 use Rattle.journal.specs.Range.{ranTo}
 use Rattle.journal.proofs.Scan.{chunks-le}
-use Rattle.journal.proofs.Written.{Accepted}
+use Rattle.journal.proofs.Written.{SweepFacts}
 use Rattle.journal.proofs.Along.{Along, isRefused, along-start, along-stop, along-end, next-exists, next-room, along-next}
 use Rattle.journal.proofs.Planned.{PlanPassed, passed, accepted-sweep}
 use Rattle.journal.proofs.range.append_swept.Statement.{statement}
@@ -34,7 +34,7 @@ Start = tie.Start Inv-loop μ-loop
 plan : (x : Start) → PlanPassed (planOf (x .args .targets .now) (x .args .suns .now) (x .args .observers .now) (x .args .config)) (length (x .args .rolls .now)) (length (x .args .journal .now)) (x .args .used)
 plan x = passed _ _ _ _ (x .pre .2 .plan)
 
-sweep : (x : Start) → Accepted (lentSweep (x .args .targets .now) (x .args .suns .now) (x .args .observers .now) (x .args .config) (length (x .args .rolls .now)))
+sweep : (x : Start) → SweepFacts (lentSweep (x .args .targets .now) (x .args .suns .now) (x .args .observers .now) (x .args .config) (length (x .args .rolls .now)))
 sweep x = accepted-sweep _ _ (length (x .args .journal .now)) (x .args .used) (x .pre .2 .plan)
 
 -- the test of the next chunk
@@ -45,7 +45,7 @@ unfolding sweepOf chunks
 told c t e = sym (c .is-refused .ensures) ∙ e
 
 -- there is room for its line
-room : (c : tie.Else1 Inv-loop μ-loop) → c .before .before .before .loop .at + 33 ≤ length (c .before .before .before .loop .journal)
+room : (c : tie.Else1 Inv-loop μ-loop) → c .before .before .before .loop .at + lineLength ≤ length (c .before .before .before .loop .journal)
 room c =
     let p = c .before .before .before .loop in
     let x = c .before .before .before .before .before .before .before .before .before .before in

@@ -1,14 +1,28 @@
 -- `journal::range::sweep_even` meets its contract. Assumes nothing.
-use mathlib.Core.Path.{_∙_}
+use mathlib.Core.Path.{_≡_, _∙_}
+use Prim.Native.Nat.{ℕ, _*_, _+_, _≤_}
+use native.Mathlib.Omega.{arith}
 use lib.ListN.{length}
 use borrow.Author.Needs.{needs}
-use Rattle.solar_roll.specs.Plan.{Plan, planOf}
-use Rattle.journal.proofs.Planned.{even-swept, even-swept-by}
+use Rattle.solar_roll.specs.Plan.{Plan, planOf, rowsOf, timesOf, sunAt}
+use Rattle.roll_sweep.proofs.ChunkFacts.{Held}
+use Rattle.journal.proofs.Planned.{chunk-held, swept-by-times, swept-by-cells}
 use Rattle.journal.proofs.range.sweep_even.Statement.{statement}
 use Rattle.journal.proofs.range.sweep_even.Tie as tie
 
-sweep-chunk-by-units-requires : tie.Need-sweep-chunk-by-units-requires
-sweep-chunk-by-units-requires c κs = search needs
+abbrev plan : tie.Start → Plan
+plan x = let a = x .args in planOf (a .targets .now) (a .suns .now) (a .observers .now) (a .config)
+
+-- the chunk's cells
+cells-held : (c : tie.After-cells-in) →
+    let x = c .before .before .before .before .before .before in
+    Held (rowsOf (plan x)) (timesOf (plan x)) (x .args .chunk) (c .cells-in .result)
+cells-held c =
+    let x = c .before .before .before .before .before .before in
+    chunk-held (plan x) (length (x .args .rolls .now)) (x .args .chunk) (x .pre .0) (x .pre .1) (x .pre .2) (x .pre .5) _ (x .pre .3) _ (c .cells-in .ensures)
+
+sweep-chunk-requires : tie.Need-sweep-chunk-requires
+sweep-chunk-requires c κs = search needs
 
 accepted-requires : tie.Need-accepted-requires
 accepted-requires c κs = search needs
@@ -16,32 +30,54 @@ accepted-requires c κs = search needs
 returns : tie.Need-returns
 returns c =
     let x = c .before .before .before .before .before .before .before in
-    let a = x .args in
-    let p : Plan = planOf (a .targets .now) (a .suns .now) (a .observers .now) (a .config) in
-    c .accepted .ensures _ (c .before .sweep-chunk-by-units .ensures
-    ∙ even-swept-by p (length (a .rolls .now)) (a .chunk) (x .pre .0) (x .pre .1) (x .pre .2) (x .pre .5) _ (x .pre .3) (a .units .now) (x .pre .4 (c .before .before .if1 .taken)))
+    let some = c .before .before .if1 .taken in
+    c .accepted .ensures _ (c .before .sweep-chunk .ensures
+    ∙ swept-by-times (plan x) (length (x .args .rolls .now)) (x .args .chunk) (x .pre .0) (x .pre .1) (x .pre .2) (x .pre .5) _ (x .pre .3) (x .args .units .now) some (x .pre .4 some))
 
-sweep-chunk-requires : tie.Need-sweep-chunk-requires
-sweep-chunk-requires c κs = search needs
+mul-cells-in : tie.Need-mul-cells-in
+mul-cells-in c = search needs
+
+cells-in-requires : tie.Need-cells-in-requires
+cells-in-requires c κs = search needs
+
+mul-chunk-units : tie.Need-mul-chunk-units
+mul-chunk-units c = omega (arith, cells-held c .within)
+
+chunk-units-requires : tie.Need-chunk-units-requires
+chunk-units-requires c κs =
+    let h = cells-held c in
+    (h .few, h .positive, omega (arith, h .within))
+
+slice-aggregate-sweep-chunk : tie.Need-slice-aggregate-sweep-chunk
+slice-aggregate-sweep-chunk c = search needs
+
+sweep-chunk-requires-2 : tie.Need-sweep-chunk-requires-2
+sweep-chunk-requires-2 c κs = search needs
 
 accepted-requires-2 : tie.Need-accepted-requires-2
 accepted-requires-2 c κs = search needs
 
 returns-2 : tie.Need-returns-2
+unfolding sunAt
 returns-2 c =
-    let x = c .before .before .before .before .before .before .before in
-    let a = x .args in
-    let p : Plan = planOf (a .targets .now) (a .suns .now) (a .observers .now) (a .config) in
-    c .accepted2 .ensures _ (c .before .sweep-chunk .ensures
-    ∙ even-swept p (length (a .rolls .now)) (a .chunk) (x .pre .0) (x .pre .1) (x .pre .2) (x .pre .5) _ (x .pre .3))
+    let x = c .before .before .before .before .before .before .before .before .before .before in
+    let units = c .before .before .before .chunk-units in
+    c .accepted2 .ensures _ (c .before .sweep-chunk2 .ensures
+    ∙ swept-by-cells (plan x) (length (x .args .rolls .now)) (x .args .chunk) (x .pre .0) (x .pre .1) (x .pre .2) (x .pre .5) _ (x .pre .3)
+    (units .result) _ (c .before .before .before .before .cells-in .ensures) (omega arith) (units .ensures))
 
 pub sweep-even-spec : {M : Type 1} → statement M
 sweep-even-spec =
     tie.close
     (tie.spec
-    sweep-chunk-by-units-requires
+    sweep-chunk-requires
     accepted-requires
     returns
-    sweep-chunk-requires
+    mul-cells-in
+    cells-in-requires
+    mul-chunk-units
+    chunk-units-requires
+    slice-aggregate-sweep-chunk
+    sweep-chunk-requires-2
     accepted-requires-2
     returns-2)

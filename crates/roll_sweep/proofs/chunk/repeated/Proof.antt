@@ -4,6 +4,7 @@ use native.Mathlib.Nat.{mul-le-mul}
 use native.Mathlib.Omega.{arith}
 use borrow.Author.Needs.{needs}
 use lib.Count.{ones-le}
+use Rattle.solar_roll.specs.Plan.{mostSamples}
 use Rattle.roll_sweep.proofs.chunk.repeated.Statement.{statement}
 use Rattle.roll_sweep.proofs.chunk.repeated.Tie as tie
 
@@ -18,13 +19,13 @@ cast-marked c =
 mul-t7 : tie.Need-mul-t7
 mul-t7 c =
     let l : c .before .args .one .mask < 2 ^ 64 = search needs in
-    let a : c .before .args .n - 1 ≤ 3600 = omega arith in
+    let a : c .before .args .n - 1 ≤ mostSamples = omega arith in
     record { fits = omega (arith, mul-le-mul a (ones-le 64 _ l)) }
 
 add-t8 : tie.Need-add-t8
 add-t8 c =
     let l : c .before .before .args .one .mask < 2 ^ 64 = search needs in
-    let a : c .before .before .args .n - 1 ≤ 3600 = omega arith in
+    let a : c .before .before .args .n - 1 ≤ mostSamples = omega arith in
     record { fits = omega (arith, mul-le-mul a (ones-le 64 _ l)) }
 
 returns : tie.Need-returns

@@ -10,8 +10,9 @@ use lib.ListN.{length, getD}
 use lib.Bits.{bitOr}
 use lib.Ieee.{Float, nan}
 use Rattle.solar_roll.specs.Vectors.{Vector}
+use Rattle.solar_roll.specs.Plan.{mostSamples}
 use Rattle.solar_roll.specs.declared.plan.SolarRollConfig.{SolarRollConfig}
-use Rattle.roll_sweep.specs.Chunk.{violatedAtRoll, sweptBy}
+use Rattle.roll_sweep.specs.Chunk.{violatesBy, sweptBy}
 use Rattle.roll_sweep.proofs.Swept.{Upto, upto-zero, upto-whole, upto-le, upto-part}
 use Rattle.roll_sweep.proofs.Cells.{row-swept}
 use Rattle.roll_sweep.proofs.chunk.sweep_cells.Statement.{statement}
@@ -19,7 +20,7 @@ use Rattle.roll_sweep.proofs.chunk.sweep_cells.Tie as tie
 
 -- the k-th cell is violated at roll s
 abbrev nth-violated : List Float → ℕ → List Vector → SolarRollConfig → List Float → ℕ → ℕ → ℕ → Bool
-nth-violated targets times units config rolls first k s = violatedAtRoll targets config ((first + k) / times) (getD units ((first + k) % length units) []) (getD rolls s nan)
+nth-violated targets times units config rolls first k s = violatesBy targets times units config (first + k) (getD rolls s nan)
 
 abbrev Inv-loop : tie.InvT-loop
 Inv-loop targets times units config rolls first cells panel mask₀ probes₀ k₀ mask probes k =
@@ -56,7 +57,6 @@ stepped : (c : tie.After-sweep-row Inv-loop μ-loop) →
     let m = c .before .before .before .before .before .smaller2 .result in
     Upto (length (a .rolls .now)) (nth-violated (a .targets .now) (a .times) (a .units .now) (a .config) (a .rolls .now) (a .first))
     (at .k + m) (bitOr (at .mask) ((c .sweep-row .result .mask * 2 ^ at .k) % 2 ^ 64)) (at .probes + c .sweep-row .result .probes)
-unfolding violatedAtRoll
 stepped c =
     let a = c .before .before .before .before .before .before .before .before .before .before .before .before .before .args in
     let at = c .before .before .before .before .before .before .before .before .loop in
@@ -153,7 +153,7 @@ add-probes c =
     let a = c .before .before .before .before .before .before .before .before .before .before .before .before .before .before .before .args in
     let h = part (c .before .before .before .before .before .before .before) in
     let u = stepped (c .before .before) in
-    let few : length (a .rolls .now) ≤ 3600 = c .before .before .before .before .before .before .before .before .before .before .before .before .before .before .before .pre .1 in
+    let few : length (a .rolls .now) ≤ mostSamples = c .before .before .before .before .before .before .before .before .before .before .before .before .before .before .before .pre .1 in
     record { fits = omega (arith, upto-le _ _ u, mul-le-mul (h .few) few) }
 
 add-k : tie.Need-add-k Inv-loop μ-loop

@@ -1,4 +1,4 @@
--- `sweep_chunk`: a chunk that is not refused has its cells in the plan. Assumes nothing.
+-- `sweep_chunk`: a chunk that is not refused has its cells among those of the rows and times. Assumes nothing.
 use Prim.Native.Nat.{ℕ, _+_, _*_, _^_, _<_}
 use mathlib.Core.Path.{_≡_, sym, ap, _∙_}
 use mathlib.Core.List.{List}
@@ -7,22 +7,21 @@ use borrow.Author.Needs.{needs}
 use lib.ListN.{length}
 use Rattle.buffers.specs.Refusal.{accepted}
 use Rattle.buffers.proofs.Refusal.{reply-none, reply-some}
-use Rattle.solar_roll.specs.Plan.{planOf, count, sunAt}
-use Rattle.roll_sweep.specs.Chunk.{cellViolated, sweptBy, chunkReply}
-use Rattle.roll_sweep.proofs.Accepted.{ChunkFacts, chunk-facts, Held, held, first-below}
-use Rattle.roll_sweep.proofs.Cells.{chunk-swept}
+use Rattle.solar_roll.specs.Plan.{count}
+use Rattle.roll_sweep.specs.Chunk.{violatesBy, sampleRoll, sweptBy, chunkReply}
+use Rattle.roll_sweep.proofs.ChunkFacts.{ChunkFacts, chunk-facts, Held, held, first-below}
 use Rattle.roll_sweep.proofs.chunk.sweep_chunk.Statement.{statement}
 use Rattle.roll_sweep.proofs.chunk.sweep_chunk.Tie as tie
 
 facts : (c : tie.Else1) →
-    let a = c .before .before .before .before .before .before .args in
-    ChunkFacts (count (a .targets .now)) (count (a .suns .now)) (length (a .rolls .now)) (a .chunk)
-facts c = chunk-facts _ _ _ _ (sym (c .before .chunk-refusal .ensures) ∙ c .if1 .left)
+    let a = c .before .before .before .before .args in
+    ChunkFacts (count (a .targets .now)) (a .times) (length (a .units .now)) (length (a .rolls .now)) (a .chunk)
+facts c = chunk-facts _ _ _ _ _ (sym (c .before .chunk-refusal .ensures) ∙ c .if1 .left)
 
 cells-held : (c : tie.After-cells-in) →
-    let a = c .before .before .before .before .before .before .before .args in
-    Held (count (a .targets .now)) (count (a .suns .now)) (a .chunk) (c .cells-in .result)
-cells-held c = held _ _ _ _ _ (facts (c .before)) (c .cells-in .ensures)
+    let a = c .before .before .before .before .before .args in
+    Held (count (a .targets .now)) (a .times) (a .chunk) (c .cells-in .result)
+cells-held c = held _ _ _ _ _ _ (facts (c .before)) (c .cells-in .ensures)
 
 chunk-refusal-requires : tie.Need-chunk-refusal-requires
 chunk-refusal-requires c κs = search needs
@@ -33,7 +32,7 @@ returns c = rw (← c .before .chunk-refusal .ensures) (sym (reply-some _ _ (ome
 
 mul-first : tie.Need-mul-first
 mul-first c =
-    let l : 64 * c .before .before .before .before .before .before .args .chunk < 2 ^ 64 = omega (arith, first-below (facts c), facts c .few-cells) in
+    let l : 64 * c .before .before .before .before .args .chunk < 2 ^ 64 = omega (arith, first-below (facts c), facts c .few-cells) in
     record { fits = l }
 
 mul-cells-in : tie.Need-mul-cells-in
@@ -42,30 +41,19 @@ mul-cells-in c = record { fits = omega (arith, facts c .few-cells) }
 cells-in-requires : tie.Need-cells-in-requires
 cells-in-requires c κs = search needs
 
-chunk-units-requires : tie.Need-chunk-units-requires
-chunk-units-requires c κs =
-    let h = cells-held c in
-    (h .few, h .positive, omega (arith, h .within))
-
-slice-aggregate-sweep-samples : tie.Need-slice-aggregate-sweep-samples
-slice-aggregate-sweep-samples c = search needs
-
 sweep-samples-requires : tie.Need-sweep-samples-requires
 sweep-samples-requires c κs =
-    let f = facts (c .before .before .before) in
-    let h = cells-held (c .before .before) in
-    (h .few, f .most, h .positive, f .few-times, omega arith, h .within, f .one)
+    let f = facts (c .before) in
+    let h = cells-held c in
+    (h .few, f .most, h .positive, f .few-times, f .some-unit, h .within, f .one)
 
 returns-2 : tie.Need-returns-2
-unfolding chunkReply sunAt
+unfolding chunkReply
 returns-2 c =
-    let a = c .before .before .before .before .before .before .before .before .before .before .args in
-    let p = planOf (a .targets .now) (a .suns .now) (a .observers .now) (a .config) in
-    let h = cells-held (c .before .before .before) in
-    sym (reply-none _ _ (sym (c .before .before .before .before .before .chunk-refusal .ensures) ∙ c .before .before .before .before .if1 .left)
+    let a = c .before .before .before .before .before .before .args in
+    sym (reply-none _ _ (sym (c .before .before .before .chunk-refusal .ensures) ∙ c .before .before .if1 .left)
     ∙ ap accepted (sym (c .sweep-samples .ensures
-    ∙ chunk-swept p (a .rolls .now) (c .before .before .chunk-units .result) (a .chunk) _ (h .few) (omega arith) (c .before .before .chunk-units .ensures)
-    ∙ ap (λ (w : ℕ). sweptBy w (length (a .rolls .now)) (λ k. cellViolated p (a .rolls .now) (64 * a .chunk + k))) (h .whole))))
+    ∙ ap (λ (w : ℕ). sweptBy w (length (a .rolls .now)) (λ k s. violatesBy (a .targets .now) (a .times) (a .units .now) (a .config) (64 * a .chunk + k) (sampleRoll (a .rolls .now) (a .config .«roll_deg») s))) (cells-held (c .before) .whole))))
 
 pub sweep-chunk-spec : {M : Type 1} → statement M
 sweep-chunk-spec =
@@ -76,7 +64,5 @@ sweep-chunk-spec =
     mul-first
     mul-cells-in
     cells-in-requires
-    chunk-units-requires
-    slice-aggregate-sweep-samples
     sweep-samples-requires
     returns-2)

@@ -15,6 +15,7 @@ use Rattle.buffers.proofs.Ranges.{all-zero, all-next}
 use Rattle.solar_roll.specs.Vectors.{Vector}
 use Rattle.solar_roll.specs.Roll.{Axes, rollDegIn}
 use Rattle.solar_roll.specs.Cell.{rollIn, violates}
+use Rattle.solar_roll.specs.Plan.{mostSamples}
 use Rattle.solar_roll.specs.declared.roll.Panel.{Panel}
 use Rattle.roll_sweep.proofs.Swept.{Upto, upto-zero, upto-whole, upto-le, upto-clear, upto-marked}
 use Rattle.roll_sweep.proofs.chunk.sweep_row.Statement.{statement}
@@ -91,7 +92,7 @@ add-probes c =
     let out = c .before .before .before .before .before .cells in
     let a = c .before .before .before .before .before .before .before .before .before .before .args in
     let k64 : out .k ≤ 64 = omega arith in
-    let few : length (a .rolls .now) ≤ 3600 = omega arith in
+    let few : length (a .rolls .now) ≤ mostSamples = omega arith in
     record { fits = omega (arith, upto-le _ _ (out .inv .2), mul-le-mul k64 few) }
 
 mul-roll : tie.Need-mul-roll Inv-rolls μ-rolls Inv-cells μ-cells

@@ -1,28 +1,22 @@
 -- `sweep_samples`: a configured roll, tried once, decides for every sample. Assumes nothing.
-use Prim.Native.Nat.{ℕ, _+_, _/_, _%_}
-use mathlib.Core.Path.{_≡_, sym, _∙_}
+use Prim.Native.Nat.{ℕ, _+_}
+use mathlib.Core.Path.{sym, ap, _∙_}
 use mathlib.Core.Bool.{Bool}
 use mathlib.Core.List.{List, [], _∷_}
 use borrow.Author.Needs.{needs}
 use lib.ListN.{length, getD}
 use lib.Ieee.{Float, nan}
-use Rattle.roll_sweep.specs.Chunk.{violatedAtRoll, violatedIn}
+use Rattle.roll_sweep.specs.Chunk.{violatesBy, sampleRoll}
 use Rattle.roll_sweep.proofs.Swept.{swept-ext, swept-same, one-each}
 use Rattle.roll_sweep.proofs.Cells.{configured-same, unconfigured}
 use Rattle.roll_sweep.proofs.chunk.sweep_samples.Statement.{statement}
 use Rattle.roll_sweep.proofs.chunk.sweep_samples.Tie as tie
 
--- sample s violates the k-th cell
-abbrev nth-violated : tie.Start → ℕ → ℕ → Bool
+-- the k-th cell is violated at a roll
+abbrev nth-violated : tie.Start → ℕ → Float → Bool
 nth-violated x k =
     let a = x .args in
-    violatedIn (a .targets .now) (a .config) (a .rolls .now) ((a .first + k) / a .times) (getD (a .units .now) ((a .first + k) % length (a .units .now)) [])
-
--- it is violated at roll s of a list
-abbrev at-roll : tie.Start → List Float → ℕ → ℕ → Bool
-at-roll x rolls k s =
-    let a = x .args in
-    violatedAtRoll (a .targets .now) (a .config) ((a .first + k) / a .times) (getD (a .units .now) ((a .first + k) % length (a .units .now)) []) (getD rolls s nan)
+    violatesBy (a .targets .now) (a .times) (a .units .now) (a .config) (a .first + k)
 
 enum-told : tie.Need-enum-told
 enum-told c = search needs
@@ -47,16 +41,20 @@ repeated-requires c κs =
 returns : tie.Need-returns
 returns c =
     let x = c .before .before .before .before .before in
+    let rolls = x .args .rolls .now in
     c .sweep-cells .ensures
-    ∙ swept-ext (x .args .cells) (length (x .args .rolls .now)) (at-roll x (x .args .rolls .now)) (nth-violated x)
-    (λ k s h g. sym (unconfigured (x .args .targets .now) (x .args .config) (x .args .rolls .now) _ _ s (c .before .enum-told .given .1)))
+    ∙ swept-ext (x .args .cells) (length rolls) (λ k s. nth-violated x k (getD rolls s nan)) (λ k s. nth-violated x k (sampleRoll rolls (x .args .config .«roll_deg») s))
+    (λ k s h g. ap (nth-violated x k) (sym (unconfigured (x .args .config .«roll_deg») rolls s (c .before .enum-told .given .1))))
 
 returns-2 : tie.Need-returns-2
 returns-2 c =
     let x = c .before .before .before .before .before .before .before .before in
+    let rolls = x .args .rolls .now in
     let roll = c .before .before .before .before .configured .given .0 .0 in
-    swept-same (x .args .cells) (length (x .args .rolls .now)) (nth-violated x) (at-roll x (roll ∷ [])) (c .before .sweep-cells2 .result) (c .repeated .result) (x .pre .6)
-    (λ k s. configured-same (x .args .targets .now) (x .args .config) roll (x .args .rolls .now) _ _ s (c .before .before .before .before .configured .given .1))
+    swept-same (x .args .cells) (length rolls)
+    (λ k s. nth-violated x k (sampleRoll rolls (x .args .config .«roll_deg») s)) (λ k s. nth-violated x k (getD (roll ∷ []) s nan))
+    (c .before .sweep-cells2 .result) (c .repeated .result) (x .pre .6)
+    (λ k s. ap (nth-violated x k) (configured-same (x .args .config .«roll_deg») roll rolls s (c .before .before .before .before .configured .given .1)))
     (c .before .sweep-cells2 .ensures) (c .repeated .ensures .0) (c .repeated .ensures .1)
 
 pub sweep-samples-spec : {M : Type 1} → statement M

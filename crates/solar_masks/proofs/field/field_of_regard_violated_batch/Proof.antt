@@ -1,10 +1,10 @@
 use Prim.Native.Nat.{ℕ}
 use Rattle.buffers.proofs.Refusal.{refused-leaves, accepted-leaves}
 use Rattle.buffers.specs.Lent.{filled}
-use Rattle.solar_masks.proofs.Calls.{few-samples, field-sampling, field-room}
+use Rattle.solar_masks.proofs.Calls.{few-samples, field-said, field-room}
 use Rattle.solar_masks.specs.Field.{fieldRefusal, fieldReply, fieldAfter}
 use Rattle.solar_masks.specs.Mask.{markAt}
-use Rattle.solar_roll.specs.Plan.{Plan, planOf, rowsOf, planConfigured, samplingOrNone}
+use Rattle.solar_roll.specs.Plan.{Plan, planOf, rowsOf, planConfigured, samplesOrNoneRefusal}
 use Rattle.solar_masks.specs.declared.mask.MarkRule.{MarkRule}
 use borrow.Author.Needs.{needs}
 use denote.Ref.{now}
@@ -20,11 +20,11 @@ Start-of c = c .before .before .before .before .before .before
 abbrev plan : tie.After-field-refusal → Plan
 plan c = let a = Start-of c .args in planOf (now (a .targets)) (now (a .suns)) (now (a .observers)) (a .config)
 
-refusal : (c : tie.After-field-refusal) → c .field-refusal .result ≡ fieldRefusal (plan c) (samplingOrNone (Start-of c .args .n)) (Start-of c .args .time) (length (now (Start-of c .args .mask)))
-refusal c = c .field-refusal .ensures ∙ ap (λ (s : ℕ). fieldRefusal (plan c) s (Start-of c .args .time) (length (now (Start-of c .args .mask)))) (c .before .sampling-or-none .ensures)
+refusal : (c : tie.After-field-refusal) → c .field-refusal .result ≡ fieldRefusal (plan c) (samplesOrNoneRefusal (Start-of c .args .n)) (Start-of c .args .time) (length (now (Start-of c .args .mask)))
+refusal c = c .field-refusal .ensures ∙ ap (λ (s : ℕ). fieldRefusal (plan c) s (Start-of c .args .time) (length (now (Start-of c .args .mask)))) (c .before .samples-or-none-refusal .ensures)
 
-sampling-or-none-requires : tie.Need-sampling-or-none-requires
-sampling-or-none-requires c κs = search needs
+samples-or-none-refusal-requires : tie.Need-samples-or-none-refusal-requires
+samples-or-none-refusal-requires c κs = search needs
 
 field-refusal-requires : tie.Need-field-refusal-requires
 field-refusal-requires c κs = search needs
@@ -36,7 +36,7 @@ returns c =
     refused-leaves k _ 0 _ _ (refusal (c .before)) (c .if1 .taken)
 
 at-every-roll-requires : tie.Need-at-every-roll-requires
-at-every-roll-requires c κs = few-samples _ (field-sampling (plan (c .before)) _ _ _ (sym (refusal (c .before)) ∙ c .if1 .left))
+at-every-roll-requires c κs = few-samples _ (field-said (plan (c .before)) _ _ _ (sym (refusal (c .before)) ∙ c .if1 .left))
 
 mark-column-requires : tie.Need-mark-column-requires
 mark-column-requires c κs = let i = c .before .before in field-room (plan (i .before)) _ _ _ (sym (refusal (i .before)) ∙ i .if1 .left)
@@ -58,7 +58,7 @@ pub field-of-regard-violated-batch-spec : {M : Type 1} → statement M
 field-of-regard-violated-batch-spec =
     tie.close
     (tie.spec
-    sampling-or-none-requires
+    samples-or-none-refusal-requires
     field-refusal-requires
     returns
     at-every-roll-requires

@@ -2,7 +2,7 @@ use Prim.Native.Nat.{ℕ, _-_, _≤_, _<_}
 use Rattle.buffers.proofs.Lent.{filled-zero, length-filled, filled-next}
 use Rattle.buffers.specs.Lent.{filled}
 use Rattle.solar_masks.proofs.Shared.{mark-shared}
-use Rattle.solar_masks.specs.Mask.{marked, markAt}
+use Rattle.solar_masks.specs.Mask.{markedBy, markAt}
 use Rattle.solar_roll.specs.Plan.{Plan, planOf, rowsOf, sunAt, planPanel}
 use Rattle.solar_roll.specs.Roll.{sunUnit, bodyAxes}
 use Rattle.buffers.specs.Ranges.{flag}
@@ -84,7 +84,7 @@ loop-again c =
     let unit = o .before .sun-unit .ensures ∙ ap₂ sunUnit (o .before .before .before .triple .ensures) (o .before .before .triple2 .ensures) in
     let axes = c .before .before .before .body-axes .ensures ∙ ap bodyAxes (c .before .before .before .before .direction .ensures) in
     let settings = ap (λ (s : SolarRollConfig). s .«tolerance_deg») (c .before .before .row-config .ensures) in
-    let v = c .mark-byte .ensures ∙ ap (λ (l : CellRoll). flag (marked l (Start-of o .args .rule) (c .before .before .row-config .result .«tolerance_deg»))) (c .before .roll-in .ensures) ∙ mark-shared (plan o) r (Start-of o .args .time) _ _ _ axes unit (o .before .before .before .before .panel-of .ensures) (Start-of o .args .rule) _ settings in
+    let v = c .mark-byte .ensures ∙ ap (λ (l : CellRoll). flag (markedBy l (Start-of o .args .rule) (c .before .before .row-config .result .«tolerance_deg»))) (c .before .roll-in .ensures) ∙ mark-shared (plan o) r (Start-of o .args .time) _ _ _ axes unit (o .before .before .before .before .panel-of .ensures) (Start-of o .args .rule) _ settings in
     let h : r < length m = omega (arith, Start-of o .pre) in
     (omega arith, ap (λ (l : List ℕ). set l r (c .mark-byte .result)) (o .loop .inv .1) ∙ filled-next (F o) r m _ h v)
 

@@ -1,5 +1,5 @@
 use Rattle.buffers.specs.Refusal.{first, carried}
-use Rattle.solar_roll.proofs.Accepted.{plan-facts}
+use Rattle.solar_roll.proofs.PlanFacts.{plan-facts}
 use Rattle.solar_masks.specs.Mask.{cellsShort, cellsRefusal}
 use borrow.Author.Needs.{needs}
 use borrow.Author.Tests.{ne-eqb, lt-ltb, le-ltb}

@@ -2,7 +2,7 @@ use Rattle.buffers.proofs.Refusal.{refused-leaves, accepted-leaves}
 use Rattle.buffers.specs.Lent.{filled}
 use Rattle.solar_masks.proofs.Calls.{cells-facts, cells-room}
 use Rattle.solar_masks.specs.Mask.{cellMark, cellsRefusal, cellsReply, maskAfter}
-use Rattle.solar_roll.specs.Plan.{Plan, planOf, cells, planConfigured}
+use Rattle.solar_roll.specs.Plan.{Plan, planOf, cellsOf, planConfigured}
 use Rattle.solar_masks.specs.declared.mask.MarkRule.{MarkRule}
 use borrow.Author.Needs.{needs}
 use denote.Ref.{now}
@@ -49,7 +49,7 @@ returns-2 c =
     let k = i .before .cells-refusal .result in
     let p = plan (i .before) in
     let m = now (Start-of (i .before) .args .mask) in
-    let w = c .before .before .mark .ensures ∙ ap (λ (rule : MarkRule). filled (cells p) (cellMark p rule) m) (c .before .before .before .before .at-roll .ensures) in
+    let w = c .before .before .mark .ensures ∙ ap (λ (rule : MarkRule). filled (cellsOf p) (cellMark p rule) m) (c .before .before .before .before .at-roll .ensures) in
     accepted-leaves k _ 0 _ _ _ (refusal (i .before)) (i .if1 .left) w
 
 pub in-constraint-batch-at-roll-spec : {M : Type 1} → statement M

@@ -1,9 +1,9 @@
 use Prim.Native.Nat.{ℕ}
 use Rattle.buffers.proofs.Refusal.{refused-leaves, accepted-leaves}
 use Rattle.buffers.specs.Lent.{filled}
-use Rattle.solar_masks.proofs.Calls.{few-samples, cells-facts, cells-room, cells-sampling}
+use Rattle.solar_masks.proofs.Calls.{few-samples, cells-facts, cells-room, cells-said}
 use Rattle.solar_masks.specs.Mask.{cellMark, cellsRefusal, cellsReply, maskAfter}
-use Rattle.solar_roll.specs.Plan.{Plan, planOf, cells, planConfigured, samplingOrNone}
+use Rattle.solar_roll.specs.Plan.{Plan, planOf, cellsOf, planConfigured, samplesOrNoneRefusal}
 use Rattle.solar_masks.specs.declared.mask.MarkRule.{MarkRule}
 use borrow.Author.Needs.{needs}
 use denote.Ref.{now}
@@ -19,11 +19,11 @@ Start-of c = c .before .before .before .before .before .before
 abbrev plan : tie.After-cells-refusal → Plan
 plan c = let a = Start-of c .args in planOf (now (a .targets)) (now (a .suns)) (now (a .observers)) (a .config)
 
-refusal : (c : tie.After-cells-refusal) → c .cells-refusal .result ≡ cellsRefusal (plan c) (samplingOrNone (Start-of c .args .n)) (length (now (Start-of c .args .mask)))
-refusal c = c .cells-refusal .ensures ∙ ap (λ (s : ℕ). cellsRefusal (plan c) s (length (now (Start-of c .args .mask)))) (c .before .sampling-or-none .ensures)
+refusal : (c : tie.After-cells-refusal) → c .cells-refusal .result ≡ cellsRefusal (plan c) (samplesOrNoneRefusal (Start-of c .args .n)) (length (now (Start-of c .args .mask)))
+refusal c = c .cells-refusal .ensures ∙ ap (λ (s : ℕ). cellsRefusal (plan c) s (length (now (Start-of c .args .mask)))) (c .before .samples-or-none-refusal .ensures)
 
-sampling-or-none-requires : tie.Need-sampling-or-none-requires
-sampling-or-none-requires c κs = search needs
+samples-or-none-refusal-requires : tie.Need-samples-or-none-refusal-requires
+samples-or-none-refusal-requires c κs = search needs
 
 cells-refusal-requires : tie.Need-cells-refusal-requires
 cells-refusal-requires c κs = search needs
@@ -35,7 +35,7 @@ returns c =
     refused-leaves k _ 0 _ _ (refusal (c .before)) (c .if1 .taken)
 
 at-every-roll-requires : tie.Need-at-every-roll-requires
-at-every-roll-requires c κs = few-samples _ (cells-sampling (plan (c .before)) _ _ (sym (refusal (c .before)) ∙ c .if1 .left))
+at-every-roll-requires c κs = few-samples _ (cells-said (plan (c .before)) _ _ (sym (refusal (c .before)) ∙ c .if1 .left))
 
 mark-requires : tie.Need-mark-requires
 mark-requires c κs =
@@ -53,14 +53,14 @@ returns-2 c =
     let k = i .before .cells-refusal .result in
     let p = plan (i .before) in
     let m = now (Start-of (i .before) .args .mask) in
-    let w = c .before .before .mark .ensures ∙ ap (λ (rule : MarkRule). filled (cells p) (cellMark p rule) m) (c .before .before .before .before .at-every-roll .ensures) in
+    let w = c .before .before .mark .ensures ∙ ap (λ (rule : MarkRule). filled (cellsOf p) (cellMark p rule) m) (c .before .before .before .before .at-every-roll .ensures) in
     accepted-leaves k _ 0 _ _ _ (refusal (i .before)) (i .if1 .left) w
 
 pub in-constraint-batch-constrained-at-every-roll-spec : {M : Type 1} → statement M
 in-constraint-batch-constrained-at-every-roll-spec =
     tie.close
     (tie.spec
-    sampling-or-none-requires
+    samples-or-none-refusal-requires
     cells-refusal-requires
     returns
     at-every-roll-requires

@@ -2,11 +2,11 @@ use Prim.Native.Nat.{ℕ, _+_, _-_, _≤_, _<_}
 use Rattle.buffers.proofs.Rows.{columns-ext, columns-zero, columns-add, columns-all}
 use Rattle.buffers.specs.Ranges.{flag}
 use Rattle.buffers.specs.Lent.{filled}
-use Rattle.buffers.specs.Rows.{Columns}
+use Rattle.buffers.specs.Rows.{ColumnsWritten}
 use Rattle.solar_masks.proofs.Blocks.{Block, block-of, block-units}
 use Rattle.solar_masks.proofs.Shared.{mark-shared}
 use Rattle.solar_roll.specs.Cell.{rollIn}
-use Rattle.solar_masks.specs.Mask.{marked, markAt, cellMark}
+use Rattle.solar_masks.specs.Mask.{markedBy, markAt, cellMark}
 use Rattle.solar_roll.specs.Plan.{Plan, planOf, count, rowsOf, timesOf, directionOf, configOf, sunAt, planPanel}
 use Rattle.solar_roll.specs.Roll.{bodyAxes}
 use borrow.Author.Needs.{needs}
@@ -21,7 +21,7 @@ use Rattle.solar_masks.proofs.mask.mark.Statement.{statement}
 use Rattle.solar_masks.proofs.mask.mark.Tie as tie
 
 abbrev Inv-loop : tie.InvT-loop
-Inv-loop targets suns observers config rule mask₀ times panel units₀ from₀ mask units from = (from ≤ times) × (length units ≡ 2048) × Columns (count targets) times (count targets) 0 from (markAt (planOf targets suns observers config) rule) 0 mask₀ mask
+Inv-loop targets suns observers config rule mask₀ times panel units₀ from₀ mask units from = (from ≤ times) × (length units ≡ 2048) × ColumnsWritten (count targets) times (count targets) 0 from (markAt (planOf targets suns observers config) rule) 0 mask₀ mask
 
 abbrev μ-loop : tie.MeasureT-loop
 μ-loop targets suns observers config rule mask₀ times panel units₀ from₀ mask units from = times - from
@@ -88,7 +88,7 @@ loop-again c =
     let n = c .before .before .before .before .before .before .before .before .smaller .result in
     let units = c .before .before .before .before .before .before .sun-units .last .1 .1 .1 .0 in
     let new = c .before .before .mark-block .last .1 .1 .1 .1 .1 .1 .1 .1 .0 in
-    let G : ℕ → ℕ → ℕ = λ r j. flag (marked (rollIn (bodyAxes (directionOf p r)) (getD units (j - o .loop .from) []) (o .before .panel-of .result)) (a .rule) (configOf p r .«tolerance_deg»)) in
+    let G : ℕ → ℕ → ℕ = λ r j. flag (markedBy (rollIn (bodyAxes (directionOf p r)) (getD units (j - o .loop .from) []) (o .before .panel-of .result)) (a .rule) (configOf p r .«tolerance_deg»)) in
     let e : (r j : ℕ) → r < rowsOf p → o .loop .from ≤ j → j < o .loop .from + n → G r j ≡ F o r j = λ r j h l u.
     let q : o .loop .from + (j - o .loop .from) ≡ j = omega arith in
     mark-shared p r j (bodyAxes (directionOf p r)) (getD units (j - o .loop .from) []) (o .before .panel-of .result) refl
@@ -111,7 +111,7 @@ returns c =
     let p = plan o in
     let e : o .loop .from ≡ timesOf p = omega arith in
     columns-all (rowsOf p) (timesOf p) (F o) 0 (now (a .mask)) (o .loop .mask) (Start-of o .pre .0)
-    (subst (λ (n : ℕ). Columns (rowsOf p) (timesOf p) (rowsOf p) 0 n (F o) 0 (now (a .mask)) (o .loop .mask)) e (o .loop .inv .2))
+    (subst (λ (n : ℕ). ColumnsWritten (rowsOf p) (timesOf p) (rowsOf p) 0 n (F o) 0 (now (a .mask)) (o .loop .mask)) e (o .loop .inv .2))
 
 pub mark-spec : {M : Type 1} → statement M
 mark-spec =

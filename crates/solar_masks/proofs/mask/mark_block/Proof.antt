@@ -2,9 +2,9 @@ use Prim.Native.Nat.{ℕ, _+_, _-_, _*_, _≤_, _<_}
 use Rattle.buffers.proofs.Lent.{filled-part, part-lent}
 use Rattle.buffers.proofs.Rows.{columns-none, columns-row}
 use Rattle.buffers.specs.Ranges.{flag}
-use Rattle.buffers.specs.Rows.{Columns}
+use Rattle.buffers.specs.Rows.{ColumnsWritten}
 use Rattle.solar_roll.specs.Cell.{rollIn}
-use Rattle.solar_masks.specs.Mask.{marked}
+use Rattle.solar_masks.specs.Mask.{markedBy}
 use Rattle.solar_roll.specs.Plan.{count, rowDirection, rowConfig}
 use Rattle.solar_roll.specs.Roll.{bodyAxes}
 use borrow.Author.Needs.{needs}
@@ -18,7 +18,7 @@ use Rattle.solar_masks.proofs.mask.mark_block.Statement.{statement}
 use Rattle.solar_masks.proofs.mask.mark_block.Tie as tie
 
 abbrev Inv-loop : tie.InvT-loop
-Inv-loop targets config panel units times from count rule mask₀ rows row₀ mask row = (row ≤ rows) × Columns rows times row from count (λ r j. flag (marked (rollIn (bodyAxes (rowDirection targets r)) (getD units (j - from) []) panel) rule (rowConfig config r .«tolerance_deg»))) 0 mask₀ mask
+Inv-loop targets config panel units times from count rule mask₀ rows row₀ mask row = (row ≤ rows) × ColumnsWritten rows times row from count (λ r j. flag (markedBy (rollIn (bodyAxes (rowDirection targets r)) (getD units (j - from) []) panel) rule (rowConfig config r .«tolerance_deg»))) 0 mask₀ mask
 
 abbrev μ-loop : tie.MeasureT-loop
 μ-loop targets config panel units times from count rule mask₀ rows row₀ mask row = rows - row
@@ -33,7 +33,7 @@ rows o = count (now (Start-of o .args .targets))
 abbrev F : tie.At-loop Inv-loop μ-loop → ℕ → ℕ → ℕ
 F o r j =
     let a = Start-of o .args in
-    flag (marked (rollIn (bodyAxes (rowDirection (now (a .targets)) r)) (getD (now (a .units)) (j - a .from) []) (a .panel)) (a .rule) (rowConfig (a .config) r .«tolerance_deg»))
+    flag (markedBy (rollIn (bodyAxes (rowDirection (now (a .targets)) r)) (getD (now (a .units)) (j - a .from) []) (a .panel)) (a .rule) (rowConfig (a .config) r .«tolerance_deg»))
 
 room : (o : tie.At-loop Inv-loop μ-loop) → rows o * Start-of o .args .times ≤ length (o .loop .mask)
 room o = omega (arith, o .loop .inv .1 .same, Start-of o .pre .0)
@@ -88,13 +88,13 @@ loop-again c =
     let start = r * a .times + a .from in
     let axes = bodyAxes (c .before .before .before .before .before .direction .result) in
     let tolerance = c .before .before .before .before .row-config .result .«tolerance_deg» in
-    let g : ℕ → ℕ = λ t. flag (marked (rollIn axes (getD (now (a .units)) t []) (a .panel)) (a .rule) tolerance) in
+    let g : ℕ → ℕ = λ t. flag (markedBy (rollIn axes (getD (now (a .units)) t []) (a .panel)) (a .rule) tolerance) in
     let e : (t : ℕ) → t < a .count → g t ≡ F o r (a .from + t) =
     λ t l. let q : a .from + t - a .from ≡ t = omega arith in
     simp (c .before .before .before .before .before .direction .ensures, c .before .before .before .before .row-config .ensures, q) in
     let w = filled-part g start (a .count) m (c .before .before .mark-row .last .1 .1 .1 .1 .1 .1 .0) (c .before .before .mark-row .ensures) in (
       omega arith,
-      subst (λ (l : List ℕ). Columns (rows o) (a .times) (r + 1) (a .from) (a .count) (F o) 0 (now (a .mask)) l) (sym w)
+      subst (λ (l : List ℕ). ColumnsWritten (rows o) (a .times) (r + 1) (a .from) (a .count) (F o) 0 (now (a .mask)) l) (sym w)
           (columns-row (rows o) (a .times) (a .from) (a .count) (F o) 0 r g m (i .loop-test .taken) (Start-of o .pre .1) (room o) (now (a .mask)) e (o .loop .inv .1)),
     )
 
@@ -106,7 +106,7 @@ returns c =
     let o = c .before in
     let a = Start-of o .args in
     let e : o .loop .row ≡ rows o = omega arith in
-    subst (λ (n : ℕ). Columns (rows o) (a .times) n (a .from) (a .count) (F o) 0 (now (a .mask)) (o .loop .mask)) e (o .loop .inv .1)
+    subst (λ (n : ℕ). ColumnsWritten (rows o) (a .times) n (a .from) (a .count) (F o) 0 (now (a .mask)) (o .loop .mask)) e (o .loop .inv .1)
 
 pub mark-block-spec : {M : Type 1} → statement M
 mark-block-spec =

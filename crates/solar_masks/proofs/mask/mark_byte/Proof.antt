@@ -1,4 +1,4 @@
-use Rattle.solar_masks.specs.Mask.{marked}
+use Rattle.solar_masks.specs.Mask.{markedBy}
 use borrow.Author.Needs.{needs}
 use Rattle.solar_masks.proofs.mask.mark_byte.Statement.{statement}
 use Rattle.solar_masks.proofs.mask.mark_byte.Tie as tie
@@ -25,15 +25,15 @@ enum-told : tie.Need-enum-told
 enum-told c = search needs
 
 returns : tie.Need-returns
-unfolding marked
+unfolding markedBy
 returns c = simp (c .before .before .before .rule .given .1, c .byte .ensures, c .before .violated .ensures)
 
 returns-2 : tie.Need-returns-2
-unfolding marked
+unfolding markedBy
 returns-2 c = simp (c .before .before .before .rule2 .given .1, c .byte2 .ensures, c .before .misses-steps .ensures)
 
 returns-3 : tie.Need-returns-3
-unfolding marked
+unfolding markedBy
 returns-3 c = simp (c .enum-told .given .1)
 
 pub mark-byte-spec : {M : Type 1} → statement M

@@ -1,6 +1,6 @@
 -- `mark_cells`: the rolls are those of the cells; before cell k, the bytes of those before it stand. Assumes nothing.
-use Prim.Native.Nat.{ℕ, _-_, _≤_, _<_, min}
-use mathlib.Core.Path.{_≡_, refl, sym, ap, _∙_}
+use Prim.Native.Nat.{ℕ, _-_, _≤_, _<_}
+use mathlib.Core.Path.{_≡_, refl, ap, _∙_}
 use mathlib.Core.List.{List, []}
 use native.Mathlib.Omega.{arith}
 use borrow.Author.Needs.{needs}
@@ -12,14 +12,14 @@ use Rattle.buffers.specs.Lent.{filled}
 use Rattle.buffers.proofs.Lent.{filled-zero, filled-next, getD-filled}
 use Rattle.solar_roll.specs.Roll.{rollDegIn}
 use Rattle.solar_roll.specs.Cell.{rollIn}
-use Rattle.solar_masks.specs.Mask.{marked}
+use Rattle.solar_masks.specs.Mask.{markedBy}
 use Rattle.solar_masks.proofs.mask.mark_cells.Statement.{statement}
 use Rattle.solar_masks.proofs.mask.mark_cells.Tie as tie
 
 abbrev Inv-loop : tie.InvT-loop
 Inv-loop axes units panel rule tolerance-deg mask₀ rolls k₀ mask k =
     (k ≤ length units) × (length units ≤ length mask₀) × (length mask ≡ length mask₀) × ((t : ℕ) → t < length units → getD rolls t nan ≡ rollDegIn axes (getD units t []) (panel .angle))
-    × (mask ≡ filled k (λ t. flag (marked (rollIn axes (getD units t []) panel) rule tolerance-deg)) mask₀)
+    × (mask ≡ filled k (λ t. flag (markedBy (rollIn axes (getD units t []) panel) rule tolerance-deg)) mask₀)
 
 abbrev μ-loop : tie.MeasureT-loop
 μ-loop axes units panel rule tolerance-deg mask₀ rolls k₀ mask k = length units - k

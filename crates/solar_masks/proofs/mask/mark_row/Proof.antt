@@ -1,15 +1,14 @@
 -- `mark_row`: by tiles, or none marked. Assumes nothing.
-use mathlib.Core.Path.{_≡_, sym, ap, _∙_}
+use mathlib.Core.Path.{ap, _∙_}
 use mathlib.Core.List.{[]}
-use Prim.Native.Nat.{ℕ, _<_}
 use denote.Ref.{now}
 use lib.ListN.{getD}
 use Rattle.buffers.specs.Ranges.{flag}
 use Rattle.buffers.specs.Lent.{filled}
 use Rattle.buffers.proofs.Lent.{filled-ext}
-use Rattle.solar_roll.specs.Roll.{Axes, bodyAxes}
+use Rattle.solar_roll.specs.Roll.{Axes}
 use Rattle.solar_roll.specs.Cell.{rollIn}
-use Rattle.solar_masks.specs.Mask.{marked}
+use Rattle.solar_masks.specs.Mask.{markedBy}
 use borrow.Author.Needs.{needs}
 use Rattle.solar_masks.proofs.mask.mark_row.Statement.{statement}
 use Rattle.solar_masks.proofs.mask.mark_row.Tie as tie
@@ -43,7 +42,7 @@ returns c =
     let b = c .before .before .before .before .before .before in
     let a = b .before .before .args in
     c .before .before .mark-tiles .ensures
-    ∙ ap (λ (axes : Axes). filled (a .count) (λ j. flag (marked (rollIn axes (getD (now (a .units)) j []) (a .panel)) (a .rule) (a .tolerance-deg))) (now (a .mask))) (b .body-axes .ensures)
+    ∙ ap (λ (axes : Axes). filled (a .count) (λ j. flag (markedBy (rollIn axes (getD (now (a .units)) j []) (a .panel)) (a .rule) (a .tolerance-deg))) (now (a .mask))) (b .body-axes .ensures)
 
 same-length-2 : tie.Need-same-length-2
 same-length-2 c = search needs
@@ -53,13 +52,13 @@ returns-2 c =
     let b = c .before .before .before .before .before .before in
     let a = b .before .before .args in
     c .before .before .mark-tiles2 .ensures
-    ∙ ap (λ (axes : Axes). filled (a .count) (λ j. flag (marked (rollIn axes (getD (now (a .units)) j []) (a .panel)) (a .rule) (a .tolerance-deg))) (now (a .mask))) (b .body-axes .ensures)
+    ∙ ap (λ (axes : Axes). filled (a .count) (λ j. flag (markedBy (rollIn axes (getD (now (a .units)) j []) (a .panel)) (a .rule) (a .tolerance-deg))) (now (a .mask))) (b .body-axes .ensures)
 
 same-length-3 : tie.Need-same-length-3
 same-length-3 c = search needs
 
 returns-3 : tie.Need-returns-3
-unfolding marked
+unfolding markedBy
 returns-3 c = c .before .before .clear-cells .ensures ∙ filled-ext _ _ _ _ (λ k h. simp (c .before .before .before .before .enum-told3 .given .1))
 
 pub mark-row-spec : {M : Type 1} → statement M

@@ -1,17 +1,17 @@
 -- `mark_tiles`: before a tile, the bytes of the cells before it stand. Assumes nothing.
-use Prim.Native.Nat.{ℕ, _+_, _-_, _≤_, _<_, min}
-use mathlib.Core.Path.{_≡_, refl, sym, ap, _∙_}
-use mathlib.Core.List.{List, []}
+use Prim.Native.Nat.{ℕ, _+_, _-_, _≤_}
+use mathlib.Core.Path.{_≡_, refl, ap, _∙_}
+use mathlib.Core.List.{[]}
 use native.Mathlib.Omega.{arith}
 use borrow.Author.Needs.{needs}
 use denote.Ref.{now}
-use lib.ListN.{length, getD, take, drop, length-drop}
+use lib.ListN.{length, getD, take, drop}
 use Rattle.buffers.specs.Ranges.{flag}
 use Rattle.buffers.specs.Lent.{filled}
-use Rattle.buffers.proofs.Lent.{filled-zero, length-filled, part-lent}
+use Rattle.buffers.proofs.Lent.{filled-zero, length-filled}
 use Rattle.solar_roll.specs.Vectors.{Vector}
 use Rattle.solar_roll.specs.Cell.{rollIn}
-use Rattle.solar_masks.specs.Mask.{marked}
+use Rattle.solar_masks.specs.Mask.{markedBy}
 use Rattle.solar_masks.proofs.Tiles.{tile, length-tile, tile-next}
 use Rattle.solar_masks.proofs.mask.mark_tiles.Statement.{statement}
 use Rattle.solar_masks.proofs.mask.mark_tiles.Tie as tie
@@ -19,7 +19,7 @@ use Rattle.solar_masks.proofs.mask.mark_tiles.Tie as tie
 abbrev Inv-loop : tie.InvT-loop
 Inv-loop axes tolerance-deg panel units count rule mask₀ from₀ mask from =
     (from ≤ count) × (count ≤ length units) × (count ≤ length mask₀) × (length mask ≡ length mask₀)
-    × (mask ≡ filled from (λ j. flag (marked (rollIn axes (getD units j []) panel) rule tolerance-deg)) mask₀)
+    × (mask ≡ filled from (λ j. flag (markedBy (rollIn axes (getD units j []) panel) rule tolerance-deg)) mask₀)
 
 abbrev μ-loop : tie.MeasureT-loop
 μ-loop axes tolerance-deg panel units count rule mask₀ from₀ mask from = count - from
@@ -73,7 +73,7 @@ loop-again c =
     let m = at .mask in
     let n : at .from + w ≤ length (now (a .mask)) = omega (arith, t .smaller .ensures) in
     let k = length-tile (now (a .units)) (at .from) w (omega (arith, t .smaller .ensures)) in
-    let f : Vector → ℕ = λ u. flag (marked (rollIn (a .axes) u (a .panel)) (a .rule) (a .tolerance-deg)) in
+    let f : Vector → ℕ = λ u. flag (markedBy (rollIn (a .axes) u (a .panel)) (a .rule) (a .tolerance-deg)) in
     let p = c .before .before .mark-cells .ensures ∙ ap (λ (i : ℕ). filled i (λ j. f (getD (tile (now (a .units)) (at .from) w) j [])) (take (length m - at .from) (drop (at .from) m))) k in
     let e = tile-next (now (a .units)) (at .from) w f [] (now (a .mask)) m _ (at .inv .4) n p in
     (omega (arith, t .smaller .ensures), at .inv .1, at .inv .2, ap length e ∙ length-filled _ _ _ n, e)

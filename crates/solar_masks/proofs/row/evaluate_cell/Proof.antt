@@ -1,4 +1,4 @@
-use Rattle.solar_masks.specs.Mask.{marked, atConfigured}
+use Rattle.solar_masks.specs.Mask.{markedBy, atConfigured}
 use Rattle.solar_masks.specs.Row.{severity}
 use borrow.Author.Needs.{needs}
 use mathlib.Core.Path.{refl}
@@ -21,11 +21,11 @@ evaluate-at-requires : tie.Need-evaluate-at-requires
 evaluate-at-requires c κs = search needs
 
 returns : tie.Need-returns
-unfolding marked atConfigured severity
+unfolding markedBy atConfigured severity
 returns c = simp (c .before .enum-told .given .1, c .clear .ensures .0, c .clear .ensures .1) (refl, refl)
 
 returns-2 : tie.Need-returns-2
-unfolding marked atConfigured severity
+unfolding markedBy atConfigured severity
 returns-2 c = simp (c .before .before .before .configured .given .1, c .evaluate-at .ensures .0, c .evaluate-at .ensures .1, c .before .roll-in .ensures) (refl, refl)
 
 pub evaluate-cell-spec : {M : Type 1} → statement M

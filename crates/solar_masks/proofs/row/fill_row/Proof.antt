@@ -4,8 +4,8 @@ use Rattle.buffers.specs.Lent.{filled}
 use Rattle.buffers.specs.Ranges.{flag}
 use Rattle.solar_masks.proofs.Shared.{mark-shared, severity-shared}
 use Rattle.solar_roll.specs.Cell.{rollIn}
-use Rattle.solar_masks.specs.Mask.{marked, atConfigured, markAt}
-use Rattle.solar_roll.specs.Plan.{Plan, planOf, triple, timesOf, cells, sunAt, planPanel, planConfigured}
+use Rattle.solar_masks.specs.Mask.{markedBy, atConfigured, markAt}
+use Rattle.solar_roll.specs.Plan.{Plan, planOf, triple, timesOf, sunAt, planPanel, planConfigured}
 use Rattle.solar_roll.specs.Roll.{sunUnit, bodyAxes}
 use Rattle.solar_masks.specs.Row.{severity, severityAt}
 use Rattle.solar_roll.specs.Vectors.{Vector}
@@ -22,7 +22,7 @@ use Rattle.solar_masks.proofs.row.fill_row.Statement.{statement}
 use Rattle.solar_masks.proofs.row.fill_row.Tie as tie
 
 abbrev Inv-loop : tie.InvT-loop
-Inv-loop targets suns observers row mask₀ severities₀ axes tolerance configured panel times j₀ mask severities j = (j ≤ times) × (mask ≡ filled j (λ t. flag (marked (rollIn axes (sunUnit (triple suns t) (triple observers t)) panel) (atConfigured configured) tolerance)) mask₀) × (severities ≡ filled j (λ t. severity (rollIn axes (sunUnit (triple suns t) (triple observers t)) panel) configured tolerance) severities₀)
+Inv-loop targets suns observers row mask₀ severities₀ axes tolerance configured panel times j₀ mask severities j = (j ≤ times) × (mask ≡ filled j (λ t. flag (markedBy (rollIn axes (sunUnit (triple suns t) (triple observers t)) panel) (atConfigured configured) tolerance)) mask₀) × (severities ≡ filled j (λ t. severity (rollIn axes (sunUnit (triple suns t) (triple observers t)) panel) configured tolerance) severities₀)
 
 abbrev μ-loop : tie.MeasureT-loop
 μ-loop targets suns observers row mask₀ severities₀ axes tolerance configured panel times j₀ mask severities j = times - j
@@ -45,7 +45,7 @@ tolerance o = o .before .before .before .row-config .result .«tolerance_deg»
 
 -- the byte and the severity of each time
 abbrev M : tie.At-loop Inv-loop μ-loop → ℕ → ℕ
-M o t = flag (marked (cell o t) (atConfigured (Start-of o .args .config .«roll_deg»)) (tolerance o))
+M o t = flag (markedBy (cell o t) (atConfigured (Start-of o .args .config .«roll_deg»)) (tolerance o))
 
 abbrev S : tie.At-loop Inv-loop μ-loop → ℕ → Float
 S o t = severity (cell o t) (Start-of o .args .config .«roll_deg») (tolerance o)
@@ -105,7 +105,7 @@ loop-again c =
     let j = o .loop .j in
     let unit = c .before .sun-unit .ensures ∙ ap₂ sunUnit (c .before .before .before .triple .ensures) (c .before .before .triple2 .ensures) in
     let cells = ap (λ (u : Vector). rollIn (o .before .before .before .before .body-axes .result) u (o .before .panel-of .result)) unit in
-    let v = c .evaluate-cell .ensures .0 ∙ ap (λ (d : CellRoll). flag (marked d (atConfigured (a .config .«roll_deg»)) (tolerance o))) cells in
+    let v = c .evaluate-cell .ensures .0 ∙ ap (λ (d : CellRoll). flag (markedBy d (atConfigured (a .config .«roll_deg»)) (tolerance o))) cells in
     let w = c .evaluate-cell .ensures .1 ∙ ap (λ (d : CellRoll). severity d (a .config .«roll_deg») (tolerance o)) cells in
     let h : j < length (now (a .mask)) = omega (arith, Start-of o .pre .0) in
     let g : j < length (now (a .severities)) = omega (arith, Start-of o .pre .1) in (

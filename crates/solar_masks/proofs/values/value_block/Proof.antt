@@ -1,7 +1,7 @@
 use Prim.Native.Nat.{ℕ, _+_, _-_, _*_, _≤_, _<_}
 use Rattle.buffers.proofs.Lent.{filled-part, part-lent}
 use Rattle.buffers.proofs.Rows.{columns-none, columns-row}
-use Rattle.buffers.specs.Rows.{Columns}
+use Rattle.buffers.specs.Rows.{ColumnsWritten}
 use Rattle.float.specs.Arithmetic.{zero·0}
 use Rattle.solar_roll.specs.Plan.{count, rowDirection}
 use Rattle.solar_roll.specs.Roll.{bodyAxes, rollDegIn}
@@ -17,7 +17,7 @@ use Rattle.solar_masks.proofs.values.value_block.Statement.{statement}
 use Rattle.solar_masks.proofs.values.value_block.Tie as tie
 
 abbrev Inv-loop : tie.InvT-loop
-Inv-loop targets panel-angle units times from count values₀ rows row₀ values row = (row ≤ rows) × Columns rows times row from count (λ r j. rollDegIn (bodyAxes (rowDirection targets r)) (getD units (j - from) []) panel-angle) zero·0 values₀ values
+Inv-loop targets panel-angle units times from count values₀ rows row₀ values row = (row ≤ rows) × ColumnsWritten rows times row from count (λ r j. rollDegIn (bodyAxes (rowDirection targets r)) (getD units (j - from) []) panel-angle) zero·0 values₀ values
 
 abbrev μ-loop : tie.MeasureT-loop
 μ-loop targets panel-angle units times from count values₀ rows row₀ values row = rows - row
@@ -90,7 +90,7 @@ loop-again c =
     simp (c .before .before .before .before .direction .ensures, q) in
     let w = filled-part g start (a .count) m (c .before .before .value-row .last .1 .1 .1 .1 .0) (c .before .before .value-row .ensures) in (
       omega arith,
-      subst (λ (l : List Float). Columns (rows o) (a .times) (r + 1) (a .from) (a .count) (F o) zero·0 (now (a .values)) l) (sym w)
+      subst (λ (l : List Float). ColumnsWritten (rows o) (a .times) (r + 1) (a .from) (a .count) (F o) zero·0 (now (a .values)) l) (sym w)
           (columns-row (rows o) (a .times) (a .from) (a .count) (F o) zero·0 r g m (i .loop-test .taken) (Start-of o .pre .1) (room o) (now (a .values)) e (o .loop .inv .1)),
     )
 
@@ -102,7 +102,7 @@ returns c =
     let o = c .before in
     let a = Start-of o .args in
     let e : o .loop .row ≡ rows o = omega arith in
-    subst (λ (n : ℕ). Columns (rows o) (a .times) n (a .from) (a .count) (F o) zero·0 (now (a .values)) (o .loop .values)) e (o .loop .inv .1)
+    subst (λ (n : ℕ). ColumnsWritten (rows o) (a .times) n (a .from) (a .count) (F o) zero·0 (now (a .values)) (o .loop .values)) e (o .loop .inv .1)
 
 pub value-block-spec : {M : Type 1} → statement M
 value-block-spec =

@@ -1,12 +1,12 @@
 use Prim.Native.Nat.{ℕ, _+_, _-_, _≤_, _<_}
 use Rattle.buffers.proofs.Rows.{columns-ext, columns-zero, columns-add, columns-all}
 use Rattle.buffers.specs.Lent.{filled}
-use Rattle.buffers.specs.Rows.{Columns}
+use Rattle.buffers.specs.Rows.{ColumnsWritten}
 use Rattle.float.specs.Arithmetic.{zero·0}
 use Rattle.solar_masks.proofs.Blocks.{Block, block-of, block-units}
 use Rattle.solar_masks.proofs.Shared.{value-shared}
-use Rattle.solar_masks.specs.Mask.{valueAt, cellValue}
-use Rattle.solar_roll.specs.Plan.{Plan, planOf, count, triple, rowsOf, timesOf, rowDirection, directionOf, sunAt, planPanel}
+use Rattle.solar_masks.specs.Mask.{cellValue}
+use Rattle.solar_roll.specs.Plan.{Plan, planOf, count, triple, rowsOf, timesOf, rowDirection, directionOf, sunAt, optimalAt, planPanel}
 use Rattle.solar_roll.specs.Roll.{sunUnit, bodyAxes, rollDegIn}
 use Rattle.solar_roll.specs.Vectors.{Vector}
 use borrow.Author.Needs.{needs}
@@ -21,7 +21,7 @@ use Rattle.solar_masks.proofs.values.write_values.Statement.{statement}
 use Rattle.solar_masks.proofs.values.write_values.Tie as tie
 
 abbrev Inv-loop : tie.InvT-loop
-Inv-loop targets suns observers values₀ times angle units₀ from₀ values units from = (from ≤ times) × (length units ≡ 2048) × Columns (count targets) times (count targets) 0 from (λ r j. rollDegIn (bodyAxes (rowDirection targets r)) (sunUnit (triple suns j) (triple observers j)) angle) zero·0 values₀ values
+Inv-loop targets suns observers values₀ times angle units₀ from₀ values units from = (from ≤ times) × (length units ≡ 2048) × ColumnsWritten (count targets) times (count targets) 0 from (λ r j. rollDegIn (bodyAxes (rowDirection targets r)) (sunUnit (triple suns j) (triple observers j)) angle) zero·0 values₀ values
 
 abbrev μ-loop : tie.MeasureT-loop
 μ-loop targets suns observers values₀ times angle units₀ from₀ values units from = times - from
@@ -110,10 +110,10 @@ returns c =
     let a = Start-of o .args in
     let p = plan o in
     let e : o .loop .from ≡ timesOf p = omega arith in
-    columns-all (rowsOf p) (timesOf p) (valueAt p) zero·0 (now (a .values)) (o .loop .values) (Start-of o .pre .0)
-    (columns-ext (rowsOf p) (timesOf p) 0 (timesOf p) (F o) zero·0 (rowsOf p) (valueAt p) (now (a .values)) (o .loop .values)
+    columns-all (rowsOf p) (timesOf p) (optimalAt p) zero·0 (now (a .values)) (o .loop .values) (Start-of o .pre .0)
+    (columns-ext (rowsOf p) (timesOf p) 0 (timesOf p) (F o) zero·0 (rowsOf p) (optimalAt p) (now (a .values)) (o .loop .values)
     (λ r j h l u. value-shared p r j _ _ _ refl refl (o .before .panel-of .ensures))
-    (subst (λ (n : ℕ). Columns (rowsOf p) (timesOf p) (rowsOf p) 0 n (F o) zero·0 (now (a .values)) (o .loop .values)) e (o .loop .inv .2)))
+    (subst (λ (n : ℕ). ColumnsWritten (rowsOf p) (timesOf p) (rowsOf p) 0 n (F o) zero·0 (now (a .values)) (o .loop .values)) e (o .loop .inv .2)))
 
 pub write-values-spec : {M : Type 1} → statement M
 write-values-spec =

@@ -1,6 +1,6 @@
-use Rattle.buffers.specs.Refusal.{first, carried, reply}
+use Rattle.buffers.specs.Refusal.{first, reply}
 use Rattle.solar_roll.proofs.Cells.{answered}
-use Rattle.solar_roll.specs.Cell.{cellReply, directionRefusal, cellRefusal}
+use Rattle.solar_roll.specs.Cell.{cellReply, cellRefusal}
 use borrow.Author.Needs.{needs}
 use mathlib.Core.Path.{sym, _∙_}
 use Rattle.solar_roll.proofs.cell.cell_roll.Statement.{statement}
@@ -13,7 +13,7 @@ bad-position-requires : tie.Need-bad-position-requires
 bad-position-requires c κs = search needs
 
 returns : tie.Need-returns
-unfolding cellReply reply cellRefusal directionRefusal first carried
+unfolding cellReply reply cellRefusal first
 returns c =
     simp (sym (c .before .bad-position .ensures) ∙ c .if1 .taken)
 
@@ -24,7 +24,7 @@ bad-position-requires-2 : tie.Need-bad-position-requires-2
 bad-position-requires-2 c κs = search needs
 
 returns-2 : tie.Need-returns-2
-unfolding cellReply reply cellRefusal directionRefusal first carried
+unfolding cellReply reply cellRefusal first
 returns-2 c =
     simp (
       sym (c .before .bad-position2 .ensures) ∙ c .if2 .taken,
@@ -38,7 +38,7 @@ bad-direction-requires : tie.Need-bad-direction-requires
 bad-direction-requires c κs = search needs
 
 returns-3 : tie.Need-returns-3
-unfolding cellReply reply cellRefusal directionRefusal first carried
+unfolding cellReply reply cellRefusal first
 returns-3 c =
     simp (
       sym (c .before .bad-direction .ensures) ∙ c .if3 .taken,
@@ -53,7 +53,7 @@ bad-position-requires-3 : tie.Need-bad-position-requires-3
 bad-position-requires-3 c κs = search needs
 
 returns-4 : tie.Need-returns-4
-unfolding cellReply reply cellRefusal directionRefusal first carried
+unfolding cellReply reply cellRefusal first
 returns-4 c =
     simp (
       sym (c .before .bad-position3 .ensures) ∙ c .if4 .taken,
@@ -69,7 +69,7 @@ optimal-roll-requires : tie.Need-optimal-roll-requires
 optimal-roll-requires c κs = search needs
 
 returns-5 : tie.Need-returns-5
-unfolding cellReply reply cellRefusal directionRefusal first carried
+unfolding cellReply reply cellRefusal first
 returns-5 c =
     simp (
       sym (c .before .before .before .bad-position3 .ensures) ∙ c .before .before .if4 .left,

@@ -5,9 +5,8 @@ use mathlib.Core.Bool.{Bool, true, false, cond, not, true≢false}
 use Prim.Native.Nat.{ℕ, _*_, _^_}
 use native.Mathlib.Omega.{arith}
 use borrow.Author.Tests.{ltb-true}
-use lib.IntN.{pos}
 use lib.Dec.{T, lit<, lit≤}
-use lib.Ieee.{Float, nan, inf, fin, binary64, up, down, add, sub, neg, lt, isNan, ofBits, fits}
+use lib.Ieee.{Float, nan, inf, fin, binary64, up, down, add, sub, neg, lt, isNan, ofBits}
 use lib.Ieee.Fits.{sub-fits}
 use Rattle.float.specs.Arithmetic.{zero·0, halfTurn, fullTurn, absOf, remEuclid}
 use Rattle.float.proofs.Bounds.{Within, within-add, within-sub, weaken}

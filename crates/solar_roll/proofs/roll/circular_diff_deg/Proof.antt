@@ -7,7 +7,7 @@ arc-within-turn-requires : tie.Need-arc-within-turn-requires
 arc-within-turn-requires c κs = (c .before .if1 .taken, c .if2 .taken)
 
 returns : tie.Need-returns
-unfolding circularDiffDeg
+unfolding circularDiffDeg arc
 returns c = c .arc-within-turn .ensures
 
 rem-euclid-turn-requires : tie.Need-rem-euclid-turn-requires

@@ -12,8 +12,7 @@ use Rattle.buffers.proofs.Ranges.{length-tab, getD-tab}
 use Rattle.buffers.proofs.Lent.{filled-ext, filled-then, take-filled}
 use Rattle.float.specs.Arithmetic.{toDegrees}
 use Rattle.float.specs.Arctangent.{arctangent}
-use Rattle.solar_roll.specs.Vectors.{dot3}
-use Rattle.solar_roll.specs.Roll.{axis, rollDegIn}
+use Rattle.solar_roll.specs.Roll.{rollDegIn}
 use borrow.Author.Needs.{needs}
 use Rattle.solar_roll.proofs.roll.rolls_deg_in.Statement.{statement}
 use Rattle.solar_roll.proofs.roll.rolls_deg_in.Tie as tie

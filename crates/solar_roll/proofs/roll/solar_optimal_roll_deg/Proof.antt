@@ -1,4 +1,7 @@
-use Rattle.solar_roll.specs.Roll.{panelAngle, solarOptimalRollDeg}
+use mathlib.Core.Path.{ap₂, _∙_}
+use lib.Ieee.{Float}
+use Rattle.solar_roll.specs.Roll.{Axes, panelAngle, rollDegIn}
+use Rattle.solar_roll.proofs.Cells.{optimal-shared}
 use borrow.Author.Needs.{needs}
 use Rattle.solar_roll.proofs.roll.solar_optimal_roll_deg.Statement.{statement}
 use Rattle.solar_roll.proofs.roll.solar_optimal_roll_deg.Tie as tie
@@ -19,8 +22,11 @@ roll-deg-in-requires : tie.Need-roll-deg-in-requires
 roll-deg-in-requires c κs = search needs
 
 returns : tie.Need-returns
-unfolding solarOptimalRollDeg panelAngle
-returns c = cc
+unfolding panelAngle
+returns c =
+    c .roll-deg-in .ensures
+    ∙ ap₂ (λ (axes : Axes) (angle : Float). rollDegIn axes (c .before .before .before .args .sun-unit) angle) (c .before .body-axes .ensures) (c .before .before .atan2 .ensures)
+    ∙ optimal-shared _ _ _
 
 pub solar-optimal-roll-deg-spec : {M : Type 1} → statement M
 solar-optimal-roll-deg-spec =

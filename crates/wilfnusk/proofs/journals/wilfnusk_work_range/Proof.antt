@@ -18,7 +18,7 @@ returns : tie.Need-returns
 returns c =
     let call = c .before .before .before .work-range .ensures in
     let set = c .before .before .before .before .before .before .settings .ensures in
-    (simp (c .int64 .ensures, call .0, set), (simp (call .1, set), simp (call .2, set)))
+    (simp (c .int64 .ensures, call .0, set), simp (call .1, set), simp (call .2, set))
 
 pub wilfnusk-work-range-spec : {M : Type 1} → statement M
 wilfnusk-work-range-spec =

@@ -21,7 +21,7 @@ returns : tie.Need-returns
 returns c =
     let call = c .before .before .before .before .before .evaluate .ensures in
     let set = c .before .before .before .before .before .before .before .before .settings .ensures in
-    (simp (c .int64 .ensures, call .0, set), (simp (call .1 .0, set), simp (call .1 .1, set)))
+    (simp (c .int64 .ensures, call .0, set), simp (call .1 .0, set), simp (call .1 .1, set))
 
 pub wilfnusk-evaluate-spec : {M : Type 1} → statement M
 wilfnusk-evaluate-spec =

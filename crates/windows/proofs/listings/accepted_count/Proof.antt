@@ -1,6 +1,6 @@
 -- `windows::listings::accepted_count` meets its contract. Assumes nothing.
 use mathlib.Core.Path.{sym, ap}
-use Rattle.buffers.specs.Refusal.{Reply, replyOf}
+use Rattle.buffers.specs.Refusal.{replyOf}
 use Rattle.windows.specs.Steps.{countOf}
 use borrow.Author.Needs.{needs}
 use Rattle.windows.proofs.listings.accepted_count.Statement.{statement}

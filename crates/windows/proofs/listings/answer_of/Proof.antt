@@ -1,6 +1,6 @@
 -- `windows::listings::answer_of` meets its contract: each return is the number of the first condition that holds. Assumes nothing.
 use Prim.Native.Nat.{ℕ, _<_, _≤_}
-use mathlib.Core.Path.{_≡_, sym, _∙_, subst}
+use mathlib.Core.Path.{sym, _∙_, subst}
 use mathlib.Core.Bool.{Bool, _||_}
 use native.Mathlib.Omega.{arith}
 use lib.ListN.{length}
@@ -11,7 +11,6 @@ use Rattle.windows.specs.Refusal.{windowsRefusal}
 use Rattle.windows.specs.Steps.{runsLeft}
 use Rattle.buffers.proofs.Refusal.{refused-with, accepted-with}
 use Rattle.windows.proofs.Refusals.{refuses-1, refuses-2, refuses-8, refuses-14, refuses-7, accepts}
-use borrow.Author.Needs.{needs}
 use Rattle.windows.proofs.listings.answer_of.Statement.{statement}
 use Rattle.windows.proofs.listings.answer_of.Tie as tie
 

@@ -1,5 +1,5 @@
 -- `windows::listings::store` meets its contract. Assumes nothing.
-use mathlib.Core.Path.{_≡_, refl, ap}
+use mathlib.Core.Path.{_≡_}
 use Prim.Native.Nat.{ℕ}
 use lib.ListN.{set}
 use lib.IntN.{ℤ}

@@ -24,7 +24,7 @@ found : (c : tie.After-next-run Inv-loop μ-loop) → c .next-run .result .first
 found c =
     let i = c .before .before .loop .inv in
     let s = c .before .before .before .before .before .before .before .before .before in
-    next-found (s .args .listing) (s .args .mask .now) (s .args .times .now) (s .args .severities .now) _ _ _ (c .next-run .ensures) (some-left _ _ _ _ _ _ (i .1 .reached) (omega (arith, s .pre .0, c .before .loop-test .taken)))
+    next-found (s .args .listing) (s .args .mask .now) (s .args .times .now) (s .args .severities .now) _ _ _ (c .next-run .ensures) (some-left _ _ _ _ _ _ (i .1 .passed) (omega (arith, s .pre .0, c .before .loop-test .taken)))
 
 next : (c : tie.After-run-window Inv-loop μ-loop) →
     let n = c .before in
@@ -36,7 +36,7 @@ next c =
     next-is (s .args .listing) (s .args .mask .now) (s .args .times .now) (s .args .severities .now) _ _ _ _ (n .next-run .ensures) (found n) (c .run-window .ensures)
 
 next-run-requires : tie.Need-next-run-requires Inv-loop μ-loop
-next-run-requires c κs = c .before .loop .inv .1 .reached .in-row
+next-run-requires c κs = c .before .loop .inv .1 .passed .in-row
 
 sub-run-window : tie.Need-sub-run-window Inv-loop μ-loop
 sub-run-window c = omega (arith, found c)
@@ -101,7 +101,7 @@ returns c =
     let s = c .before .before .before .before .before .before .before .before in
     let i = c .before .loop .inv in
     let e : c .before .loop .k ≡ s .args .count = omega (arith, i .0, c .loop-test .left) in
-    i .1 .are ∙ ap (λ (k : ℕ). written (take k (windowsLeft (s .args .listing) (s .args .mask .now) (s .args .times .now) (s .args .severities .now) 0)) (columns (s .args .first .now) (s .args .last .now) (s .args .first-time .now) (s .args .last-time .now) (s .args .severity .now) (s .args .is-last .now))) e
+    i .1 .holds ∙ ap (λ (k : ℕ). written (take k (windowsLeft (s .args .listing) (s .args .mask .now) (s .args .times .now) (s .args .severities .now) 0)) (columns (s .args .first .now) (s .args .last .now) (s .args .first-time .now) (s .args .last-time .now) (s .args .severity .now) (s .args .is-last .now))) e
 
 pub store-windows-spec : {M : Type 1} → statement M
 store-windows-spec =

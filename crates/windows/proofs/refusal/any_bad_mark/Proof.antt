@@ -1,9 +1,9 @@
 -- `windows::refusal::any_bad_mark` meets its contract. The invariant: what is found, or is still to come, is in the whole mask. Assumes nothing.
-use Prim.Native.Nat.{_+_, _-_, _≤_}
-use mathlib.Core.Path.{_≡_, refl, sym, _∙_, ap}
+use Prim.Native.Nat.{_-_, _≤_}
+use mathlib.Core.Path.{_≡_, refl}
 use mathlib.Core.Bool.{_||_}
 use native.Mathlib.Omega.{arith}
-use lib.ListN.{length, getD, drop}
+use lib.ListN.{length, drop}
 use Rattle.buffers.specs.Ranges.{any}
 use Rattle.buffers.proofs.Ranges.{gather-hit, gather-miss, gather-end}
 use borrow.Author.Tests.{lt-ltb, le-ltb}

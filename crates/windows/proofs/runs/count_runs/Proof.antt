@@ -5,8 +5,8 @@ use mathlib.Core.Bool.{false}
 use mathlib.Core.List.{List}
 use native.Mathlib.Omega.{arith}
 use lib.ListN.{length}
-use Rattle.windows.specs.Runs.{are, starts}
-use Rattle.windows.specs.Steps.{runsLeft}
+use Rattle.windows.specs.Runs.{samplesAre}
+use Rattle.windows.specs.Steps.{starts, runsLeft}
 use Rattle.windows.specs.declared.Listing.{Listing}
 use Rattle.windows.specs.declared.Listing.the-variants.{Violations}
 use Rattle.windows.proofs.MaximalRuns.{violation-count, violation-bound}
@@ -16,9 +16,9 @@ use Rattle.windows.proofs.runs.count_runs.Statement.{statement}
 use Rattle.windows.proofs.runs.count_runs.Tie as tie
 
 -- each violation run has one start
-each-start : (l : Listing) (mask : List ℕ) (n : ℕ) → l ≡ Violations → n ≡ starts false (are 1 mask) → (n ≡ length (runsLeft l mask 0)) × (n ≤ length mask)
+each-start : (l : Listing) (mask : List ℕ) (n : ℕ) → l ≡ Violations → n ≡ starts false (samplesAre 1 mask) → (n ≡ length (runsLeft l mask 0)) × (n ≤ length mask)
 each-start l mask n e q =
-    let r : length (runsLeft l mask 0) ≡ starts false (are 1 mask) = ap (λ (k : Listing). length (runsLeft k mask 0)) e ∙ ap length (violations-left mask) ∙ violation-count mask in
+    let r : length (runsLeft l mask 0) ≡ starts false (samplesAre 1 mask) = ap (λ (k : Listing). length (runsLeft k mask 0)) e ∙ ap length (violations-left mask) ∙ violation-count mask in
     (q ∙ sym r, omega (arith, violation-count mask, violation-bound mask))
 
 enum-told : tie.Need-enum-told

@@ -7,18 +7,20 @@ use mathlib.Core.List.{List}
 use native.Mathlib.Omega.{arith}
 use lib.ListN.{length}
 use Rattle.buffers.specs.Ranges.{flag}
-use Rattle.windows.specs.Runs.{are, starts}
+use Rattle.windows.specs.Runs.{samplesAre}
+use Rattle.windows.specs.Refusal.{mostLent}
+use Rattle.windows.specs.Steps.{starts}
 use Rattle.windows.proofs.MaximalRuns.{violation-count, violation-bound}
-use Rattle.windows.proofs.NextRun.{at, startsLeft, starts-none, starts-first, starts-next, starts-end}
+use Rattle.windows.proofs.NextRun.{markedAt, startsLeft, starts-none, starts-first, starts-next, starts-end}
 use Rattle.windows.proofs.runs.count_starts.Statement.{statement}
 use Rattle.windows.proofs.runs.count_starts.Tie as tie
 
 -- at most every second sample starts a run
-few : (mask : List ℕ) → length mask ≤ 65_536 → starts false (are 1 mask) ≤ 32_768
+few : (mask : List ℕ) → length mask ≤ mostLent → starts false (samplesAre 1 mask) ≤ 32_768
 few mask h = omega (arith, violation-count mask, violation-bound mask)
 
 abbrev Inv-loop : tie.InvT-loop
-Inv-loop mask count₀ i₀ count i = (0 < i) × (i ≤ length mask) × (starts false (are 1 mask) ≡ flag (at mask 0 && true) + (count + startsLeft mask i))
+Inv-loop mask count₀ i₀ count i = (0 < i) × (i ≤ length mask) × (starts false (samplesAre 1 mask) ≡ flag (markedAt mask 0 && true) + (count + startsLeft mask i))
 
 abbrev μ-loop : tie.MeasureT-loop
 μ-loop mask count₀ i₀ count i = length mask - i

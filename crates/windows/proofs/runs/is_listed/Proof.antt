@@ -1,15 +1,14 @@
 -- `windows::runs::is_listed` meets its contract. Assumes nothing.
 use Prim.Native.Nat.{ℕ, _+_, _-_, _<_}
 use mathlib.Core.Path.{_≡_, sym, _∙_, ap}
-use mathlib.Core.Bool.{Bool, true, _||_, or-true, or-false}
+use mathlib.Core.Bool.{true, or-true}
 use native.Mathlib.Omega.{arith}
 use native.Mathlib.Decide.{decLe}
-use lib.Dec.{ltb, eqb}
+use lib.Dec.{ltb}
 use borrow.Author.Tests.{eq-eqb, ne-eqb, lt-ltb, le-ltb}
 use Rattle.windows.specs.Runs.{run, ruleV}
 use Rattle.windows.specs.Steps.{keeps}
 use Rattle.windows.specs.declared.Listing.{Listing}
-use Rattle.windows.specs.declared.Listing.the-variants.{Violations, Visibility}
 use borrow.Author.Needs.{needs}
 use Rattle.windows.proofs.runs.is_listed.Statement.{statement}
 use Rattle.windows.proofs.runs.is_listed.Tie as tie

@@ -1,9 +1,9 @@
 -- `windows::seconds::total_violation_duration` meets its contract. Assumes nothing.
-use Prim.Native.Nat.{ℕ, zero, suc, _<_}
+use Prim.Native.Nat.{ℕ, zero, suc}
 use mathlib.Core.Path.{_≡_, refl, sym, _∙_, ap}
 use native.Mathlib.Omega.{arith}
 use lib.Ieee.{Float}
-use Rattle.buffers.specs.Refusal.{Reply, refused, accepted, reply}
+use Rattle.buffers.specs.Refusal.{refused, accepted, reply}
 use Rattle.buffers.proofs.Refusal.{reply-none, reply-some}
 use Rattle.windows.specs.Seconds.{replyOfDuration}
 use Rattle.windows.specs.declared.Duration.the-variants.{Seconds, Refused}

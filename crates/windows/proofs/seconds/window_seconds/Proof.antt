@@ -1,5 +1,4 @@
 -- `windows::seconds::window_seconds` meets its contract. Assumes nothing.
-use Prim.Native.Nat.{_≤_}
 use mathlib.Core.Path.{sym, ap, subst}
 use native.Mathlib.Omega.{arith}
 use lib.Dec.{T}

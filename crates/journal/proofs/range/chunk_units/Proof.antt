@@ -12,9 +12,9 @@ use Rattle.buffers.proofs.Lent.{filled-zero, filled-next, take-filled}
 use Rattle.solar_roll.specs.Vectors.{Vector}
 use Rattle.solar_roll.specs.Roll.{sunUnit}
 use Rattle.solar_roll.specs.Plan.{triple, count}
 use Rattle.roll_sweep.proofs.Cells.{entry}
-use Rattle.roll_sweep.proofs.chunk.chunk_units.Statement.{statement}
-use Rattle.roll_sweep.proofs.chunk.chunk_units.Tie as tie
+use Rattle.journal.proofs.range.chunk_units.Statement.{statement}
+use Rattle.journal.proofs.range.chunk_units.Tie as tie
 
 -- the Sun's unit at cell number first + k
 abbrev unit-at : List Float → List Float → ℕ → ℕ → Vector

@@ -1,16 +1,15 @@
 -- What is known of a plan that is not refused. Assumes nothing.
-use mathlib.Core.Path.{_≡_, refl, sym, ap, _∙_}
-use mathlib.Core.Bool.{Bool, true, false, not, _||_}
+use mathlib.Core.Path.{_≡_}
+use mathlib.Core.Bool.{Bool, false, not, _||_}
 use Prim.Native.Nat.{ℕ, _*_, _%_, _≤_}
 use native.Mathlib.Omega.{arith}
 use lib.Dec.{eqb, ltb, lit<}
 use lib.ListN.{length}
 use borrow.Author.Tests.{not-false, eqb-true, ltb-false}
-use Rattle.buffers.specs.Refusal.{first, carried}
 use Rattle.buffers.proofs.Refusal.{first-clear, carried-clear}
 use Rattle.buffers.proofs.Tests.{or-left, or-right}
-use Rattle.solar_roll.specs.Cell.{badPosition, badDirection}
-use Rattle.solar_roll.specs.Plan.{Plan, rowsOf, timesOf, cells, planPanel, unlikeLengths, tooMany, planRefusal, PlanFacts}
+use Rattle.solar_roll.specs.Cell.{badPosition}
+use Rattle.solar_roll.specs.Plan.{Plan, unlikeLengths, mostRows, mostTimes, mostCells, tooMany, planRefusal, PlanFacts}
 
 record Lengths (targets suns observers : ℕ) : Type 0 where
   pub triples : targets % 3 ≡ 0
@@ -31,22 +30,22 @@ lengths targets suns observers h =
     }
 
 record Few (rows times : ℕ) : Type 0 where
-  pub few-rows : rows ≤ 65536
-  pub few-times : times ≤ 65536
-  pub few-cells : rows * times ≤ 1048576
+  pub few-rows : rows ≤ mostRows
+  pub few-times : times ≤ mostTimes
+  pub few-cells : rows * times ≤ mostCells
 
 few : (rows times : ℕ) → tooMany rows times ≡ false → Few rows times
 unfolding tooMany
 few rows times h =
-    let a : Bool = ltb 65536 rows in
-    let b : Bool = ltb 65536 times in
-    let c : Bool = ltb 1048576 (rows * times) in
+    let a : Bool = ltb mostRows rows in
+    let b : Bool = ltb mostTimes times in
+    let c : Bool = ltb mostCells (rows * times) in
     let r : (b || c) ≡ false = or-right a (b || c) h in
     record { few-rows = ltb-false _ _ (or-left a (b || c) h); few-times = ltb-false _ _ (or-left b c r); few-cells = ltb-false _ _ (or-right b c r) }
 
-pub plan-facts : (p : Plan) (sampling : ℕ) (beyond : Bool) → planRefusal p sampling beyond ≡ 0 → PlanFacts p
+pub plan-facts : (p : Plan) (said : ℕ) (beyond : Bool) → planRefusal p said beyond ≡ 0 → PlanFacts p
 unfolding planRefusal
-plan-facts p sampling beyond h =
+plan-facts p said beyond h =
     let unlike : Bool = unlikeLengths (length (p .targets)) (length (p .suns)) (length (p .observers)) in
     let c1 = first-clear _ _ _ (lit< tt) h in
     let c2 = first-clear _ _ _ (lit< tt) (c1 .1) in
@@ -70,9 +69,9 @@ plan-facts p sampling beyond h =
     }
 
 -- nothing was said in the place of 3
-pub no-sampling : (p : Plan) (sampling : ℕ) (beyond : Bool) → planRefusal p sampling beyond ≡ 0 → sampling ≡ 0
+pub nothing-said : (p : Plan) (said : ℕ) (beyond : Bool) → planRefusal p said beyond ≡ 0 → said ≡ 0
 unfolding planRefusal
-no-sampling p sampling beyond h =
+nothing-said p said beyond h =
     let c1 = first-clear _ _ _ (lit< tt) h in
     let c2 = first-clear _ _ _ (lit< tt) (c1 .1) in
     carried-clear _ _ (c2 .1) .0
