@@ -9,7 +9,7 @@ use lib.ListN.{length, getD, take, replicate, length-replicate}
 use lib.Ieee.{Float, nan, binary64, toBits}
 use borrow.Author.Tests.{le-leb, le-ltb, ltb-false}
 use Rattle.buffers.specs.Ranges.{tab}
-use Rattle.buffers.specs.Refusal.{reply, accepted}
+use Rattle.buffers.specs.Refusal.{accepted}
 use Rattle.buffers.proofs.Refusal.{reply-none, first-clear, carried-clear}
 use Rattle.buffers.specs.Lent.{over, put}
 use Rattle.buffers.proofs.Lent.{put-first, over-all}

@@ -1,11 +1,10 @@
 -- Section 4: begin, work, recover and collect. Of each, the conditions that refuse it in the order in which they are tried, the answer, and the bytes
 -- that it leaves: for every lent buffer b and used length u. Definitions only. Assumes nothing.
 use mathlib.Core.Bool.{Bool, cond, not}
-use mathlib.Core.List.{List, [], _∷_, _++_}
+use mathlib.Core.List.{List, [], _∷_}
 use Prim.Native.Nat.{ℕ, _+_, _*_, _/_, _%_}
 use lib.Dec.{leb, ltb, eqb}
 use lib.ListN.{length}
-use Rattle.buffers.specs.Ranges.{tab}
 use Rattle.buffers.specs.Lent.{filled, put}
 use Rattle.buffers.specs.Refusal.{Conditions, first, carried, Reply, reply, unlessRefused}
 use Rattle.roll_sweep.specs.Sweep.{Sweep, cells, chunks}

@@ -1,5 +1,5 @@
--- What the pass over a journal answers and leaves in its tables, and what is known once a plan has passed, for the contracts of private functions. When a journal is right is said in
--- `Right`. Definitions only. Assumes nothing.
+-- What the pass over a journal answers and leaves in its tables, and what is known once a plan has passed: for the contracts of private functions. When a
+-- journal is right is said in `Right`. Definitions only. Assumes nothing.
 use mathlib.Core.Path.{_≡_}
 use mathlib.Core.Bool.{Bool, true, false}
 use mathlib.Core.List.{List}

@@ -30,6 +30,8 @@ sweepOf p n =
 abbrev pub lentSweep : List Float → List Float → List Float → SolarRollConfig → ℕ → Sweep
 lentSweep targets suns observers config n = sweepOf (planOf targets suns observers config) n
 
+-- ---- for the contracts of private functions
+
 -- a table of the Sun's units, one a time of the plan, or none
 abbrev pub UnitsOf : Plan → List Vector → Type 0
 UnitsOf p units = 0 < length units → units ≡ tab (timesOf p) (sunAt p)

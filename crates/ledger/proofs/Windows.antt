@@ -1,12 +1,11 @@
 -- Demand 3's windows: what the laws of runs and of expansion say of the columns that the listings leave, for any row of samples. Also that the listings
 -- accept a row of a mask, so that no clause is empty. Assumes nothing.
 use mathlib.Core.Path.{_≡_, refl, sym, ap, ap₂, _∙_, subst}
-use mathlib.Core.Bool.{Bool, false, not, _||_}
-use mathlib.Core.List.{List, [], _∷_, map, map-map}
+use mathlib.Core.Bool.{false, not, _||_}
+use mathlib.Core.List.{List, [], _∷_, map}
 use Prim.Native.Nat.{ℕ, _+_, _/_, _≤_}
 use native.Mathlib.Omega.{arith}
 use lib.ListN.{length, getD, take, length-map}
-use lib.Dec.{ltb}
 use lib.IntN.{ℤ, pos}
 use lib.Ieee.{Float}
 use borrow.Author.Tests.{le-ltb, eq-eqb}
@@ -15,12 +14,12 @@ use Rattle.buffers.specs.Lent.{over}
 use Rattle.buffers.specs.Refusal.{first, accepted, reply, unlessRefused}
 use Rattle.buffers.proofs.Refusal.{reply-none, reply-accepted, written-none}
 use Rattle.solar_roll.specs.Plan.{mostTimes}
-use Rattle.windows.specs.Runs.{Run, run, violationRuns, visibilityRuns}
+use Rattle.windows.specs.Runs.{Run, violationRuns, visibilityRuns}
 use Rattle.windows.specs.Maximal.{sampleIs, Maximal, Visible, Exactly}
-use Rattle.windows.specs.Windows.{largest, windowOf, violationWindows, visibilityWindows, Columns, columns, written}
+use Rattle.windows.specs.Windows.{largest, windowOf, violationWindows, visibilityWindows, Columns, written}
 use Rattle.windows.specs.Refusal.{beyond, badMark, badSeverity, differ, lengths, noRoom, windowsRefusal, violationRefusal, visibilityRefusal}
-use Rattle.windows.specs.Expand.{Increasing, spans, expanded, expandRefusal}
-use Rattle.windows.specs.Calls.{violationReply, violationColumns, visibilityReply, visibilityColumns, expandReply, expandMask}
+use Rattle.windows.specs.Expand.{Increasing}
+use Rattle.windows.specs.Calls.{violationReply, violationColumns, visibilityReply}
 use Rattle.windows.specs.declared.Window.{Window}
 use Rattle.windows.proofs.MaximalRuns.{violation-runs, visibility-runs, violation-bound, visibility-bound}
 use Rattle.windows.proofs.Theorems.{first-written, last-written, firstTime-written, lastTime-written, row-expand-accepted, row-expands}

@@ -5,7 +5,7 @@ use lib.Dec.{ltb}
 use borrow.Author.Needs.{needs}
 use Rattle.solar_roll.specs.Plan.{Plan, planOf, headTolerance, planConfigured, planPanel}
 use Rattle.journal.specs.Plan.{sweepOf}
-use Rattle.journal.proofs.Planned.{PlanPassed, refusal-said, passed, passed-with}
+use Rattle.journal.proofs.Planned.{refusal-said, passed, passed-with}
 use Rattle.journal.proofs.plan.lent_plan.Statement.{statement}
 use Rattle.journal.proofs.plan.lent_plan.Tie as tie
 
