@@ -78,11 +78,8 @@ open-run i (true ∷ m) h = refl
 -- ---- the same of a mask and the byte v
 
 module _ (v : ℕ) (mask : List ℕ) where
-  abbrev pub clear : ℕ → Bool
-  clear b = not (eqb b v)
-
-  abbrev pub marked : ℕ → Bool
-  marked b = eqb b v
+  abbrev is-v : ℕ → Bool
+  is-v b = eqb b v
 
   -- the maximal runs from sample i on, where none is open
   abbrev rest : ℕ → List Run
@@ -91,9 +88,9 @@ module _ (v : ℕ) (mask : List ℕ) where
   beyond-leading : (p : Bool → Bool) (i : ℕ) → drop (leading p (samplesAre v (drop i mask))) (samplesAre v (drop i mask)) ≡ samplesAre v (drop (i + leading (λ b. p (eqb b v)) (drop i mask)) mask)
   unfolding samplesAre
   beyond-leading p i =
-      ap (λ (k : ℕ). drop k (map marked (drop i mask))) (leading-map marked p (drop i mask))
-      ∙ drop-map marked (leading (λ b. p (eqb b v)) (drop i mask)) (drop i mask)
-      ∙ ap (map marked) (drop-drop (leading (λ b. p (eqb b v)) (drop i mask)) i mask)
+      ap (λ (k : ℕ). drop k (map is-v (drop i mask))) (leading-map is-v p (drop i mask))
+      ∙ drop-map is-v (leading (λ b. p (eqb b v)) (drop i mask)) (drop i mask)
+      ∙ ap (map is-v) (drop-drop (leading (λ b. p (eqb b v)) (drop i mask)) i mask)
 
   -- a clear sample is passed
   pub passed : (i : ℕ) → i < length mask → eqb (getD mask i 0) v ≡ false → rest i ≡ rest (i + 1)
@@ -109,15 +106,15 @@ module _ (v : ℕ) (mask : List ℕ) where
     pub in-row : j ≤ length mask
     pub left : rest i ≡ run i (j - 1) ∷ rest j
 
-  pub stopped : (i j : ℕ) → i < length mask → getD mask i 0 ≡ v → j ≡ i + 1 + leading marked (drop (i + 1) mask) → Stopped i j
+  pub stopped : (i j : ℕ) → i < length mask → getD mask i 0 ≡ v → j ≡ i + 1 + leading is-v (drop (i + 1) mask) → Stopped i j
   unfolding samplesAre
   stopped i j h g p =
-      let n = leading marked (drop i mask) in
-      let b : n ≤ length mask - i = subst (λ (k : ℕ). n ≤ k) (length-drop i mask) (leading-length marked (drop i mask)) in
-      let q : n ≡ suc (leading marked (drop (i + 1) mask)) = here marked mask 0 i h ∙ ap (λ (t : Bool). cond t (suc (leading marked (drop (i + 1) mask))) 0) (eq-eqb (getD mask i 0) v g) in
+      let n = leading is-v (drop i mask) in
+      let b : n ≤ length mask - i = subst (λ (k : ℕ). n ≤ k) (length-drop i mask) (leading-length is-v (drop i mask)) in
+      let q : n ≡ suc (leading is-v (drop (i + 1) mask)) = here is-v mask 0 i h ∙ ap (λ (t : Bool). cond t (suc (leading is-v (drop (i + 1) mask))) 0) (eq-eqb (getD mask i 0) v g) in
       let e : j ≡ i + n = omega arith in
       let some : 0 < n = omega arith in
-      let same : leading itself (samplesAre v (drop i mask)) ≡ n = leading-map marked itself (drop i mask) in
+      let same : leading itself (samplesAre v (drop i mask)) ≡ n = leading-map is-v itself (drop i mask) in
       record {
         later = omega arith;
         in-row = omega arith;

@@ -135,10 +135,6 @@ module _ (ws : List Window) (d : Columns) where
   unfolding written
   lastTime-written = written-column (λ (w : Window). w .«last_time») ws (d .lastTime)
 
-  pub isLast-written : take (length ws) (written ws d .isLast) ≡ map (λ (w : Window). w .«is_last») ws
-  unfolding written
-  isLast-written = written-column (λ (w : Window). w .«is_last») ws (d .isLast)
-
 -- an element of a list of times, or none of them
 any-map : {A : Type 0} (p : ℤ → Bool) (f : A → ℤ) (l : List A) → ((x : A) → List·Memᴰ x l → p (f x) ≡ false) → any p (map f l) ≡ false
 unfolding any
