@@ -59,3 +59,32 @@ impl fmt::Display for Fault {
         }
     }
 }
+
+#[cfg(test)]
+mod tests {
+    use super::*;
+
+    #[test]
+    fn each_kind_has_its_status() {
+        let text = || "why".to_owned();
+        for (fault, status, said) in [
+            (Fault::Refused(5, text()), 1, "refused with 5: why"),
+            (Fault::Refused(15, text()), 4, "refused with 15: why"),
+            (Fault::Differs(text()), 1, "why"),
+            (Fault::Usage(text()), 2, "why"),
+            (Fault::Files(text()), 3, "why"),
+            (Fault::Unfinished(text()), 4, "why"),
+            (Fault::Stopped(text()), 130, "why"),
+            (Fault::Unread, 0, ""),
+        ] {
+            assert_eq!((fault.status(), fault.to_string().as_str()), (status, said));
+        }
+    }
+    #[test]
+    fn a_reader_who_leaves_is_no_fault_and_a_full_disk_is() {
+        assert!(matches!(Fault::output(io::ErrorKind::BrokenPipe.into()), Fault::Unread));
+        assert_eq!(Fault::output(io::Error::from_raw_os_error(libc::ENOSPC)).status(), 3);
+        let through_csv = csv_error(csv::Error::from(io::Error::from(io::ErrorKind::BrokenPipe)));
+        assert_eq!(through_csv.kind(), io::ErrorKind::BrokenPipe);
+    }
+}

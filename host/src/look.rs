@@ -319,6 +319,78 @@ fn sample_at(plan: &Plan, text: &str) -> Result<usize, Fault> {
         let near = |i: usize| plan.times.get(i).map(|&t| instant::format(t, instant::digits([t])));
         let before = next.checked_sub(1).and_then(near);
         let around: Vec<_> = before.into_iter().chain(near(next)).collect();
-        Fault::Usage(format!("--time {}: no time of {}; nearest: {}", text, plan.ephemeris_file, around.join(" and ")))
+        let around = if around.is_empty() { "it has none".into() } else { format!("nearest: {}", around.join(" and ")) };
+        Fault::Usage(format!("--time {}: no time of {}; {}", text, plan.ephemeris_file, around))
     })
+}
+
+#[cfg(test)]
+mod tests {
+    use super::*;
+    use crate::plan::tests::{plan, small};
+
+    fn state(journal_bytes: Option<usize>, tail_bytes: usize, running: bool) -> State {
+        State {
+            plan: "plan.toml".into(),
+            targets: 3,
+            times: 100,
+            cells: 300,
+            rolls: 8,
+            tolerance_deg: Degrees(15.0),
+            configured_roll_deg: None,
+            panel_normal: [0.0, 1.0, 0.0],
+            journal: "j".into(),
+            journal_bytes,
+            tail_bytes,
+            running,
+            chunks: 5,
+            chunks_with_line: 2,
+            missing: vec!["1".into(), "3..5".into()],
+            finished: false,
+            origin_known: true,
+        }
+    }
+
+    #[test]
+    fn a_status_in_words() {
+        assert_eq!(state(None, 0, false).text("about", "0..5"), "about\njournal  j: not begun");
+        let begun = "about\njournal  j: 174 bytes\nchunks   2 of 5 have a line\nmissing  1, 3..5";
+        assert_eq!(state(Some(174), 0, false).text("about", "1, 3..5"), begun);
+        let tail = state(Some(174), 1, false).text("about", "1, 3..5");
+        assert_eq!(tail, format!("{}\ntail     1 byte of a write that did not end; the next sweep removes them", begun));
+        // What a running sweep is writing is no tail.
+        assert!(state(Some(174), 1, true).text("about", "").ends_with("174 bytes, a sweep is writing it\nchunks   2 of 5 have a line"));
+    }
+    #[test]
+    fn a_time_must_be_one_of_the_ephemeris() {
+        let plan_of_100 = small();
+        assert_eq!(sample_at(&plan_of_100, "2026-03-20T01:02:00Z").unwrap(), 62);
+        let said = |plan: &Plan, text: &str| sample_at(plan, text).unwrap_err().to_string();
+        assert!(said(&plan_of_100, "2026-03-20T00:00:30Z")
+            .ends_with("no time of e.csv; nearest: 2026-03-20T00:00:00Z and 2026-03-20T00:01:00Z"));
+        assert!(said(&plan_of_100, "2026-03-19T00:00:00Z").ends_with("nearest: 2026-03-20T00:00:00Z"));
+        assert!(said(&plan_of_100, "noon").starts_with("--time noon: at character 1, allowed: "));
+        let settings = "targets = \"t.csv\"\nephemeris = \"e.csv\"\nrolls = 1\ntolerance = 1\n";
+        let heads = ("name,x,y,z\n", "time,sun_x,sun_y,sun_z,observer_x,observer_y,observer_z\n");
+        assert!(said(&plan(settings, heads.0, heads.1).unwrap(), "2026-03-20T00:00:00Z").ends_with("no time of e.csv; it has none"));
+    }
+    #[test]
+    fn a_mask_in_each_form() {
+        let plan = small();
+        let selected = Selection::default().of(&plan).unwrap();
+        let mask: Vec<u8> = (0..300).map(|i| (i % 7 == 0) as u8).collect();
+        let printed = |form: Form| {
+            let mut out = Vec::new();
+            form.print(&plan, &selected, &mask, &mut out).unwrap();
+            out
+        };
+        assert_eq!(printed(Form::Raw), mask);
+        let rows = String::from_utf8(printed(Form::Rows)).unwrap();
+        let marks: String = rows.lines().map(|line| line.split(' ').next().unwrap()).collect();
+        assert_eq!(marks.bytes().map(|b| b - b'0').collect::<Vec<_>>(), mask);
+        assert!(rows.lines().map(|line| line.rsplit(' ').next().unwrap()).eq(["A", "B", "C"]));
+        let csv = String::from_utf8(printed(Form::Csv)).unwrap();
+        assert!(csv.starts_with("target,time,marked\nA,2026-03-20T00:00:00.000000000Z,1\n"));
+        assert_eq!(csv.lines().count(), 301);
+    }
 }

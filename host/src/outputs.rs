@@ -120,3 +120,43 @@ impl Outputs {
         Some(format!("{} {} not written, as windows are listed of a whole sweep only", files.join(", "), were))
     }
 }
+
+#[cfg(test)]
+mod tests {
+    use super::*;
+    use crate::plan::tests::small;
+
+    fn outputs(csv: &str, json: &str) -> Outputs {
+        let path = |text: &str| if text.is_empty() { None } else { Some(PathBuf::from(text)) };
+        Outputs { csv: path(csv), json: path(json), svg: None, summary: None, quiet: true }
+    }
+
+    #[test]
+    fn what_cannot_be_written_is_refused_before_any_work() {
+        let plan = small();
+        let folder = tempfile::tempdir().unwrap();
+        let at = |name: &str| folder.path().join(name).to_str().unwrap().to_owned();
+        let journal = folder.path().join("j");
+        let status = |csv: &str, json: &str| outputs(csv, json).check(&plan, &journal).map_err(|fault| fault.status());
+        assert_eq!(status("", ""), Ok(()));
+        assert_eq!(status("-", &at("a")), Ok(()));
+        assert_eq!(status("-", "-"), Err(2));
+        assert_eq!(status(&at("a"), &at("a")), Err(2));
+        // By another path, and before any of the two is there.
+        assert_eq!(status(&at("a"), &at("./a")), Err(2));
+        for needed in ["j", "j.plan"] {
+            assert_eq!(status(&at(needed), ""), Err(2), "{}", needed);
+        }
+        assert_eq!(status(&at("none/a"), ""), Err(3));
+        assert_eq!(status(folder.path().to_str().unwrap(), ""), Err(3));
+        // It only looked.
+        assert_eq!(std::fs::read_dir(folder.path()).unwrap().count(), 0);
+    }
+    #[test]
+    fn what_is_left_unwritten_is_named() {
+        let words = "not written, as windows are listed of a whole sweep only";
+        assert_eq!(outputs("", "").unwritten(), None);
+        assert_eq!(outputs("w.csv", "").unwritten().unwrap(), format!("--csv w.csv was {}", words));
+        assert_eq!(outputs("w.csv", "-").unwritten().unwrap(), format!("--csv w.csv, --json - were {}", words));
+    }
+}

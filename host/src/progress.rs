@@ -34,17 +34,36 @@ impl Progress {
         self.bar.inc(chunks as u64);
         if self.bar.is_hidden() && self.told.elapsed() >= PLAIN_EVERY {
             self.told = Instant::now();
-            let rate = self.done as f64 / self.begun.elapsed().as_secs_f64();
-            tell!(
-                "{} of {} chunks, {:.0} a second, {:.0} s left",
-                grouped(self.done),
-                grouped(self.total),
-                rate,
-                (self.total - self.done) as f64 / rate
-            );
+            tell!("{}", plain(self.done, self.total, self.begun.elapsed()));
         }
     }
     pub fn end(&self) {
         self.bar.finish_and_clear();
+    }
+}
+
+/// A line on how far it is, after this time.
+fn plain(done: usize, total: usize, taken: Duration) -> String {
+    let rate = done as f64 / taken.as_secs_f64();
+    let left = (total - done) as f64 / rate;
+    format!("{} of {} chunks, {:.0} a second, {:.0} s left", grouped(done), grouped(total), rate, left)
+}
+
+#[cfg(test)]
+mod tests {
+    use super::*;
+
+    #[test]
+    fn a_line_says_rate_and_time_left() {
+        assert_eq!(plain(640, 16_384, Duration::from_secs(5)), "640 of 16,384 chunks, 128 a second, 123 s left");
+        assert_eq!(plain(64, 64, Duration::from_millis(500)), "64 of 64 chunks, 128 a second, 0 s left");
+    }
+    #[test]
+    fn what_is_added_counts_to_the_end() {
+        let mut progress = Progress::of(100);
+        progress.add(64);
+        progress.add(36);
+        assert_eq!((progress.done, progress.bar.position()), (100, 100));
+        progress.end();
     }
 }
