@@ -110,7 +110,7 @@ sum-size (pos a) (negsuc b) = sub-size a (suc b) (ltb a (suc b)) refl
 sum-size (negsuc a) (pos b) = omega (arith, sub-size b (suc a) (ltb b (suc a)) refl)
 sum-size (negsuc a) (negsuc b) = omega arith
 
-neg-size : (a : ℤ) → natAbs (negℤ a) ≡ natAbs a
+pub neg-size : (a : ℤ) → natAbs (negℤ a) ≡ natAbs a
 neg-size (pos zero) = refl
 neg-size (pos (suc n)) = refl
 neg-size (negsuc n) = refl

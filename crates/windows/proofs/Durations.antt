@@ -8,7 +8,7 @@ use mathlib.Core.List.{List, [], _∷_}
 use lib.ListN.{length, getD, drop, drop-of-length-le}
 use lib.Seq.{drop-cons}
 use lib.Dec.{ltb}
-use lib.IntN.{ℤ, pos, negsuc, negℤ, natAbs, _+ℤ_, _-ℤ_, +ℤ-assoc, +ℤ-idl, +ℤ-idr}
+use lib.IntN.{ℤ, pos, negsuc, natAbs, _+ℤ_, _-ℤ_, +ℤ-assoc, +ℤ-idl, +ℤ-idr}
 use lib.Signed.{mag, quotZ}
 use lib.Ieee as Ieee
 use lib.Ieee.{Float, binary64, ofInt, add}
@@ -22,7 +22,7 @@ use Rattle.buffers.specs.Ranges.{any}
 use Rattle.buffers.proofs.Tests.{or-left, or-right}
 use Rattle.buffers.proofs.Ranges.{any-getD}
 use Rattle.float.specs.Arithmetic.{zero·0}
-use Rattle.float.proofs.Exact.{exact-sum, sum-size, difference-size}
+use Rattle.float.proofs.Exact.{exact-sum, sum-size, neg-size, difference-size}
 use Rattle.windows.specs.Refusal.{beyond}
 use Rattle.windows.specs.Seconds.{seconds, totalSeconds, floatSeconds, durationRefusal}
 use Rattle.windows.proofs.Refusals.{Summable, duration-accepted}
@@ -33,11 +33,6 @@ within-limit : (t : ℤ) → beyond t ≡ false → natAbs t ≤ 4_000_000_000_0
 unfolding beyond
 within-limit (pos n) e = ltb-false 4_000_000_000_000_000_000 n e
 within-limit (negsuc n) e = omega (arith, ltb-false 3_999_999_999_999_999_999 n (or-left (ltb 3_999_999_999_999_999_999 n) false e))
-
-neg-size : (a : ℤ) → natAbs (negℤ a) ≡ natAbs a
-neg-size (pos zero) = refl
-neg-size (pos (suc n)) = refl
-neg-size (negsuc n) = refl
 
 quotient-size : (z : ℤ) → natAbs (quotZ z (pos 1_000_000_000)) ≡ natAbs z / 1_000_000_000
 quotient-size (pos n) = refl

@@ -7,7 +7,7 @@ use borrow.Author.Tests.{not-true, not-false}
 use lib.Ieee.{ofBits, div}
 use Rattle.float.specs.Arctangent.{turnedAngle}
 use mathlib.Core.Path.{_≡_, sym, _∙_}
-use Rattle.float.proofs.Sign.{and-false}
+use Rattle.buffers.proofs.Tests.{and-false}
 use borrow.Author.Needs.{needs}
 use Rattle.float.proofs.arctangent.turned_angle.Statement.{statement}
 use Rattle.float.proofs.arctangent.turned_angle.Tie as tie
