@@ -6,6 +6,7 @@ use mathlib.Core.List.{[], _∷_}
 use borrow.Author.Needs.{needs}
 use lib.ListN.{length, getD}
 use lib.Ieee.{Float, nan}
+use Rattle.solar_roll.specs.Plan.{rowConfig}
 use Rattle.roll_sweep.specs.Chunk.{violatesBy, sampleRoll}
 use Rattle.roll_sweep.proofs.Swept.{swept-ext, swept-same, one-each}
 use Rattle.roll_sweep.proofs.Cells.{configured-same, unconfigured}
@@ -47,6 +48,7 @@ returns c =
     (λ k s h g. ap (nth-violated x k) (sym (unconfigured (x .args .configured) rolls s (c .before .enum-told .given .1))))
 
 returns-2 : tie.Need-returns-2
+unfolding violatesBy rowConfig
 returns-2 c =
     let x = c .before .before .before .before .before .before .before .before .before .before in
     let rolls = x .args .rolls .now in
