@@ -69,7 +69,7 @@ stepped c =
     let z : at .k + m - at .k ≡ m = omega arith in
     let row : ℕ = (a .first + at .k) / a .times in
     let turned : c .before .before .before .before .before .before .before .before .before .panel-at .result ≡ panelOf (rowPanel (a .panels .now) row) =
-        c .before .before .before .before .before .before .before .before .before .panel-at .ensures ∙ ap panelOf (one-panel (a .panels .now) (a .first / a .times) row) in
+    c .before .before .before .before .before .before .before .before .before .panel-at .ensures ∙ ap panelOf (one-panel (a .panels .now) (a .first / a .times) row) in
     upto-part _ _ (at .k + m) (c .sweep-row .result) (at .inv .1) (omega arith) (h .few)
     (c .sweep-row .ensures
     ∙ rw (c .before .before .before .body-axes .ensures, c .before .before .before .before .direction .ensures, c .before .before .row-config .ensures, turned)
