@@ -13,13 +13,14 @@ use Rattle.float.specs.Arithmetic.{zero·0, absOf, remEuclid, toDegrees, signBi
 use Rattle.float.specs.Arctangent.{coefficient, halved, series, seriesAngle, ratio, quadrantAngle, turnedAngle, arctangent}
 use Rattle.solar_roll.specs.Vectors.{Vector, vector, dot3, norm3, cross3, over3, normalize3, unwrapOr}
 use Rattle.solar_roll.specs.Roll.{xHat, yHat, zHat, sunUnit, sunAlongBoresight, panelIsFree, panelAngle, rollIsUnconstrained, perpendicular, poleFallback, north, yAxis, bodyAxes, rollDegIn, solarOptimalRollDeg, circularDiffDeg}
-use Rattle.solar_roll.specs.Cell.{optimalRoll, violates, inForce, badPosition, badDirection, tooLarge}
-use Rattle.solar_roll.specs.Plan.{Plan, planOf, planRefusal, samplesRefusal, unlikeLengths, tooMany, triple, rowDirection, rowConfig, sunAt, cellOf, violatesAt, headTolerance, planPanel, planConfigured}
+use Rattle.solar_roll.specs.Cell.{optimalRoll, violates, inForce, badPosition, badDirection, tooLarge, directionRefusal, numbersRefusal}
+use Rattle.solar_roll.specs.Plan.{Plan, planOf, planRefusal, sizesRefusal, samplesRefusal, unlikeLengths, tooMany, triple, rowDirection, rowPanel, rowConfig, sunAt, cellOf, violatesAt, headTolerance, headPanel}
 use Rattle.solar_roll.specs.declared.cell.ConfiguredRoll.the-variants.{None}
 use Rattle.journal.specs.Hex.{hexText}
 use Rattle.journal.specs.Lines.{lineOf}
 use Rattle.journal.specs.Header.{headerOf}
-use Rattle.journal.specs.Plan.{sweepOf}
+use Rattle.journal.specs.Plan.{sweepOf, evenSweep}
+use Rattle.roll_sweep.specs.Rolls.{evenRoll, evenRolls}
 use Rattle.ledger.specs.Machine.{begin, work, cut, recover, collect, powerUp, done, gathered, trace}
 
 -- ---- "Journal for that target and panel, Suns [0,1,0] then [0,0,1] from observer 0, tolerance 10, n = 1, no configured roll"
@@ -28,7 +29,7 @@ abbrev origin : Vector
 origin = vector zero·0 zero·0 zero·0
 
 abbrev plan : Plan
-plan = planOf xHat (yHat ++ zHat) (origin ++ origin) (record { «tolerance_deg» = ofInt binary64 (pos 10); «roll_deg» = None; «panel_normal» = yHat })
+plan = planOf xHat (yHat ++ zHat) (origin ++ origin) (ofInt binary64 (pos 10) ∷ []) None yHat
 
 -- "Header fields: 1, 2, 1 in 8 digits each; 4024000000000000; 00; 16 zeros; 16 zeros; 3ff0000000000000; 16 zeros"
 abbrev header : List ℕ
@@ -41,11 +42,11 @@ abbrev line : List ℕ
 line = hexText 8 0 ++ hexText 16 2 ++ hexText 8 2 ++ (10 ∷ [])
 
 pub example-header : headerOf plan 1 ≡ header
-unfolding headerOf headTolerance planPanel planConfigured toBits ofInt ofBits
+unfolding headerOf headTolerance headPanel triple toBits ofInt ofBits
 example-header = refl
 
-pub example-line : lineOf (sweepOf plan 1) 0 ≡ line
-unfolding lineOf sweepOf triple rowDirection rowConfig sunAt cellOf violatesAt planConfigured violates inForce circularDiffDeg remEuclid absOf add sub mul div rem neg lt le eq ofInt ofBits sqrtOf sunUnit optimalRoll rollIsUnconstrained sunAlongBoresight panelIsFree panelAngle solarOptimalRollDeg rollDegIn bodyAxes yAxis north perpendicular poleFallback unwrapOr normalize3 over3 cross3 norm3 dot3 toDegrees arctangent quadrantAngle ratio turnedAngle seriesAngle series halved coefficient signBitOf finite
+pub example-line : lineOf (evenSweep plan 1) 0 ≡ line
+unfolding lineOf sweepOf evenRolls evenRoll triple rowDirection rowPanel rowConfig sunAt cellOf violatesAt violates inForce circularDiffDeg remEuclid absOf add sub mul div rem neg lt le eq ofInt ofBits sqrtOf sunUnit optimalRoll rollIsUnconstrained sunAlongBoresight panelIsFree panelAngle solarOptimalRollDeg rollDegIn bodyAxes yAxis north perpendicular poleFallback unwrapOr normalize3 over3 cross3 norm3 dot3 toDegrees arctangent quadrantAngle ratio turnedAngle seriesAngle series halved coefficient signBitOf finite
 example-line = refl
 
 -- ---- a list of entries, from an empty journal: every call is lent the plan, and 200 bytes beyond J
@@ -54,7 +55,7 @@ abbrev room : List ℕ
 room = replicate 200 7
 
 -- begin, a work that is cut at its fifth byte, a work and a collect refused for the tail, recover, work, the same work again, collect
-pub example-trace : trace (sweepOf plan 1) (begin room ∷ work 0 room ∷ cut 5 ∷ work 0 room ∷ collect room room ∷ recover room ∷ work 0 room ∷ work 0 room ∷ collect room (9 ∷ 9 ∷ 9 ∷ []) ∷ []) powerUp
+pub example-trace : trace (evenSweep plan 1) (begin room ∷ work 0 room ∷ cut 5 ∷ work 0 room ∷ collect room room ∷ recover room ∷ work 0 room ∷ work 0 room ∷ collect room (9 ∷ 9 ∷ 9 ∷ []) ∷ []) powerUp
     ≡ record { reply = accepted done; bytes = header }
     ∷ record { reply = accepted done; bytes = header ++ line }
     ∷ record { reply = accepted done; bytes = header ++ take 5 line }
@@ -65,5 +66,5 @@ pub example-trace : trace (sweepOf plan 1) (begin room ∷ work 0 room ∷ cut 5
     ∷ record { reply = refused 10; bytes = header ++ line }
     ∷ record { reply = accepted (gathered (0 ∷ 1 ∷ []) 2); bytes = header ++ line }
     ∷ []
-unfolding trace hexText ones headerOf headTolerance planPanel toBits planRefusal samplesRefusal unlikeLengths tooMany first carried any badPosition badDirection tooLarge sweepOf triple rowDirection rowConfig sunAt cellOf violatesAt planConfigured violates inForce circularDiffDeg remEuclid absOf add sub mul div rem neg lt le eq ofInt ofBits sqrtOf sunUnit optimalRoll rollIsUnconstrained sunAlongBoresight panelIsFree panelAngle solarOptimalRollDeg rollDegIn bodyAxes yAxis north perpendicular poleFallback unwrapOr normalize3 over3 cross3 norm3 dot3 toDegrees arctangent quadrantAngle ratio turnedAngle seriesAngle series halved coefficient signBitOf finite
+unfolding trace hexText ones headerOf headTolerance headPanel toBits planRefusal samplesRefusal unlikeLengths tooMany first carried any badPosition badDirection tooLarge directionRefusal numbersRefusal sizesRefusal sweepOf evenRolls evenRoll triple rowDirection rowPanel rowConfig sunAt cellOf violatesAt violates inForce circularDiffDeg remEuclid absOf add sub mul div rem neg lt le eq ofInt ofBits sqrtOf sunUnit optimalRoll rollIsUnconstrained sunAlongBoresight panelIsFree panelAngle solarOptimalRollDeg rollDegIn bodyAxes yAxis north perpendicular poleFallback unwrapOr normalize3 over3 cross3 norm3 dot3 toDegrees arctangent quadrantAngle ratio turnedAngle seriesAngle series halved coefficient signBitOf finite
 example-trace = refl

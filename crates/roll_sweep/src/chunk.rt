@@ -86,7 +86,8 @@ fn sweep_row(
 }
 
 // Sweeps `cells` cells from number `first` on over rolls that are in force, row by row, so that a row's axes are worked
-// out once, and the panel, which the rows share, once for all. The Sun's unit of cell i is entry i % L of a table of L units: of all times, or of one chunk's 64 cells.
+// out once, and the panel, which the rows share, once for all. The Sun's unit of cell i is entry i % L of a table of L
+// units: of all times, or of one chunk's 64 cells.
 fn sweep_cells(
     targets: &[f64],
     times: usize,
@@ -101,7 +102,8 @@ fn sweep_cells(
     requires { ⌜ (cells ≤ 64) × (length (now rolls) ≤ mostSamples) × (0 < times) × (times ≤ mostTimes) × (0 < length (now units))
         × (first + cells ≤ mostCells) ⌝ }
     ensures { λ r.
-        let violated : ℕ → Float → Bool = violatesBy (now (targets .entry)) times (now (units .entry)) (now (tolerances .entry)) configured (now (panels .entry)) in
+        let violated : ℕ → Float → Bool = violatesBy (now (targets .entry)) times (now (units .entry))
+        (now (tolerances .entry)) configured (now (panels .entry)) in
         ⌜ r ≡ sweptBy cells (length (now (rolls .entry))) (λ k s. violated (first + k) (getD (now (rolls .entry)) s nan)) ⌝ }
 {
     let panel = panel_at(panels, first / times);
@@ -157,7 +159,8 @@ fn sweep_samples(
     requires { ⌜ (cells ≤ 64) × (length (now rolls) ≤ mostSamples) × (0 < times) × (times ≤ mostTimes) × (0 < length (now units))
         × (first + cells ≤ mostCells) × (1 ≤ length (now rolls)) ⌝ }
     ensures { λ r.
-        let violated : ℕ → Float → Bool = violatesBy (now (targets .entry)) times (now (units .entry)) (now (tolerances .entry)) configured (now (panels .entry)) in
+        let violated : ℕ → Float → Bool = violatesBy (now (targets .entry)) times (now (units .entry))
+        (now (tolerances .entry)) configured (now (panels .entry)) in
         ⌜ r ≡ sweptBy cells (length (now (rolls .entry))) (λ k s. violated (first + k) (sampleRoll (now (rolls .entry)) configured s)) ⌝ }
 {
     match configured {
@@ -230,7 +233,8 @@ pub fn sweep_chunk(
     chunk: u64,
 ) -> ChunkAnswer
     ensures { λ r.
-        ⌜ chunkReply r ≡ sweptReply (now (targets .entry)) times (now (units .entry)) (now (tolerances .entry)) configured (now (panels .entry)) (now (rolls .entry)) chunk ⌝ }
+        ⌜ chunkReply r ≡ sweptReply (now (targets .entry)) times (now (units .entry)) (now (tolerances .entry)) configured (now (panels .entry))
+        (now (rolls .entry)) chunk ⌝ }
 {
     let rows = targets.len() / 3;
     let refusal = chunk_refusal(rows, times, units.len(), rolls.len(), chunk);
