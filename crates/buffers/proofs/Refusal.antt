@@ -31,7 +31,7 @@ unfolding first
 first-clear true n cs h e = absurd (omega arith)
 first-clear false n cs h e = (refl, e)
 
--- a refusal carried in: it is given, or the rest decides, or, of a chain that refuses nothing, it was none
+-- a refusal carried in: it is given, or the rest decides, or, of a chain that refuses nothing, it was none; where it is the last it is the answer
 pub carried-here : (k : ℕ) (cs : Conditions) → 0 < k → first (carried k ∷ cs) ≡ k
 unfolding first carried
 carried-here k cs h = ap (λ (t : Bool). cond (not t) k (first cs)) (ne-eqb k 0 (omega arith))
@@ -43,6 +43,10 @@ carried-skip k cs e = ap (λ (n : ℕ). first (carried n ∷ cs)) e
 pub carried-clear : (k : ℕ) (cs : Conditions) → first (carried k ∷ cs) ≡ 0 → (k ≡ 0) × (first cs ≡ 0)
 carried-clear zero cs e = (refl, sym (carried-skip 0 cs refl) ∙ e)
 carried-clear (suc k) cs e = absurd (omega (arith, carried-here (suc k) cs (omega arith)))
+
+pub carried-last : (k : ℕ) → first (carried k ∷ []) ≡ k
+carried-last zero = carried-skip 0 [] refl ∙ first-none
+carried-last (suc k) = carried-here (suc k) [] (omega arith)
 
 -- of a whole list: a chain that refuses nothing has no condition that holds, where every number is one of document 01's and not 0
 abbrev pub Clear : Conditions → Type 0

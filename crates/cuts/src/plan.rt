@@ -2,7 +2,6 @@
 // origin.
 use buffers::Answer;
 use solar_roll::ConfiguredRoll;
-use solar_roll::SolarRollConfig;
 
 // A plan, and how many writes its whole journal has: the header's and one for each chunk.
 pub(crate) struct Plan {
@@ -10,7 +9,8 @@ pub(crate) struct Plan {
     pub times: usize,
     pub writes: u64,
     pub n: u64,
-    pub config: SolarRollConfig,
+    pub tolerance_deg: f64,
+    pub configured: ConfiguredRoll,
 }
 
 pub(crate) fn plan_of(
@@ -19,19 +19,15 @@ pub(crate) fn plan_of(
     writes: u64,
     n: u64,
     tolerance_deg: f64,
-    roll_deg: ConfiguredRoll,
+    configured: ConfiguredRoll,
 ) -> Plan {
-    let config = SolarRollConfig {
-        tolerance_deg,
-        roll_deg,
-        panel_normal: [0.0, 1.0, 0.0],
-    };
     Plan {
         targets,
         times,
         writes,
         n,
-        config,
+        tolerance_deg,
+        configured,
     }
 }
 
@@ -68,12 +64,16 @@ pub(crate) fn begin(plan: Plan, journal: &mut [u8], used: u64) -> Answer {
     let observers = [0.0; 210];
     let mut suns = [0.0; 210];
     fill_suns(&mut suns);
-    let config = plan.config;
+    let tolerances = [plan.tolerance_deg];
+    let configured = plan.configured;
+    let panels = [0.0, 1.0, 0.0];
     journal::begin(
         first(&targets, plan.targets),
         first(&suns, plan.times),
         first(&observers, plan.times),
-        config,
+        &tolerances,
+        configured,
+        &panels,
         plan.n,
         journal,
         used,
@@ -85,12 +85,16 @@ pub(crate) fn work(plan: Plan, chunk: u64, journal: &mut [u8], used: u64) -> Ans
     let observers = [0.0; 210];
     let mut suns = [0.0; 210];
     fill_suns(&mut suns);
-    let config = plan.config;
+    let tolerances = [plan.tolerance_deg];
+    let configured = plan.configured;
+    let panels = [0.0, 1.0, 0.0];
     journal::work(
         first(&targets, plan.targets),
         first(&suns, plan.times),
         first(&observers, plan.times),
-        config,
+        &tolerances,
+        configured,
+        &panels,
         plan.n,
         chunk,
         journal,
@@ -103,12 +107,16 @@ pub(crate) fn recover(plan: Plan, journal: &[u8], used: u64) -> Answer {
     let observers = [0.0; 210];
     let mut suns = [0.0; 210];
     fill_suns(&mut suns);
-    let config = plan.config;
+    let tolerances = [plan.tolerance_deg];
+    let configured = plan.configured;
+    let panels = [0.0, 1.0, 0.0];
     journal::recover(
         first(&targets, plan.targets),
         first(&suns, plan.times),
         first(&observers, plan.times),
-        config,
+        &tolerances,
+        configured,
+        &panels,
         plan.n,
         journal,
         used,
@@ -120,12 +128,16 @@ pub(crate) fn collect(plan: Plan, journal: &[u8], used: u64, mask: &mut [u8]) ->
     let observers = [0.0; 210];
     let mut suns = [0.0; 210];
     fill_suns(&mut suns);
-    let config = plan.config;
+    let tolerances = [plan.tolerance_deg];
+    let configured = plan.configured;
+    let panels = [0.0, 1.0, 0.0];
     journal::collect(
         first(&targets, plan.targets),
         first(&suns, plan.times),
         first(&observers, plan.times),
-        config,
+        &tolerances,
+        configured,
+        &panels,
         plan.n,
         journal,
         used,

@@ -5,23 +5,38 @@ use journal::begin;
 use journal::work;
 use libc::STDOUT_FILENO;
 use solar_roll::ConfiguredRoll;
-use solar_roll::SolarRollConfig;
-
-fn config() -> SolarRollConfig {
-    SolarRollConfig {
-        tolerance_deg: 10.0,
-        roll_deg: ConfiguredRoll::None,
-        panel_normal: [0.0, 1.0, 0.0],
-    }
-}
 
 // The header, then the line of the only chunk.
 fn write_journal(journal: &mut [u8]) -> Answer {
     let target = [1.0, 0.0, 0.0];
     let suns = [0.0, 1.0, 0.0, 0.0, 0.0, 1.0];
     let observers = [0.0; 6];
-    match begin(&target, &suns, &observers, config(), 1, journal, 0) {
-        Answer::Accepted(used) => work(&target, &suns, &observers, config(), 1, 0, journal, used),
+    let tolerances = [10.0];
+    let none = ConfiguredRoll::None;
+    let panels = [0.0, 1.0, 0.0];
+    match begin(
+        &target,
+        &suns,
+        &observers,
+        &tolerances,
+        none,
+        &panels,
+        1,
+        journal,
+        0,
+    ) {
+        Answer::Accepted(used) => work(
+            &target,
+            &suns,
+            &observers,
+            &tolerances,
+            none,
+            &panels,
+            1,
+            0,
+            journal,
+            used,
+        ),
         Answer::Refused(number) => Answer::Refused(number),
     }
 }

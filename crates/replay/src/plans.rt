@@ -26,7 +26,6 @@ use solar_masks::named_values;
 use solar_roll::CellRoll;
 use solar_roll::ConfiguredRoll;
 use solar_roll::EvaluationRoll;
-use solar_roll::SolarRollConfig;
 use solar_roll::cell_roll;
 use solar_roll::circular_diff_deg;
 use solar_roll::triple;
@@ -36,17 +35,11 @@ pub(crate) fn difference(asked: &[u64; 256]) -> bool {
     bits(circular_diff_deg(of_bits(asked[1]), of_bits(asked[2]))) == asked[3]
 }
 
-fn settings(given: &[u64; 256]) -> SolarRollConfig {
-    let panel_normal = [of_bits(given[8]), of_bits(given[9]), of_bits(given[10])];
-    let roll_deg = if given[6] == 0 {
+fn configured(given: &[u64; 256]) -> ConfiguredRoll {
+    if given[6] == 0 {
         ConfiguredRoll::None
     } else {
         ConfiguredRoll::Some(of_bits(given[7]))
-    };
-    SolarRollConfig {
-        tolerance_deg: of_bits(given[5]),
-        roll_deg,
-        panel_normal,
     }
 }
 
@@ -57,12 +50,16 @@ pub(crate) fn plan(given: &[u64; 256], asked: &[u64; 256]) -> bool {
     let t = numbers(given, 11, given[1], &mut targets);
     let s = numbers(given, given[3], given[2], &mut suns);
     let o = numbers(given, given[4], given[2], &mut observers);
+    let tolerances = [of_bits(given[5])];
+    let panels = [of_bits(given[8]), of_bits(given[9]), of_bits(given[10])];
     asked_of_plan(
         asked,
         &targets[..t],
         &suns[..s],
         &observers[..o],
-        settings(given),
+        &tolerances,
+        configured(given),
+        &panels,
     )
 }
 
@@ -71,16 +68,66 @@ fn asked_of_plan(
     targets: &[f64],
     suns: &[f64],
     observers: &[f64],
-    config: SolarRollConfig,
+    tolerances: &[f64],
+    configured: ConfiguredRoll,
+    panels: &[f64],
 ) -> bool {
     let kind = asked[0];
     match kind {
-        CELL => cell(asked, targets, suns, observers, config),
-        NAMED_VALUES => values(asked, targets, suns, observers, config),
-        BATCH | AT_SWEEP | AT_FIXED => batch(asked, targets, suns, observers, config),
-        ROW => row(asked, targets, suns, observers, config),
-        SWEEP => sweep(asked, targets, suns, observers, config),
-        _ => section_6(asked, targets, suns, observers, config),
+        CELL => cell(
+            asked,
+            targets,
+            suns,
+            observers,
+            tolerances,
+            configured,
+            panels,
+        ),
+        NAMED_VALUES => values(
+            asked,
+            targets,
+            suns,
+            observers,
+            tolerances,
+            configured,
+            panels,
+        ),
+        BATCH | AT_SWEEP | AT_FIXED => batch(
+            asked,
+            targets,
+            suns,
+            observers,
+            tolerances,
+            configured,
+            panels,
+        ),
+        ROW => row(
+            asked,
+            targets,
+            suns,
+            observers,
+            tolerances,
+            configured,
+            panels,
+        ),
+        SWEEP => sweep(
+            asked,
+            targets,
+            suns,
+            observers,
+            tolerances,
+            configured,
+            panels,
+        ),
+        _ => section_6(
+            asked,
+            targets,
+            suns,
+            observers,
+            tolerances,
+            configured,
+            panels,
+        ),
     }
 }
 
@@ -90,16 +137,17 @@ fn cell(
     targets: &[f64],
     suns: &[f64],
     observers: &[f64],
-    config: SolarRollConfig,
+    tolerances: &[f64],
+    configured: ConfiguredRoll,
+    panels: &[f64],
 ) -> bool {
     let target = triple(targets, asked[1] as usize);
     let time = asked[2] as usize;
-    let panel_normal = config.panel_normal;
     let cell = cell_roll(
         target,
         triple(suns, time),
         triple(observers, time),
-        panel_normal,
+        triple(panels, 0),
     );
     same_cell(asked, cell)
 }
@@ -118,11 +166,21 @@ fn values(
     targets: &[f64],
     suns: &[f64],
     observers: &[f64],
-    config: SolarRollConfig,
+    tolerances: &[f64],
+    configured: ConfiguredRoll,
+    panels: &[f64],
 ) -> bool {
     let unwritten = of_bits(UNWRITTEN);
     let mut values = [unwritten; 96];
-    let answer = named_values(targets, suns, observers, config, &mut values);
+    let answer = named_values(
+        targets,
+        suns,
+        observers,
+        tolerances,
+        configured,
+        panels,
+        &mut values,
+    );
     accepted(answer, 0) && same_numbers(&values, asked, 3, 1)
 }
 
@@ -132,7 +190,9 @@ fn row(
     targets: &[f64],
     suns: &[f64],
     observers: &[f64],
-    config: SolarRollConfig,
+    tolerances: &[f64],
+    configured: ConfiguredRoll,
+    panels: &[f64],
 ) -> bool {
     let unwritten = of_bits(UNWRITTEN);
     let mut mask = [7u8; 24];
@@ -142,7 +202,9 @@ fn row(
         targets,
         suns,
         observers,
-        config,
+        tolerances,
+        configured,
+        panels,
         target,
         &mut mask,
         &mut severities,
@@ -163,13 +225,47 @@ fn journal_of(
     targets: &[f64],
     suns: &[f64],
     observers: &[f64],
-    config: SolarRollConfig,
+    tolerances: &[f64],
+    configured: ConfiguredRoll,
+    panels: &[f64],
     n: u64,
     file: &mut [u8],
 ) -> u64 {
-    let begun = used(journal::begin(targets, suns, observers, config, n, file, 0));
-    let end = used(journal::work(targets, suns, observers, config, n, 0, file, begun));
-    match journal::work(targets, suns, observers, config, n, 1, file, end) {
+    let begun = used(journal::begin(
+        targets,
+        suns,
+        observers,
+        tolerances,
+        configured,
+        panels,
+        n,
+        file,
+        0,
+    ));
+    let end = used(journal::work(
+        targets,
+        suns,
+        observers,
+        tolerances,
+        configured,
+        panels,
+        n,
+        0,
+        file,
+        begun,
+    ));
+    match journal::work(
+        targets,
+        suns,
+        observers,
+        tolerances,
+        configured,
+        panels,
+        n,
+        1,
+        file,
+        end,
+    ) {
         Answer::Accepted(second) => second,
         Answer::Refused(_) => end,
     }
@@ -181,13 +277,35 @@ fn sweep(
     targets: &[f64],
     suns: &[f64],
     observers: &[f64],
-    config: SolarRollConfig,
+    tolerances: &[f64],
+    configured: ConfiguredRoll,
+    panels: &[f64],
 ) -> bool {
     let n = asked[1];
     let mut file = [0u8; 256];
     let mut mask = [7u8; 96];
-    let end = journal_of(targets, suns, observers, config, n, &mut file);
-    match journal::collect(targets, suns, observers, config, n, &file, end, &mut mask) {
+    let end = journal_of(
+        targets,
+        suns,
+        observers,
+        tolerances,
+        configured,
+        panels,
+        n,
+        &mut file,
+    );
+    match journal::collect(
+        targets,
+        suns,
+        observers,
+        tolerances,
+        configured,
+        panels,
+        n,
+        &file,
+        end,
+        &mut mask,
+    ) {
         Answer::Accepted(probes) => probes == asked[3] && same_marks(&mask, asked, 4, 1),
         Answer::Refused(_) => false,
     }
@@ -199,20 +317,48 @@ fn batch(
     targets: &[f64],
     suns: &[f64],
     observers: &[f64],
-    config: SolarRollConfig,
+    tolerances: &[f64],
+    configured: ConfiguredRoll,
+    panels: &[f64],
 ) -> bool {
     let mut mask = [7u8; 96];
     let kind = asked[0];
     let roll = of_bits(asked[1]);
     let answer = match kind {
-        BATCH => in_constraint_batch(targets, suns, observers, config, &mut mask),
+        BATCH => in_constraint_batch(
+            targets,
+            suns,
+            observers,
+            tolerances,
+            configured,
+            panels,
+            &mut mask,
+        ),
         AT_SWEEP => {
             let swept = EvaluationRoll::Sweep(roll);
-            in_constraint_batch_at_roll(targets, suns, observers, config, swept, &mut mask)
+            in_constraint_batch_at_roll(
+                targets,
+                suns,
+                observers,
+                tolerances,
+                configured,
+                panels,
+                swept,
+                &mut mask,
+            )
         }
         _ => {
             let fixed = EvaluationRoll::Fixed(roll);
-            in_constraint_batch_at_roll(targets, suns, observers, config, fixed, &mut mask)
+            in_constraint_batch_at_roll(
+                targets,
+                suns,
+                observers,
+                tolerances,
+                configured,
+                panels,
+                fixed,
+                &mut mask,
+            )
         }
     };
     accepted(answer, 0) && same_mask(asked, &mask)
@@ -224,7 +370,9 @@ fn section_6(
     targets: &[f64],
     suns: &[f64],
     observers: &[f64],
-    config: SolarRollConfig,
+    tolerances: &[f64],
+    configured: ConfiguredRoll,
+    panels: &[f64],
 ) -> bool {
     let mut mask = [7u8; 96];
     let kind = asked[0];
@@ -235,16 +383,30 @@ fn section_6(
             targets,
             suns,
             observers,
-            config,
+            tolerances,
+            configured,
+            panels,
             a,
             &mut mask,
         ),
-        FIELD => field_of_regard_violated_batch(targets, suns, observers, config, a, b, &mut mask),
+        FIELD => field_of_regard_violated_batch(
+            targets,
+            suns,
+            observers,
+            tolerances,
+            configured,
+            panels,
+            a,
+            b,
+            &mut mask,
+        ),
         _ => field_of_regard_violated_at_roll(
             targets,
             suns,
             observers,
-            config,
+            tolerances,
+            configured,
+            panels,
             a,
             of_bits(b),
             &mut mask,

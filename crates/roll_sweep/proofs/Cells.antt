@@ -14,7 +14,7 @@ use Rattle.buffers.proofs.Rows.{cell-row, cell-time}
 use Rattle.solar_roll.specs.Vectors.{Vector}
 use Rattle.solar_roll.specs.Roll.{bodyAxes, panelOf}
 use Rattle.solar_roll.specs.Cell.{rollIn, violates, inForce}
-use Rattle.solar_roll.specs.Plan.{Plan, timesOf, rowDirection, rowConfig, sunAt, cellOf, planConfigured, violatesAt}
+use Rattle.solar_roll.specs.Plan.{Plan, timesOf, rowDirection, rowConfig, sunAt, cellOf, violatesAt}
 use Rattle.solar_roll.specs.declared.plan.SolarRollConfig.{SolarRollConfig}
 use Rattle.solar_roll.specs.declared.cell.ConfiguredRoll.{ConfiguredRoll}
 use Rattle.solar_roll.specs.declared.cell.ConfiguredRoll.the-variants.{None, Some}
@@ -28,8 +28,9 @@ entry w f l d k e h = sym (getD-take w l k d h) ∙ ap (λ (t : List _). getD t 
 
 -- a cell of a plan, where the table has the Sun's unit at its time
 pub cell-violates : (p : Plan) (rolls : List Float) (units : List Vector) (i k : ℕ) → getD units (i % length units) [] ≡ sunAt p (i % timesOf p)
-    → violatesBy (p .targets) (timesOf p) units (p .config) i (sampleRoll rolls (p .config .«roll_deg») k) ≡ violatesAt p (i / timesOf p) (i % timesOf p) (getD rolls k nan)
-unfolding violatesBy violatesAt cellOf rowConfig planConfigured
+    → violatesBy (p .targets) (timesOf p) units (p .tolerances) (p .configured) (p .panels) i (sampleRoll rolls (p .configured) k)
+    ≡ violatesAt p (i / timesOf p) (i % timesOf p) (getD rolls k nan)
+unfolding violatesBy violatesAt cellOf
 cell-violates p rolls units i k e = rw (e, roll-shared)
 
 -- by a table of the Sun's units of all times
@@ -47,19 +48,21 @@ unit-of-cell p units c w k few size e h =
     ap (λ (n : ℕ). getD units n []) place ∙ entry w (λ j. sunAt p ((64 * c + j) % timesOf p)) units [] k e h
 
 -- m cells, from the k-th of those from number first on, that lie in one row, and their Sun's units one after the other in the table
-pub row-swept : (targets : List Float) (config : SolarRollConfig) (rolls : List Float) (units : List Vector) (times first k m w : ℕ) → w ≡ m
+pub row-swept : (targets tolerances : List Float) (configured : ConfiguredRoll) (panels rolls : List Float) (units : List Vector) (times first k m w : ℕ) → w ≡ m
     → (first + k) % times + m ≤ times → (first + k) % length units + m ≤ length units
     → let r : ℕ = (first + k) / times in
+    let config : SolarRollConfig = rowConfig tolerances configured panels r in
     let part : List Vector = take w (drop ((first + k) % length units) units) in
-    sweptBy (length part) (length rolls) (λ j s. violates (rollIn (bodyAxes (rowDirection targets r)) (getD part j []) (panelOf (config .«panel_normal»))) (getD rolls s nan) (rowConfig config r .«tolerance_deg»))
-    ≡ sweptBy m (length rolls) (λ j s. violatesBy targets times units config (first + (k + j)) (getD rolls s nan))
+    sweptBy (length part) (length rolls) (λ j s. violates (rollIn (bodyAxes (rowDirection targets r)) (getD part j []) (panelOf (config .«panel_normal»))) (getD rolls s nan) (config .«tolerance_deg»))
+    ≡ sweptBy m (length rolls) (λ j s. violatesBy targets times units tolerances configured panels (first + (k + j)) (getD rolls s nan))
 unfolding violatesBy
-row-swept targets config rolls units times first k m w e a b =
+row-swept targets tolerances configured panels rolls units times first k m w e a b =
     let L : ℕ = length units in
     let i : ℕ = first + k in
     let start : ℕ = i % L in
     let part : List Vector = take w (drop start units) in
-    let at : ℕ → Vector → ℕ → Bool = λ r unit s. violates (rollIn (bodyAxes (rowDirection targets r)) unit (panelOf (config .«panel_normal»))) (getD rolls s nan) (rowConfig config r .«tolerance_deg») in
+    let config : ℕ → SolarRollConfig = rowConfig tolerances configured panels in
+    let at : ℕ → Vector → ℕ → Bool = λ r unit s. violates (rollIn (bodyAxes (rowDirection targets r)) unit (panelOf (config r .«panel_normal»))) (getD rolls s nan) (config r .«tolerance_deg») in
     let size : length part ≡ m = length-take-le w (drop start units) (omega (arith, length-drop start units)) ∙ e in
     ap (λ (n : ℕ). sweptBy n (length rolls) (λ j. at (i / times) (getD part j []))) size
     ∙ swept-ext m (length rolls) (λ j. at (i / times) (getD part j [])) (λ j. at ((first + (k + j)) / times) (getD units ((first + (k + j)) % L) []))

@@ -34,11 +34,12 @@ sweptOf s c = record { mask = chunkMask s c; probes = chunkProbes s c }
 -- ---- the call, which is lent the Sun's units for the positions
 
 -- cell i is violated at a roll. The Sun's unit there is entry i % L of a table of L units: of all times, or of a chunk's 64 cells
-unfoldable pub violatesBy : List Float → ℕ → List Vector → SolarRollConfig → ℕ → Float → Bool
-violatesBy targets times units config i roll =
+unfoldable pub violatesBy : List Float → ℕ → List Vector → List Float → ConfiguredRoll → List Float → ℕ → Float → Bool
+violatesBy targets times units tolerances configured panels i roll =
     let r : ℕ = i / times in
+    let config : SolarRollConfig = rowConfig tolerances configured panels r in
     let cell : CellRoll = rollIn (bodyAxes (rowDirection targets r)) (getD units (i % length units) []) (panelOf (config .«panel_normal»)) in
-    violates cell roll (rowConfig config r .«tolerance_deg»)
+    violates cell roll (config .«tolerance_deg»)
 
 -- the roll that sample k stands for
 abbrev pub sampleRoll : List Float → ConfiguredRoll → ℕ → Float
@@ -54,12 +55,13 @@ chunkRefusal rows times units samples c =
     ∷ [])
 
 -- what the sweep of chunk c answers
-abbrev pub sweptReply : List Float → ℕ → List Vector → SolarRollConfig → List Float → ℕ → Reply Swept
-sweptReply targets times units config rolls c =
+abbrev pub sweptReply : List Float → ℕ → List Vector → List Float → ConfiguredRoll → List Float → List Float → ℕ → Reply Swept
+sweptReply targets times units tolerances configured panels rolls c =
     let rows : ℕ = count targets in
     let n : ℕ = length rolls in
+    let violated : ℕ → Float → Bool = violatesBy targets times units tolerances configured panels in
     reply (chunkRefusal rows times (length units) n c)
-    (sweptBy (cellsIn (rows * times) c) n (λ k s. violatesBy targets times units config (64 * c + k) (sampleRoll rolls (config .«roll_deg») s)))
+    (sweptBy (cellsIn (rows * times) c) n (λ k s. violated (64 * c + k) (sampleRoll rolls configured s)))
 
 -- the number and the value of each case of the answer
 unfoldable pub chunkReply : ChunkAnswer → Reply Swept

@@ -5,11 +5,10 @@ use solar_roll::MOST_CELLS;
 use solar_roll::MOST_ROWS;
 use solar_roll::MOST_TIMES;
 use solar_roll::Panel;
-use solar_roll::SolarRollConfig;
 use solar_roll::body_axes;
 use solar_roll::direction;
 use solar_roll::free_or_at;
-use solar_roll::panel_of;
+use solar_roll::panel_at;
 use solar_roll::rolls_deg_in;
 use solar_roll::row_config;
 use solar_roll::samples_refusal;
@@ -87,12 +86,14 @@ fn sweep_row(
 }
 
 // Sweeps `cells` cells from number `first` on over rolls that are in force, row by row, so that a row's axes are worked
-// out once. The Sun's unit of cell i is entry i % L of a table of L units: of all times, or of one chunk's 64 cells.
+// out once, and the panel, which the rows share, once for all. The Sun's unit of cell i is entry i % L of a table of L units: of all times, or of one chunk's 64 cells.
 fn sweep_cells(
     targets: &[f64],
     times: usize,
     units: &[[f64; 3]],
-    config: SolarRollConfig,
+    tolerances: &[f64],
+    configured: ConfiguredRoll,
+    panels: &[f64],
     rolls: &[f64],
     first: usize,
     cells: usize,
@@ -100,11 +101,10 @@ fn sweep_cells(
     requires { ⌜ (cells ≤ 64) × (length (now rolls) ≤ mostSamples) × (0 < times) × (times ≤ mostTimes) × (0 < length (now units))
         × (first + cells ≤ mostCells) ⌝ }
     ensures { λ r.
-        let violated : ℕ → Float → Bool = violatesBy (now (targets .entry)) times (now (units .entry)) config in
+        let violated : ℕ → Float → Bool = violatesBy (now (targets .entry)) times (now (units .entry)) (now (tolerances .entry)) configured (now (panels .entry)) in
         ⌜ r ≡ sweptBy cells (length (now (rolls .entry))) (λ k s. violated (first + k) (getD (now (rolls .entry)) s nan)) ⌝ }
 {
-    let normal = config.panel_normal;
-    let panel = panel_of(normal);
+    let panel = panel_at(panels, first / times);
     let mut mask: u64 = 0;
     let mut probes: u64 = 0;
     let mut k = 0;
@@ -114,7 +114,7 @@ fn sweep_cells(
         let start = (first + k) % units.len();
         let count = smaller(smaller(left, cells - k), units.len() - start);
         let axes = body_axes(direction(targets, row));
-        let settings = row_config(config, row);
+        let settings = row_config(tolerances, configured, panels, row);
         let part = sweep_row(
             axes,
             &units[start..start + count],
@@ -147,7 +147,9 @@ fn sweep_samples(
     targets: &[f64],
     times: usize,
     units: &[[f64; 3]],
-    config: SolarRollConfig,
+    tolerances: &[f64],
+    configured: ConfiguredRoll,
+    panels: &[f64],
     rolls: &[f64],
     first: usize,
     cells: usize,
@@ -155,15 +157,34 @@ fn sweep_samples(
     requires { ⌜ (cells ≤ 64) × (length (now rolls) ≤ mostSamples) × (0 < times) × (times ≤ mostTimes) × (0 < length (now units))
         × (first + cells ≤ mostCells) × (1 ≤ length (now rolls)) ⌝ }
     ensures { λ r.
-        let violated : ℕ → Float → Bool = violatesBy (now (targets .entry)) times (now (units .entry)) config in
-        ⌜ r ≡ sweptBy cells (length (now (rolls .entry))) (λ k s. violated (first + k) (sampleRoll (now (rolls .entry)) (config .«roll_deg») s)) ⌝ }
+        let violated : ℕ → Float → Bool = violatesBy (now (targets .entry)) times (now (units .entry)) (now (tolerances .entry)) configured (now (panels .entry)) in
+        ⌜ r ≡ sweptBy cells (length (now (rolls .entry))) (λ k s. violated (first + k) (sampleRoll (now (rolls .entry)) configured s)) ⌝ }
 {
-    let configured = config.roll_deg;
     match configured {
-        ConfiguredRoll::None => sweep_cells(targets, times, units, config, rolls, first, cells),
+        ConfiguredRoll::None => sweep_cells(
+            targets,
+            times,
+            units,
+            tolerances,
+            configured,
+            panels,
+            rolls,
+            first,
+            cells,
+        ),
         ConfiguredRoll::Some(roll_deg) => {
             let one = [roll_deg];
-            let tried = sweep_cells(targets, times, units, config, &one, first, cells);
+            let tried = sweep_cells(
+                targets,
+                times,
+                units,
+                tolerances,
+                configured,
+                panels,
+                &one,
+                first,
+                cells,
+            );
             repeated(tried, rolls.len())
         }
     }
@@ -202,11 +223,14 @@ pub fn sweep_chunk(
     targets: &[f64],
     times: usize,
     units: &[[f64; 3]],
-    config: SolarRollConfig,
+    tolerances: &[f64],
+    configured: ConfiguredRoll,
+    panels: &[f64],
     rolls: &[f64],
     chunk: u64,
 ) -> ChunkAnswer
-    ensures { λ r. ⌜ chunkReply r ≡ sweptReply (now (targets .entry)) times (now (units .entry)) config (now (rolls .entry)) chunk ⌝ }
+    ensures { λ r.
+        ⌜ chunkReply r ≡ sweptReply (now (targets .entry)) times (now (units .entry)) (now (tolerances .entry)) configured (now (panels .entry)) (now (rolls .entry)) chunk ⌝ }
 {
     let rows = targets.len() / 3;
     let refusal = chunk_refusal(rows, times, units.len(), rolls.len(), chunk);
@@ -215,5 +239,15 @@ pub fn sweep_chunk(
     }
     let first = 64 * chunk as usize;
     let cells = cells_in((rows * times) as u64, chunk) as usize;
-    ChunkAnswer::Accepted(sweep_samples(targets, times, units, config, rolls, first, cells))
+    ChunkAnswer::Accepted(sweep_samples(
+        targets,
+        times,
+        units,
+        tolerances,
+        configured,
+        panels,
+        rolls,
+        first,
+        cells,
+    ))
 }

@@ -8,7 +8,6 @@ use show::bytes;
 use show::cell;
 use solar_roll::ConfiguredRoll;
 use solar_roll::EvaluationRoll;
-use solar_roll::SolarRollConfig;
 use solar_roll::cell_roll;
 
 const X: [f64; 3] = [1.0, 0.0, 0.0];
@@ -25,24 +24,6 @@ fn nan() -> f64 {
 
 fn infinity() -> f64 {
     1.0 / 0.0
-}
-
-fn free_roll(tolerance_deg: f64) -> SolarRollConfig {
-    let panel_normal = [0.0, 1.0, 0.0];
-    SolarRollConfig {
-        tolerance_deg,
-        roll_deg: ConfiguredRoll::None,
-        panel_normal,
-    }
-}
-
-fn configured(roll_deg: f64, tolerance_deg: f64) -> SolarRollConfig {
-    let panel_normal = [0.0, 1.0, 0.0];
-    SolarRollConfig {
-        tolerance_deg,
-        roll_deg: ConfiguredRoll::Some(roll_deg),
-        panel_normal,
-    }
 }
 
 // Target [1, 0, 0], panel [0, 1, 0], observer at the origin.
@@ -82,7 +63,9 @@ fn masks() {
         &targets,
         &suns,
         &observers,
-        free_roll(10.0),
+        &[10.0],
+        ConfiguredRoll::None,
+        &Y,
         &mut mask,
     ));
     bytes(&mask);
@@ -91,7 +74,9 @@ fn masks() {
         &targets,
         &suns,
         &observers,
-        configured(0.0, 10.0),
+        &[10.0],
+        ConfiguredRoll::Some(0.0),
+        &Y,
         &mut mask,
     ));
     bytes(&mask);
@@ -100,7 +85,9 @@ fn masks() {
         &targets,
         &suns,
         &observers,
-        configured(0.0, 10.0),
+        &[10.0],
+        ConfiguredRoll::Some(0.0),
+        &Y,
         EvaluationRoll::Sweep(90.0),
         &mut mask,
     ));
@@ -110,7 +97,9 @@ fn masks() {
         &targets,
         &suns,
         &observers,
-        configured(0.0, 10.0),
+        &[10.0],
+        ConfiguredRoll::Some(0.0),
+        &Y,
         EvaluationRoll::Fixed(90.0),
         &mut mask,
     ));
@@ -120,7 +109,9 @@ fn masks() {
         &targets,
         &suns,
         &observers,
-        free_roll(90.0),
+        &[90.0],
+        ConfiguredRoll::None,
+        &Y,
         EvaluationRoll::Sweep(0.0),
         &mut mask,
     ));
@@ -130,7 +121,9 @@ fn masks() {
         &targets,
         &suns,
         &observers,
-        free_roll(nan()),
+        &[nan()],
+        ConfiguredRoll::None,
+        &Y,
         EvaluationRoll::Sweep(0.0),
         &mut mask,
     ));
@@ -140,7 +133,9 @@ fn masks() {
         &targets,
         &suns,
         &observers,
-        free_roll(-1.0),
+        &[-1.0],
+        ConfiguredRoll::None,
+        &Y,
         EvaluationRoll::Sweep(0.0),
         &mut mask,
     ));
@@ -150,7 +145,9 @@ fn masks() {
         &targets,
         &suns,
         &observers,
-        free_roll(10.0),
+        &[10.0],
+        ConfiguredRoll::None,
+        &Y,
         1,
         &mut mask,
     ));
@@ -160,7 +157,9 @@ fn masks() {
         &targets,
         &suns,
         &observers,
-        free_roll(10.0),
+        &[10.0],
+        ConfiguredRoll::None,
+        &Y,
         0,
         &mut mask,
     ));
@@ -170,7 +169,9 @@ fn masks() {
         &targets,
         &suns,
         &observers,
-        free_roll(10.0),
+        &[10.0],
+        ConfiguredRoll::None,
+        &Y,
         1,
         0.0,
         &mut mask,
@@ -189,7 +190,9 @@ fn rows() {
         &targets,
         &suns,
         &observers,
-        configured(0.0, 10.0),
+        &[10.0],
+        ConfiguredRoll::Some(0.0),
+        &Y,
         0,
         &mut mask,
         &mut severities,
@@ -201,7 +204,9 @@ fn rows() {
         &targets,
         &suns,
         &observers,
-        configured(0.0, -infinity()),
+        &[-infinity()],
+        ConfiguredRoll::Some(0.0),
+        &Y,
         0,
         &mut mask,
         &mut severities,
@@ -213,7 +218,9 @@ fn rows() {
         &targets,
         &suns,
         &observers,
-        free_roll(10.0),
+        &[10.0],
+        ConfiguredRoll::None,
+        &Y,
         0,
         &mut mask,
         &mut severities,
@@ -222,7 +229,15 @@ fn rows() {
     bits(&severities);
     asked(b"named values, of a free cell too");
     let mut values = [9.0; 5];
-    answered(solar_masks::named_values(&targets, &suns, &observers, free_roll(10.0), &mut values));
+    answered(solar_masks::named_values(
+        &targets,
+        &suns,
+        &observers,
+        &[10.0],
+        ConfiguredRoll::None,
+        &Y,
+        &mut values,
+    ));
     bits(&values);
 }
 
@@ -240,7 +255,9 @@ fn refusals() {
         &targets[..2],
         &suns,
         &observers,
-        free_roll(10.0),
+        &[10.0],
+        ConfiguredRoll::None,
+        &Y,
         &mut mask,
     ));
     asked(b"fewer observers than Suns");
@@ -248,7 +265,9 @@ fn refusals() {
         &targets,
         &suns,
         &observers[..3],
-        free_roll(10.0),
+        &[10.0],
+        ConfiguredRoll::None,
+        &Y,
         &mut mask,
     ));
     asked(b"n = 3601 with a configured roll");
@@ -256,7 +275,9 @@ fn refusals() {
         &targets,
         &suns,
         &observers,
-        configured(0.0, 10.0),
+        &[10.0],
+        ConfiguredRoll::Some(0.0),
+        &Y,
         3601,
         &mut mask,
     ));
@@ -265,7 +286,9 @@ fn refusals() {
         &targets,
         &suns,
         &observers,
-        free_roll(10.0),
+        &[10.0],
+        ConfiguredRoll::None,
+        &Y,
         0,
         1099511627776,
         &mut mask,
@@ -275,7 +298,9 @@ fn refusals() {
         &targets,
         &suns,
         &observers,
-        free_roll(10.0),
+        &[10.0],
+        ConfiguredRoll::None,
+        &Y,
         &mut mask,
     ));
     asked(b"target 2");
@@ -283,7 +308,9 @@ fn refusals() {
         &targets,
         &suns[..3],
         &observers[..3],
-        free_roll(10.0),
+        &[10.0],
+        ConfiguredRoll::None,
+        &Y,
         &mut mask,
     ));
     asked(b"no targets");
@@ -291,7 +318,9 @@ fn refusals() {
         &targets[..0],
         &suns[..3],
         &observers[..3],
-        free_roll(10.0),
+        &[10.0],
+        ConfiguredRoll::None,
+        &Y,
         &mut mask,
     ));
     asked(b"no times, field of regard");
@@ -299,7 +328,9 @@ fn refusals() {
         &targets[..0],
         &suns[..0],
         &observers[..0],
-        free_roll(10.0),
+        &[10.0],
+        ConfiguredRoll::None,
+        &Y,
         0,
         0.0,
         &mut mask,
@@ -309,7 +340,9 @@ fn refusals() {
         &targets[..0],
         &suns[..3],
         &observers[..3],
-        free_roll(10.0),
+        &[10.0],
+        ConfiguredRoll::None,
+        &Y,
         0,
         &mut unlent_mask[..0],
         &mut severities,
@@ -319,7 +352,9 @@ fn refusals() {
         &sound,
         &suns[..3],
         &observers[..3],
-        free_roll(10.0),
+        &[10.0],
+        ConfiguredRoll::None,
+        &Y,
         0,
         &mut mask,
         &mut unlent_severities[..0],
@@ -329,7 +364,9 @@ fn refusals() {
         &sound,
         &suns[..3],
         &observers[..3],
-        free_roll(10.0),
+        &[10.0],
+        ConfiguredRoll::None,
+        &Y,
         &mut unlent_mask[..0],
     ));
     asked(b"the lent mask after all of these");

@@ -6,7 +6,7 @@ use lib.Dec.{leb, ltb}
 use lib.ListN.{length}
 use Rattle.buffers.specs.Lent.{filled}
 use Rattle.buffers.specs.Refusal.{first, carried, Reply, reply, unlessRefused}
-use Rattle.solar_roll.specs.Plan.{Plan, rowsOf, timesOf, planConfigured, planRefusal}
+use Rattle.solar_roll.specs.Plan.{Plan, rowsOf, timesOf, planRefusal}
 use Rattle.solar_masks.specs.Mask.{markAt}
 use Rattle.solar_roll.specs.declared.cell.ConfiguredRoll.{ConfiguredRoll}
 use Rattle.solar_masks.specs.declared.mask.MarkRule.{MarkRule}
@@ -32,4 +32,4 @@ fieldReply p said time room = reply (fieldRefusal p said time room) 0
 -- what a call leaves in the lent mask, by the rule that it makes of the configured roll
 unfoldable pub fieldAfter : Plan → ℕ → ℕ → (ConfiguredRoll → MarkRule) → List ℕ → List ℕ
 fieldAfter p said time rule mask =
-    unlessRefused (fieldRefusal p said time (length mask)) (filled (rowsOf p) (λ r. markAt p (rule (planConfigured p)) r time) mask) mask
+    unlessRefused (fieldRefusal p said time (length mask)) (filled (rowsOf p) (λ r. markAt p (rule (p .configured)) r time) mask) mask

@@ -12,7 +12,7 @@ use Rattle.buffers.specs.Refusal.{first, carried, Reply, reply, unlessRefused}
 use Rattle.float.specs.Arithmetic.{_⊖_, remEuclid}
 use Rattle.solar_roll.specs.Roll.{sampleStep}
 use Rattle.solar_roll.specs.Cell.{violates, inForce}
-use Rattle.solar_roll.specs.Plan.{Plan, timesOf, cellsOf, configOf, cellOf, optimalAt, planConfigured, planRefusal}
+use Rattle.solar_roll.specs.Plan.{Plan, timesOf, cellsOf, configOf, cellOf, optimalAt, planRefusal}
 use Rattle.solar_roll.specs.declared.cell.CellRoll.{CellRoll}
 use Rattle.solar_roll.specs.declared.cell.CellRoll.the-variants as cell
 use Rattle.solar_roll.specs.declared.cell.ConfiguredRoll.{ConfiguredRoll}
@@ -91,7 +91,7 @@ cellsReply p said room = reply (cellsRefusal p said room) 0
 -- what a mask call leaves in the lent mask, by the rule that it makes of the configured roll
 unfoldable pub maskAfter : Plan → ℕ → (ConfiguredRoll → MarkRule) → List ℕ → List ℕ
 maskAfter p said rule mask =
-    unlessRefused (cellsRefusal p said (length mask)) (filled (cellsOf p) (cellMark p (rule (planConfigured p))) mask) mask
+    unlessRefused (cellsRefusal p said (length mask)) (filled (cellsOf p) (cellMark p (rule (p .configured))) mask) mask
 
 -- what the call for named values leaves in the lent list
 unfoldable pub valuesAfter : Plan → List Float → List Float

@@ -11,7 +11,7 @@ use Rattle.buffers.specs.Refusal.{first, carried, Reply, reply, unlessRefused}
 use Rattle.float.specs.Arithmetic.{_⊖_, zero·0}
 use Rattle.solar_roll.specs.Roll.{circularDiffDeg}
 use Rattle.solar_roll.specs.Cell.{violates}
-use Rattle.solar_roll.specs.Plan.{Plan, rowsOf, timesOf, configOf, cellOf, planConfigured, planRefusal}
+use Rattle.solar_roll.specs.Plan.{Plan, rowsOf, timesOf, configOf, cellOf, planRefusal}
 use Rattle.solar_masks.specs.Mask.{atConfigured, markAt}
 use Rattle.solar_roll.specs.declared.cell.CellRoll.{CellRoll}
 use Rattle.solar_roll.specs.declared.cell.CellRoll.the-variants.{Free, At, Refused}
@@ -31,7 +31,7 @@ severity c (Some roll) tolerance = excess c roll tolerance
 
 -- the severity of row r at time j
 unfoldable pub severityAt : Plan → ℕ → ℕ → Float
-severityAt p r j = severity (cellOf p r j) (planConfigured p) (configOf p r .«tolerance_deg»)
+severityAt p r j = severity (cellOf p r j) (p .configured) (configOf p r .«tolerance_deg»)
 
 -- ---- the call: the plan's refusals, then 9, no such row, then 7, of the two lent lists' lengths
 
@@ -54,7 +54,7 @@ rowReply p r mask severities = reply (rowRefusal p r mask severities) 0
 -- what the call leaves in the lent mask, and in the lent severities
 unfoldable pub rowMaskAfter : Plan → ℕ → List ℕ → List Float → List ℕ
 rowMaskAfter p r mask severities =
-    unlessRefused (rowRefusal p r (length mask) (length severities)) (filled (timesOf p) (markAt p (atConfigured (planConfigured p)) r) mask) mask
+    unlessRefused (rowRefusal p r (length mask) (length severities)) (filled (timesOf p) (markAt p (atConfigured (p .configured)) r) mask) mask
 
 unfoldable pub severitiesAfter : Plan → ℕ → List ℕ → List Float → List Float
 severitiesAfter p r mask severities =

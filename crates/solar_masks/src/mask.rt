@@ -6,12 +6,11 @@ use solar_roll::CellRoll;
 use solar_roll::ConfiguredRoll;
 use solar_roll::EvaluationRoll;
 use solar_roll::Panel;
-use solar_roll::SolarRollConfig;
 use solar_roll::body_axes;
 use solar_roll::direction;
 use solar_roll::free_or_at;
 use solar_roll::in_force;
-use solar_roll::panel_of;
+use solar_roll::panel_at;
 use solar_roll::plan_refusal;
 use solar_roll::rolls_deg_in;
 use solar_roll::row_config;
@@ -22,6 +21,7 @@ ghost use mathlib.Core.Path.{_≡_};
 ghost use Prim.Native.Nat.{ℕ, _+_, _-_, _*_, _≤_};
 ghost use mathlib.Core.List.{[]};
 ghost use lib.ListN.{length, getD};
+ghost use lib.Ieee.{Float};
 ghost use Rattle.buffers.specs.Ranges.{flag};
 ghost use Rattle.buffers.specs.Lent.{filled};
 ghost use Rattle.buffers.specs.Rows.{ColumnsWritten};
@@ -212,7 +212,9 @@ fn mark_row(
 // `units`.
 fn mark_block(
     targets: &[f64],
-    config: SolarRollConfig,
+    tolerances: &[f64],
+    configured: ConfiguredRoll,
+    panels: &[f64],
     panel: Panel,
     units: &[[f64; 3]],
     times: usize,
@@ -224,14 +226,15 @@ fn mark_block(
     requires { ⌜ (countOf (now targets) * times ≤ length (now mask)) × (from + count ≤ times) × (count ≤ length (now units)) ⌝ }
     ensures { λ _. let rows : ℕ = countOf (now (targets .entry)) in
         let cell : ℕ → ℕ → CellRoll = λ r j. rollIn (bodyAxes (rowDirection (now (targets .entry)) r)) (getD (now (units .entry)) (j - from) []) panel in
-        let byte : ℕ → ℕ → ℕ = λ r j. flag (markedBy (cell r j) rule (rowConfig config r .«tolerance_deg»)) in
+        let tolerance : ℕ → Float = λ r. rowConfig (now (tolerances .entry)) configured (now (panels .entry)) r .«tolerance_deg» in
+        let byte : ℕ → ℕ → ℕ = λ r j. flag (markedBy (cell r j) rule (tolerance r)) in
         ⌜ ColumnsWritten rows times rows from count byte 0 (now (mask .entry)) (now (mask .exit)) ⌝ }
 {
     let rows = targets.len() / 3;
     let mut row = 0;
     while row < rows {
         let target = direction(targets, row);
-        let settings = row_config(config, row);
+        let settings = row_config(tolerances, configured, panels, row);
         let start = row * times + from;
         mark_row(
             target,
@@ -252,18 +255,20 @@ fn mark(
     targets: &[f64],
     suns: &[f64],
     observers: &[f64],
-    config: SolarRollConfig,
+    tolerances: &[f64],
+    configured: ConfiguredRoll,
+    panels: &[f64],
     rule: MarkRule,
     mask: &mut [u8],
 )
-    requires { let p : Plan = planOf (now targets) (now suns) (now observers) config in
+    requires { let p : Plan = planOf (now targets) (now suns) (now observers) (now tolerances) configured (now panels) in
         ⌜ (cellsOf p ≤ length (now mask)) × (countOf (now suns) ≤ mostTimes) ⌝ }
-    ensures { λ _. let p : Plan = planOf (now (targets .entry)) (now (suns .entry)) (now (observers .entry)) config in
+    ensures { λ _.
+        let p : Plan = planOf (now (targets .entry)) (now (suns .entry)) (now (observers .entry)) (now (tolerances .entry)) configured (now (panels .entry)) in
         ⌜ now (mask .exit) ≡ filled (cellsOf p) (cellMark p rule) (now (mask .entry)) ⌝ }
 {
     let times = suns.len() / 3;
-    let normal = config.panel_normal;
-    let panel = panel_of(normal);
+    let panel = panel_at(panels, 0);
     let mut units = [[0.0; 3]; 2048];
     let mut from = 0;
     while from < times {
@@ -271,7 +276,9 @@ fn mark(
         sun_units(suns, observers, from, &mut units);
         mark_block(
             targets,
-            config,
+            tolerances,
+            configured,
+            panels,
             panel,
             &units,
             times,
@@ -289,14 +296,26 @@ pub(crate) fn cells_refusal(
     targets: &[f64],
     suns: &[f64],
     observers: &[f64],
-    config: SolarRollConfig,
+    tolerances: &[f64],
+    configured: ConfiguredRoll,
+    panels: &[f64],
     said: u64,
     room: usize,
 ) -> u64
-    ensures { λ r. let p : Plan = planOf (now (targets .entry)) (now (suns .entry)) (now (observers .entry)) config in
+    ensures { λ r.
+        let p : Plan = planOf (now (targets .entry)) (now (suns .entry)) (now (observers .entry)) (now (tolerances .entry)) configured (now (panels .entry)) in
         ⌜ r ≡ cellsRefusal p said room ⌝ }
 {
-    let refusal = plan_refusal(targets, suns, observers, config, said, false);
+    let refusal = plan_refusal(
+        targets,
+        suns,
+        observers,
+        tolerances,
+        configured,
+        panels,
+        said,
+        false,
+    );
     if refusal != 0 {
         return refusal;
     }
@@ -310,21 +329,42 @@ pub fn in_constraint_batch(
     targets: &[f64],
     suns: &[f64],
     observers: &[f64],
-    config: SolarRollConfig,
+    tolerances: &[f64],
+    configured: ConfiguredRoll,
+    panels: &[f64],
     mask: &mut [u8],
 ) -> Answer
-    ensures { λ r. let p : Plan = planOf (now (targets .entry)) (now (suns .entry)) (now (observers .entry)) config in
+    ensures { λ r.
+        let p : Plan = planOf (now (targets .entry)) (now (suns .entry)) (now (observers .entry)) (now (tolerances .entry)) configured (now (panels .entry)) in
         ⌜ replyOf r ≡ cellsReply p 0 (length (now (mask .entry))) ⌝ }
-    ensures { λ r. let p : Plan = planOf (now (targets .entry)) (now (suns .entry)) (now (observers .entry)) config in
+    ensures { λ r.
+        let p : Plan = planOf (now (targets .entry)) (now (suns .entry)) (now (observers .entry)) (now (tolerances .entry)) configured (now (panels .entry)) in
         ⌜ now (mask .exit) ≡ maskAfter p 0 atConfigured (now (mask .entry)) ⌝ }
 {
-    let refusal = cells_refusal(targets, suns, observers, config, 0, mask.len());
+    let refusal = cells_refusal(
+        targets,
+        suns,
+        observers,
+        tolerances,
+        configured,
+        panels,
+        0,
+        mask.len(),
+    );
     if refusal != 0 {
         return Answer::Refused(refusal);
     }
-    let configured = config.roll_deg;
     let rule = at_configured(configured);
-    mark(targets, suns, observers, config, rule, mask);
+    mark(
+        targets,
+        suns,
+        observers,
+        tolerances,
+        configured,
+        panels,
+        rule,
+        mask,
+    );
     Answer::Accepted(0)
 }
 
@@ -333,22 +373,43 @@ pub fn in_constraint_batch_at_roll(
     targets: &[f64],
     suns: &[f64],
     observers: &[f64],
-    config: SolarRollConfig,
+    tolerances: &[f64],
+    configured: ConfiguredRoll,
+    panels: &[f64],
     roll: EvaluationRoll,
     mask: &mut [u8],
 ) -> Answer
-    ensures { λ r. let p : Plan = planOf (now (targets .entry)) (now (suns .entry)) (now (observers .entry)) config in
+    ensures { λ r.
+        let p : Plan = planOf (now (targets .entry)) (now (suns .entry)) (now (observers .entry)) (now (tolerances .entry)) configured (now (panels .entry)) in
         ⌜ replyOf r ≡ cellsReply p 0 (length (now (mask .entry))) ⌝ }
-    ensures { λ r. let p : Plan = planOf (now (targets .entry)) (now (suns .entry)) (now (observers .entry)) config in
+    ensures { λ r.
+        let p : Plan = planOf (now (targets .entry)) (now (suns .entry)) (now (observers .entry)) (now (tolerances .entry)) configured (now (panels .entry)) in
         ⌜ now (mask .exit) ≡ maskAfter p 0 (atRoll roll) (now (mask .entry)) ⌝ }
 {
-    let refusal = cells_refusal(targets, suns, observers, config, 0, mask.len());
+    let refusal = cells_refusal(
+        targets,
+        suns,
+        observers,
+        tolerances,
+        configured,
+        panels,
+        0,
+        mask.len(),
+    );
     if refusal != 0 {
         return Answer::Refused(refusal);
     }
-    let configured = config.roll_deg;
     let rule = at_roll(roll, configured);
-    mark(targets, suns, observers, config, rule, mask);
+    mark(
+        targets,
+        suns,
+        observers,
+        tolerances,
+        configured,
+        panels,
+        rule,
+        mask,
+    );
     Answer::Accepted(0)
 }
 
@@ -357,22 +418,43 @@ pub fn in_constraint_batch_constrained_at_every_roll(
     targets: &[f64],
     suns: &[f64],
     observers: &[f64],
-    config: SolarRollConfig,
+    tolerances: &[f64],
+    configured: ConfiguredRoll,
+    panels: &[f64],
     n: u64,
     mask: &mut [u8],
 ) -> Answer
-    ensures { λ r. let p : Plan = planOf (now (targets .entry)) (now (suns .entry)) (now (observers .entry)) config in
+    ensures { λ r.
+        let p : Plan = planOf (now (targets .entry)) (now (suns .entry)) (now (observers .entry)) (now (tolerances .entry)) configured (now (panels .entry)) in
         ⌜ replyOf r ≡ cellsReply p (samplesOrNoneRefusal n) (length (now (mask .entry))) ⌝ }
-    ensures { λ r. let p : Plan = planOf (now (targets .entry)) (now (suns .entry)) (now (observers .entry)) config in
+    ensures { λ r.
+        let p : Plan = planOf (now (targets .entry)) (now (suns .entry)) (now (observers .entry)) (now (tolerances .entry)) configured (now (panels .entry)) in
         ⌜ now (mask .exit) ≡ maskAfter p (samplesOrNoneRefusal n) (atEveryRoll n) (now (mask .entry)) ⌝ }
 {
     let said = samples_or_none_refusal(n);
-    let refusal = cells_refusal(targets, suns, observers, config, said, mask.len());
+    let refusal = cells_refusal(
+        targets,
+        suns,
+        observers,
+        tolerances,
+        configured,
+        panels,
+        said,
+        mask.len(),
+    );
     if refusal != 0 {
         return Answer::Refused(refusal);
     }
-    let configured = config.roll_deg;
     let rule = at_every_roll(n, configured);
-    mark(targets, suns, observers, config, rule, mask);
+    mark(
+        targets,
+        suns,
+        observers,
+        tolerances,
+        configured,
+        panels,
+        rule,
+        mask,
+    );
     Answer::Accepted(0)
 }

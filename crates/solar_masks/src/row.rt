@@ -3,11 +3,10 @@ use buffers::Answer;
 use solar_roll::CellRoll;
 use solar_roll::ConfiguredRoll;
 use solar_roll::Panel;
-use solar_roll::SolarRollConfig;
 use solar_roll::body_axes;
 use solar_roll::circular_diff_deg;
 use solar_roll::direction;
-use solar_roll::panel_of;
+use solar_roll::panel_at;
 use solar_roll::plan_refusal;
 use solar_roll::roll_in;
 use solar_roll::row_config;
@@ -22,7 +21,7 @@ ghost use Rattle.buffers.specs.Lent.{filled};
 ghost use Rattle.buffers.specs.Refusal.{replyOf};
 ghost use Rattle.solar_roll.specs.Cell.{rollIn, violates};
 ghost use Rattle.solar_roll.specs.declared.cell.CellRoll.{CellRoll};
-ghost use Rattle.solar_roll.specs.Plan.{Plan, planOf, timesOf, planConfigured};
+ghost use Rattle.solar_roll.specs.Plan.{Plan, planOf, timesOf};
 ghost use Rattle.solar_masks.specs.Mask.{markedBy, atConfigured, markAt};
 ghost use Rattle.solar_masks.specs.Row.{excess, severity, severityAt, rowRefusal, rowReply, rowMaskAfter, severitiesAfter};
 
@@ -89,24 +88,26 @@ fn fill_row(
     targets: &[f64],
     suns: &[f64],
     observers: &[f64],
-    config: SolarRollConfig,
+    tolerances: &[f64],
+    configured: ConfiguredRoll,
+    panels: &[f64],
     row: usize,
     mask: &mut [u8],
     severities: &mut [f64],
 )
-    requires { let p : Plan = planOf (now targets) (now suns) (now observers) config in
+    requires { let p : Plan = planOf (now targets) (now suns) (now observers) (now tolerances) configured (now panels) in
         ⌜ (timesOf p ≤ length (now mask)) × (timesOf p ≤ length (now severities)) ⌝ }
-    ensures { λ _. let p : Plan = planOf (now (targets .entry)) (now (suns .entry)) (now (observers .entry)) config in
-        ⌜ now (mask .exit) ≡ filled (timesOf p) (markAt p (atConfigured (planConfigured p)) row) (now (mask .entry)) ⌝ }
-    ensures { λ _. let p : Plan = planOf (now (targets .entry)) (now (suns .entry)) (now (observers .entry)) config in
+    ensures { λ _.
+        let p : Plan = planOf (now (targets .entry)) (now (suns .entry)) (now (observers .entry)) (now (tolerances .entry)) configured (now (panels .entry)) in
+        ⌜ now (mask .exit) ≡ filled (timesOf p) (markAt p (atConfigured configured) row) (now (mask .entry)) ⌝ }
+    ensures { λ _.
+        let p : Plan = planOf (now (targets .entry)) (now (suns .entry)) (now (observers .entry)) (now (tolerances .entry)) configured (now (panels .entry)) in
         ⌜ now (severities .exit) ≡ filled (timesOf p) (severityAt p row) (now (severities .entry)) ⌝ }
 {
     let axes = body_axes(direction(targets, row));
-    let settings = row_config(config, row);
+    let settings = row_config(tolerances, configured, panels, row);
     let tolerance = settings.tolerance_deg;
-    let configured = config.roll_deg;
-    let normal = config.panel_normal;
-    let panel = panel_of(normal);
+    let panel = panel_at(panels, row);
     let times = suns.len() / 3;
     let mut j = 0;
     while j < times {
@@ -123,15 +124,27 @@ fn row_refusal(
     targets: &[f64],
     suns: &[f64],
     observers: &[f64],
-    config: SolarRollConfig,
+    tolerances: &[f64],
+    configured: ConfiguredRoll,
+    panels: &[f64],
     row: u64,
     mask: usize,
     severities: usize,
 ) -> u64
-    ensures { λ r. let p : Plan = planOf (now (targets .entry)) (now (suns .entry)) (now (observers .entry)) config in
+    ensures { λ r.
+        let p : Plan = planOf (now (targets .entry)) (now (suns .entry)) (now (observers .entry)) (now (tolerances .entry)) configured (now (panels .entry)) in
         ⌜ r ≡ rowRefusal p row mask severities ⌝ }
 {
-    let refusal = plan_refusal(targets, suns, observers, config, 0, false);
+    let refusal = plan_refusal(
+        targets,
+        suns,
+        observers,
+        tolerances,
+        configured,
+        panels,
+        0,
+        false,
+    );
     if refusal != 0 {
         return refusal;
     }
@@ -151,23 +164,30 @@ pub fn evaluate(
     targets: &[f64],
     suns: &[f64],
     observers: &[f64],
-    config: SolarRollConfig,
+    tolerances: &[f64],
+    configured: ConfiguredRoll,
+    panels: &[f64],
     row: u64,
     mask: &mut [u8],
     severities: &mut [f64],
 ) -> Answer
-    ensures { λ r. let p : Plan = planOf (now (targets .entry)) (now (suns .entry)) (now (observers .entry)) config in
+    ensures { λ r.
+        let p : Plan = planOf (now (targets .entry)) (now (suns .entry)) (now (observers .entry)) (now (tolerances .entry)) configured (now (panels .entry)) in
         ⌜ replyOf r ≡ rowReply p row (length (now (mask .entry))) (length (now (severities .entry))) ⌝ }
-    ensures { λ r. let p : Plan = planOf (now (targets .entry)) (now (suns .entry)) (now (observers .entry)) config in
+    ensures { λ r.
+        let p : Plan = planOf (now (targets .entry)) (now (suns .entry)) (now (observers .entry)) (now (tolerances .entry)) configured (now (panels .entry)) in
         ⌜ now (mask .exit) ≡ rowMaskAfter p row (now (mask .entry)) (now (severities .entry)) ⌝ }
-    ensures { λ r. let p : Plan = planOf (now (targets .entry)) (now (suns .entry)) (now (observers .entry)) config in
+    ensures { λ r.
+        let p : Plan = planOf (now (targets .entry)) (now (suns .entry)) (now (observers .entry)) (now (tolerances .entry)) configured (now (panels .entry)) in
         ⌜ now (severities .exit) ≡ severitiesAfter p row (now (mask .entry)) (now (severities .entry)) ⌝ }
 {
     let refusal = row_refusal(
         targets,
         suns,
         observers,
-        config,
+        tolerances,
+        configured,
+        panels,
         row,
         mask.len(),
         severities.len(),
@@ -179,7 +199,9 @@ pub fn evaluate(
         targets,
         suns,
         observers,
-        config,
+        tolerances,
+        configured,
+        panels,
         row as usize,
         mask,
         severities,

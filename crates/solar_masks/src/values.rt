@@ -2,11 +2,11 @@
 use crate::mask::cells_refusal;
 use buffers::Answer;
 use buffers::smaller;
+use solar_roll::ConfiguredRoll;
 use solar_roll::Panel;
-use solar_roll::SolarRollConfig;
 use solar_roll::body_axes;
 use solar_roll::direction;
-use solar_roll::panel_of;
+use solar_roll::panel_at;
 use solar_roll::rolls_deg_in;
 use solar_roll::sun_units;
 ghost use mathlib.Core.Path.{_≡_};
@@ -75,17 +75,19 @@ fn write_values(
     targets: &[f64],
     suns: &[f64],
     observers: &[f64],
-    config: SolarRollConfig,
+    tolerances: &[f64],
+    configured: ConfiguredRoll,
+    panels: &[f64],
     values: &mut [f64],
 )
-    requires { let p : Plan = planOf (now targets) (now suns) (now observers) config in
+    requires { let p : Plan = planOf (now targets) (now suns) (now observers) (now tolerances) configured (now panels) in
         ⌜ (cellsOf p ≤ length (now values)) × (countOf (now suns) ≤ mostTimes) ⌝ }
-    ensures { λ _. let p : Plan = planOf (now (targets .entry)) (now (suns .entry)) (now (observers .entry)) config in
+    ensures { λ _.
+        let p : Plan = planOf (now (targets .entry)) (now (suns .entry)) (now (observers .entry)) (now (tolerances .entry)) configured (now (panels .entry)) in
         ⌜ now (values .exit) ≡ filled (cellsOf p) (cellValue p) (now (values .entry)) ⌝ }
 {
     let times = suns.len() / 3;
-    let normal = config.panel_normal;
-    let panel = panel_of(normal);
+    let panel = panel_at(panels, 0);
     let angle = panel.angle;
     let mut units = [[0.0; 3]; 2048];
     let mut from = 0;
@@ -102,18 +104,39 @@ pub fn named_values(
     targets: &[f64],
     suns: &[f64],
     observers: &[f64],
-    config: SolarRollConfig,
+    tolerances: &[f64],
+    configured: ConfiguredRoll,
+    panels: &[f64],
     values: &mut [f64],
 ) -> Answer
-    ensures { λ r. let p : Plan = planOf (now (targets .entry)) (now (suns .entry)) (now (observers .entry)) config in
+    ensures { λ r.
+        let p : Plan = planOf (now (targets .entry)) (now (suns .entry)) (now (observers .entry)) (now (tolerances .entry)) configured (now (panels .entry)) in
         ⌜ replyOf r ≡ cellsReply p 0 (length (now (values .entry))) ⌝ }
-    ensures { λ r. let p : Plan = planOf (now (targets .entry)) (now (suns .entry)) (now (observers .entry)) config in
+    ensures { λ r.
+        let p : Plan = planOf (now (targets .entry)) (now (suns .entry)) (now (observers .entry)) (now (tolerances .entry)) configured (now (panels .entry)) in
         ⌜ now (values .exit) ≡ valuesAfter p (now (values .entry)) ⌝ }
 {
-    let refusal = cells_refusal(targets, suns, observers, config, 0, values.len());
+    let refusal = cells_refusal(
+        targets,
+        suns,
+        observers,
+        tolerances,
+        configured,
+        panels,
+        0,
+        values.len(),
+    );
     if refusal != 0 {
         return Answer::Refused(refusal);
     }
-    write_values(targets, suns, observers, config, values);
+    write_values(
+        targets,
+        suns,
+        observers,
+        tolerances,
+        configured,
+        panels,
+        values,
+    );
     Answer::Accepted(0)
 }

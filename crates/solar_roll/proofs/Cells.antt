@@ -10,7 +10,7 @@ use Rattle.buffers.specs.Refusal.{accepted}
 use Rattle.solar_roll.specs.Vectors.{Vector, vector}
 use Rattle.solar_roll.specs.Roll.{Axes, bodyAxes, rollDegIn, panelAngle, panelOf, rollIsUnconstrained, solarOptimalRollDeg}
 use Rattle.solar_roll.specs.Cell.{optimalRoll, rollIn, cellReply}
-use Rattle.solar_roll.specs.Plan.{Plan, triple, directionOf, rowConfig, sunAt, cellOf, planPanel}
+use Rattle.solar_roll.specs.Plan.{Plan, triple, directionOf, rowPanel, rowConfig, sunAt, cellOf}
 use Rattle.solar_roll.specs.declared.roll.Panel.{Panel}
 use Rattle.solar_roll.specs.declared.cell.CellRoll.the-variants.{Free, At}
 
@@ -41,10 +41,15 @@ triple-past xs i h =
     let c : length xs ≤ 3 * i + 2 = omega arith in
     simp (List·getD-eq-default xs nan a, List·getD-eq-default xs nan b, List·getD-eq-default xs nan c)
 
--- ---- what a row (its axes), a time (the Sun's unit) and the panel share makes the cells of a plan
+-- every row has the same panel, so it may be worked out once for all
+pub one-panel : (panels : List Float) (q r : ℕ) → rowPanel panels q ≡ rowPanel panels r
+unfolding rowPanel
+one-panel panels q r = refl
+
+-- ---- what a row (its axes and its panel) and a time (the Sun's unit) share makes the cells of a plan
 
 module _ (p : Plan) (r j : ℕ) (axes : Axes) (unit : Vector) (panel : Panel)
-    (row : axes ≡ bodyAxes (directionOf p r)) (time : unit ≡ sunAt p j) (whole : panel ≡ panelOf (planPanel p)) where
+    (row : axes ≡ bodyAxes (directionOf p r)) (time : unit ≡ sunAt p j) (turned : panel ≡ panelOf (rowPanel (p .panels) r)) where
   pub cell-shared : rollIn axes unit panel ≡ cellOf p r j
-  unfolding cellOf rowConfig planPanel
-  cell-shared = simp (row, time, whole, roll-shared)
+  unfolding cellOf rowConfig
+  cell-shared = simp (row, time, turned, roll-shared)

@@ -20,7 +20,7 @@ use Rattle.float.proofs.Angle.{within-arctangent, within-degrees}
 use Rattle.solar_roll.specs.Vectors.{Vector, x, y, z, vector, NEAR_ZERO, dot3, norm3, cross3, over3, normalize3, unwrapOr}
 use Rattle.solar_roll.specs.Roll.{xHat, yHat, zHat, nineTenths, sunUnit, panelAngle, perpendicular, poleFallback, north, yAxis, solarOptimalRollDeg}
 use Rattle.solar_roll.specs.Cell.{LIMIT, tooLarge, badPosition, badDirection}
-use Rattle.solar_roll.specs.Plan.{Plan, triple, rowsOf, timesOf, rowDirection, directionOf, rowConfig, sunAt, optimalAt, planPanel, PlanFacts}
+use Rattle.solar_roll.specs.Plan.{Plan, triple, rowsOf, timesOf, rowDirection, directionOf, rowPanel, rowConfig, sunAt, optimalAt, PlanFacts}
 use Rattle.solar_roll.specs.declared.vectors.Normalized.{Normalized}
 
 -- each component at most 2 ^ j in size
@@ -216,7 +216,7 @@ triple-within limit j w xs i h l = record {
   at-z = w _ (any-getD (tooLarge limit) xs nan (3 * i + 2) h l);
 }
 
-module _ (p : Plan) (facts : PlanFacts p) (three : length (planPanel p) ≡ 3) (r j : ℕ) (in-rows : r < rowsOf p) (in-times : j < timesOf p) where
+module _ (p : Plan) (facts : PlanFacts p) (three : length (p .panels) ≡ 3) (r j : ℕ) (in-rows : r < rowsOf p) (in-times : j < timesOf p) where
   direction-vec : Vec 0 (directionOf p r)
   unfolding rowDirection badDirection
   direction-vec = triple-within one 0 direction-within (p .targets) r (facts .targets-small) (omega (arith, facts .targets-length))
@@ -230,9 +230,7 @@ module _ (p : Plan) (facts : PlanFacts p) (three : length (planPanel p) ≡ 3) (
 
   -- the optimal roll of an accepted plan's cell is at most 2 ^ 20 in size
   pub roll-within : Within 20 (optimalAt p r j)
-  unfolding optimalAt rowConfig planPanel badPosition
+  unfolding optimalAt rowConfig rowPanel badPosition
   roll-within =
-      let n = planPanel p in
-      within-roll (directionOf p r) (sunAt p j) n direction-vec sun-vec
-      (position-within _ (any-getD (tooLarge LIMIT) n nan 1 (facts .panel-small) (omega (arith, three))))
-      (position-within _ (any-getD (tooLarge LIMIT) n nan 2 (facts .panel-small) (omega (arith, three))))
+      let n = triple-within LIMIT 333 position-within (p .panels) 0 (facts .panels-small) (omega (arith, three)) in
+      within-roll (directionOf p r) (sunAt p j) (triple (p .panels) 0) direction-vec sun-vec (n .at-y) (n .at-z)

@@ -1,77 +1,95 @@
 -- What is known of a plan that is not refused. Assumes nothing.
 use mathlib.Core.Path.{_≡_}
 use mathlib.Core.Bool.{Bool, false, not, _||_}
-use Prim.Native.Nat.{ℕ, _*_, _%_, _≤_}
+use mathlib.Core.List.{List}
+use Prim.Native.Nat.{ℕ, _*_, _/_, _%_, _≤_}
 use native.Mathlib.Omega.{arith}
 use lib.Dec.{eqb, ltb, lit<}
-use lib.ListN.{length}
+use lib.Ieee.{Float}
 use borrow.Author.Tests.{not-false, eqb-true, ltb-false}
 use Rattle.buffers.proofs.Refusal.{first-clear, carried-clear}
 use Rattle.buffers.proofs.Tests.{or-left, or-right}
-use Rattle.solar_roll.specs.Cell.{badPosition}
-use Rattle.solar_roll.specs.Plan.{Plan, unlikeLengths, mostRows, mostTimes, mostCells, tooMany, planRefusal, PlanFacts}
+use Rattle.solar_roll.specs.Cell.{badPosition, badDirection, directionRefusal, numbersRefusal}
+use Rattle.solar_roll.specs.Plan.{Plan, unlikeLengths, mostRows, mostTimes, mostCells, tooMany, sizesRefusal, planRefusal, PlanFacts}
 
-record Lengths (targets suns observers : ℕ) : Type 0 where
+-- ---- the sizes: lengths are multiples of 3, and there are not too many
+
+record Sizes (targets suns observers : ℕ) : Type 0 where
   pub triples : targets % 3 ≡ 0
   pub moments : suns % 3 ≡ 0
   pub alike : suns ≡ observers
+  pub few-rows : targets / 3 ≤ mostRows
+  pub few-times : suns / 3 ≤ mostTimes
+  pub few-cells : targets / 3 * (suns / 3) ≤ mostCells
 
-lengths : (targets suns observers : ℕ) → unlikeLengths targets suns observers ≡ false → Lengths targets suns observers
-unfolding unlikeLengths
-lengths targets suns observers h =
+sizes : (targets suns observers : ℕ) (beyond : Bool) → sizesRefusal targets suns observers beyond ≡ 0 → Sizes targets suns observers
+unfolding sizesRefusal unlikeLengths tooMany
+sizes targets suns observers beyond h =
     let t : Bool = not (eqb (targets % 3) 0) in
     let s : Bool = not (eqb (suns % 3) 0) in
     let o : Bool = not (eqb suns observers) in
-    let r : (s || o) ≡ false = or-right t (s || o) h in
+    let a : Bool = ltb mostRows (targets / 3) in
+    let b : Bool = ltb mostTimes (suns / 3) in
+    let c : Bool = ltb mostCells (targets / 3 * (suns / 3)) in
+    let c1 = first-clear _ _ _ (lit< tt) h in
+    let c2 = first-clear _ _ _ (lit< tt) (c1 .1) in
+    let like : (t || (s || o)) ≡ false = or-left (t || (s || o)) beyond (c1 .0) in
+    let l : (s || o) ≡ false = or-right t (s || o) like in
+    let m : (b || c) ≡ false = or-right a (b || c) (c2 .0) in
     record {
-      triples = eqb-true _ _ (not-false _ (or-left t (s || o) h));
-      moments = eqb-true _ _ (not-false _ (or-left s o r));
-      alike = eqb-true _ _ (not-false _ (or-right s o r));
+      triples = eqb-true _ _ (not-false _ (or-left t (s || o) like));
+      moments = eqb-true _ _ (not-false _ (or-left s o l));
+      alike = eqb-true _ _ (not-false _ (or-right s o l));
+      few-rows = ltb-false _ _ (or-left a (b || c) (c2 .0));
+      few-times = ltb-false _ _ (or-left b c m);
+      few-cells = ltb-false _ _ (or-right b c m);
     }
 
-record Few (rows times : ℕ) : Type 0 where
-  pub few-rows : rows ≤ mostRows
-  pub few-times : times ≤ mostTimes
-  pub few-cells : rows * times ≤ mostCells
+-- ---- the numbers: none is too large
 
-few : (rows times : ℕ) → tooMany rows times ≡ false → Few rows times
-unfolding tooMany
-few rows times h =
-    let a : Bool = ltb mostRows rows in
-    let b : Bool = ltb mostTimes times in
-    let c : Bool = ltb mostCells (rows * times) in
-    let r : (b || c) ≡ false = or-right a (b || c) h in
-    record { few-rows = ltb-false _ _ (or-left a (b || c) h); few-times = ltb-false _ _ (or-left b c r); few-cells = ltb-false _ _ (or-right b c r) }
+record Numbers (targets suns observers panels : List Float) : Type 0 where
+  pub suns-small : badPosition suns ≡ false
+  pub observers-small : badPosition observers ≡ false
+  pub targets-small : badDirection targets ≡ false
+  pub panels-small : badPosition panels ≡ false
+
+numbers : (targets suns observers panels : List Float) → numbersRefusal targets suns observers panels ≡ 0 → Numbers targets suns observers panels
+unfolding numbersRefusal directionRefusal
+numbers targets suns observers panels h =
+    let c1 = first-clear _ _ _ (lit< tt) h in
+    let c2 = carried-clear _ _ (c1 .1) in
+    let c3 = first-clear _ _ _ (lit< tt) (c2 .1) in
+    record {
+      suns-small = or-left (badPosition suns) (badPosition observers) (c1 .0);
+      observers-small = or-right (badPosition suns) (badPosition observers) (c1 .0);
+      targets-small = first-clear _ _ _ (lit< tt) (c2 .0) .0;
+      panels-small = c3 .0;
+    }
+
+-- ---- the plan
 
 pub plan-facts : (p : Plan) (said : ℕ) (beyond : Bool) → planRefusal p said beyond ≡ 0 → PlanFacts p
 unfolding planRefusal
 plan-facts p said beyond h =
-    let unlike : Bool = unlikeLengths (length (p .targets)) (length (p .suns)) (length (p .observers)) in
-    let c1 = first-clear _ _ _ (lit< tt) h in
-    let c2 = first-clear _ _ _ (lit< tt) (c1 .1) in
+    let c1 = carried-clear _ _ h in
+    let c2 = carried-clear _ _ (c1 .1) in
     let c3 = carried-clear _ _ (c2 .1) in
-    let c4 = first-clear _ _ _ (lit< tt) (c3 .1) in
-    let c5 = first-clear _ _ _ (lit< tt) (c4 .1) in
-    let c6 = first-clear _ _ _ (lit< tt) (c5 .1) in
-    let l = lengths _ _ _ (or-left unlike beyond (c1 .0)) in
-    let f = few _ _ (c2 .0) in
+    let s = sizes _ _ _ beyond (c1 .0) in
+    let n = numbers _ _ _ _ (c3 .0) in
     record {
-      targets-length = omega (arith, l .triples);
-      suns-length = omega (arith, l .moments);
-      observers-length = omega (arith, l .moments, l .alike);
-      few-rows = f .few-rows;
-      few-times = f .few-times;
-      few-cells = f .few-cells;
-      suns-small = or-left (badPosition (p .suns)) (badPosition (p .observers)) (c4 .0);
-      observers-small = or-right (badPosition (p .suns)) (badPosition (p .observers)) (c4 .0);
-      targets-small = c5 .0;
-      panel-small = c6 .0;
+      targets-length = omega (arith, s .triples);
+      suns-length = omega (arith, s .moments);
+      observers-length = omega (arith, s .moments, s .alike);
+      few-rows = s .few-rows;
+      few-times = s .few-times;
+      few-cells = s .few-cells;
+      suns-small = n .suns-small;
+      observers-small = n .observers-small;
+      targets-small = n .targets-small;
+      panels-small = n .panels-small;
     }
 
 -- nothing was said in the place of 3
 pub nothing-said : (p : Plan) (said : ℕ) (beyond : Bool) → planRefusal p said beyond ≡ 0 → said ≡ 0
 unfolding planRefusal
-nothing-said p said beyond h =
-    let c1 = first-clear _ _ _ (lit< tt) h in
-    let c2 = first-clear _ _ _ (lit< tt) (c1 .1) in
-    carried-clear _ _ (c2 .1) .0
+nothing-said p said beyond h = carried-clear _ _ (carried-clear _ _ h .1) .0

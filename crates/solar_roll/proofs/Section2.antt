@@ -12,7 +12,7 @@ use Rattle.float.proofs.Order.{lt-self, below-zero}
 use Rattle.float.proofs.Overflow.{finite-sub}
 use Rattle.solar_roll.specs.Roll.{sunAlongBoresight, panelIsFree, rollIsUnconstrained, circularDiffDeg}
 use Rattle.solar_roll.specs.Cell.{optimalRoll, violates}
-use Rattle.solar_roll.specs.Plan.{Plan, rowsOf, timesOf, directionOf, configOf, sunAt, cellOf, optimalAt, planPanel, planRefusal}
+use Rattle.solar_roll.specs.Plan.{Plan, rowsOf, timesOf, directionOf, configOf, sunAt, cellOf, optimalAt, planRefusal}
 use Rattle.solar_roll.specs.Section2.{FiniteFloat, Section2}
 use Rattle.solar_roll.specs.declared.cell.CellRoll.{CellRoll}
 use Rattle.solar_roll.specs.declared.cell.CellRoll.the-variants.{Free, At, Refused}
@@ -68,9 +68,9 @@ unfolding violates
 clear true optimal roll tolerance h = refl
 clear false optimal roll tolerance h = h
 
--- ---- the sentences; `three` is what the panel's type says, [f64; 3]
+-- ---- the sentences; the calls lend one panel, of three numbers
 
-module _ (p : Plan) (said : ℕ) (beyond : Bool) (accepted : planRefusal p said beyond ≡ 0) (three : length (planPanel p) ≡ 3)
+module _ (p : Plan) (said : ℕ) (beyond : Bool) (accepted : planRefusal p said beyond ≡ 0) (three : length (p .panels) ≡ 3)
     (i j : ℕ) (in-rows : i < rowsOf p) (in-times : j < timesOf p) where
   abbrev optimal : Float
   optimal = optimalAt p i j

@@ -4,7 +4,7 @@ use mathlib.Core.List.{List, [], _∷_}
 use Prim.Native.Nat.{ℕ}
 use lib.Ieee.{Float, binary64, lt, le, ofBits}
 use Rattle.buffers.specs.Ranges.{any}
-use Rattle.buffers.specs.Refusal.{first, Reply, refused, accepted}
+use Rattle.buffers.specs.Refusal.{first, carried, Reply, refused, accepted}
 use Rattle.float.specs.Arithmetic.{one, absOf}
 use Rattle.solar_roll.specs.Vectors.{Vector}
 use Rattle.solar_roll.specs.Roll.{Axes, axis, sunAlongBoresight, rollIsUnconstrained, rollDegIn, solarOptimalRollDeg, circularDiffDeg}
@@ -42,7 +42,7 @@ inForce (Sweep roll) None = roll
 inForce (Sweep roll) (Some configured) = configured
 inForce (Fixed roll) configured = roll
 
--- ---- one triple's tests, and the call on four triples
+-- ---- the tests of numbers, of a triple or of a flat list of triples
 
 -- 1e100, the largest size of a position's or a panel's number
 abbrev pub LIMIT : Float
@@ -60,12 +60,17 @@ badPosition = any (tooLarge LIMIT)
 unfoldable pub badDirection : List Float → Bool
 badDirection = any (tooLarge one)
 
--- *One cell*, four triples: 4 of the Sun and the observer, 5 of the target, 6 of the panel; 0 for none
-unfoldable pub cellRefusal : Vector → Vector → Vector → Vector → ℕ
-cellRefusal target sun observer normal =
-    first ((badPosition sun || badPosition observer, 4)
-    ∷ (badDirection target, 5)
-    ∷ (badPosition normal, 6)
+-- what is refused of directions, a flat list of triples or one triple; 0 for none
+unfoldable pub directionRefusal : List Float → ℕ
+directionRefusal targets = first ((badDirection targets, 5) ∷ [])
+
+-- *One cell*, four triples, and a plan's lists, which are flat lists of triples: 4 of the Sun and the observer, 5 of the target, 6 of the panel; 0
+-- for none
+unfoldable pub numbersRefusal : List Float → List Float → List Float → List Float → ℕ
+numbersRefusal targets suns observers panels =
+    first ((badPosition suns || badPosition observers, 4)
+    ∷ carried (directionRefusal targets)
+    ∷ (badPosition panels, 6)
     ∷ [])
 
 -- ---- the answer from what cells share, which the code works out

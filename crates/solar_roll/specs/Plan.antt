@@ -1,7 +1,7 @@
 -- A plan as its calls lend it, and *Plan*, the refusals that come before every call with positions. A plan has rows and times. A row is a target;
 -- a cell, document 01's word, is a row at a time. Everything above these definitions speaks of rows: a row's direction and settings are
--- `directionOf` and `configOf`. All rows have one configured roll and one panel, which the calls also read of the plan's own settings, past a row's
--- (`planConfigured`, `planPanel`); a row's tolerance comes from `configOf` alone. Definitions only. Assumes nothing.
+-- `directionOf` and `configOf`, whose one door to a plan's tolerances and panels is `rowConfig`; the configured roll is the whole plan's.
+-- Definitions only. Assumes nothing.
 use mathlib.Core.Path.{_≡_}
 use mathlib.Core.Bool.{Bool, false, cond, not, _||_, _&&_}
 use mathlib.Core.List.{List, [], _∷_}
@@ -10,25 +10,29 @@ use lib.Dec.{eqb, leb, ltb}
 use lib.ListN.{length, getD}
 use lib.Ieee.{Float, nan}
 use Rattle.buffers.specs.Refusal.{first, carried}
+use Rattle.float.specs.Arithmetic.{zero·0}
 use Rattle.solar_roll.specs.Vectors.{Vector, vector}
 use Rattle.solar_roll.specs.Roll.{sunUnit, solarOptimalRollDeg}
-use Rattle.solar_roll.specs.Cell.{optimalRoll, violates, inForce, badPosition, badDirection}
+use Rattle.solar_roll.specs.Cell.{optimalRoll, violates, inForce, badPosition, badDirection, numbersRefusal}
 use Rattle.solar_roll.specs.declared.cell.CellRoll.{CellRoll}
 use Rattle.solar_roll.specs.declared.cell.ConfiguredRoll.{ConfiguredRoll}
 use Rattle.solar_roll.specs.declared.cell.EvaluationRoll.the-variants.{Sweep}
 use Rattle.solar_roll.specs.declared.plan.SolarRollConfig.{SolarRollConfig}
 
--- flat lists of triples: the targets' directions, and of each time the Sun's and the observer's position; and the settings: tolerance, configured
--- roll and panel's normal
+-- flat lists of triples: the targets' directions, and of each time the Sun's and the observer's position; the tolerances; the configured roll; and
+-- the panels' normals, a flat list of triples. The first tolerance and the first panel are those of every row
 pub record Plan : Type 0 where
   pub targets : List Float
   pub suns : List Float
   pub observers : List Float
-  pub config : SolarRollConfig
+  pub tolerances : List Float
+  pub configured : ConfiguredRoll
+  pub panels : List Float
 
 -- the plan of what a call is lent
-abbrev pub planOf : List Float → List Float → List Float → SolarRollConfig → Plan
-planOf targets suns observers config = record { targets = targets; suns = suns; observers = observers; config = config }
+abbrev pub planOf : List Float → List Float → List Float → List Float → ConfiguredRoll → List Float → Plan
+planOf targets suns observers tolerances configured panels =
+    record { targets = targets; suns = suns; observers = observers; tolerances = tolerances; configured = configured; panels = panels }
 
 -- how many triples a flat list holds
 abbrev pub count : List Float → ℕ
@@ -52,19 +56,25 @@ timesOf p = count (p .suns)
 abbrev pub cellsOf : Plan → ℕ
 cellsOf p = rowsOf p * timesOf p
 
--- the direction and the settings of row r, of the lists that a call is lent
+-- of row r, of the lists that a call is lent: the direction, the panel's normal, and the settings, NaN past the end
 unfoldable pub rowDirection : List Float → ℕ → Vector
 rowDirection targets r = triple targets r
 
-unfoldable pub rowConfig : SolarRollConfig → ℕ → SolarRollConfig
-rowConfig config r = config
+unfoldable pub rowPanel : List Float → ℕ → Vector
+unfolding triple
+rowPanel panels r = triple panels 0
+
+unfoldable pub rowConfig : List Float → ConfiguredRoll → List Float → ℕ → SolarRollConfig
+unfolding rowPanel
+rowConfig tolerances configured panels r =
+    record { «tolerance_deg» = getD tolerances 0 nan; «roll_deg» = configured; «panel_normal» = rowPanel panels r }
 
 -- the same, of a plan
 abbrev pub directionOf : Plan → ℕ → Vector
 directionOf p r = rowDirection (p .targets) r
 
 abbrev pub configOf : Plan → ℕ → SolarRollConfig
-configOf p r = rowConfig (p .config) r
+configOf p r = rowConfig (p .tolerances) (p .configured) (p .panels) r
 
 -- the Sun's unit at time j
 unfoldable pub sunAt : Plan → ℕ → Vector
@@ -78,20 +88,17 @@ cellOf p r j = optimalRoll (directionOf p r) (sunAt p j) (configOf p r .«panel_
 unfoldable pub optimalAt : Plan → ℕ → ℕ → Float
 optimalAt p r j = solarOptimalRollDeg (directionOf p r) (sunAt p j) (configOf p r .«panel_normal»)
 
--- the roll that is configured, and the panel's normal, of the whole plan
-unfoldable pub planConfigured : Plan → ConfiguredRoll
-planConfigured p = p .config .«roll_deg»
-
-unfoldable pub planPanel : Plan → Vector
-planPanel p = p .config .«panel_normal»
-
--- the tolerance that the journal's header holds
+-- the tolerance and the panel's normal that the journal's header holds: the first of each list. Of no tolerance it holds zeros
 unfoldable pub headTolerance : Plan → Float
-headTolerance p = p .config .«tolerance_deg»
+headTolerance p = getD (p .tolerances) 0 zero·0
+
+unfoldable pub headPanel : Plan → Vector
+unfolding triple
+headPanel p = triple (p .panels) 0
 
 -- a sample violates the cell of row r at time j: it is taken as a Sweep roll
 unfoldable pub violatesAt : Plan → ℕ → ℕ → Float → Bool
-violatesAt p r j roll = violates (cellOf p r j) (inForce (Sweep roll) (planConfigured p)) (configOf p r .«tolerance_deg»)
+violatesAt p r j roll = violates (cellOf p r j) (inForce (Sweep roll) (p .configured)) (configOf p r .«tolerance_deg»)
 
 -- ---- the refusals
 
@@ -125,15 +132,19 @@ samplesRefusal n = cond (leb 1 n && leb n mostSamples) 0 3
 unfoldable pub samplesOrNoneRefusal : ℕ → ℕ
 samplesOrNoneRefusal n = cond (leb n mostSamples) 0 3
 
--- *Plan*, 0 for none. `said` is the number said in the place of 3, 0 for none; `beyond` says that a used length lies beyond its buffer.
+-- what comes before the place of 3, of the lengths of targets, Sun and observers; `beyond` says that a used length lies beyond its buffer
+unfoldable pub sizesRefusal : ℕ → ℕ → ℕ → Bool → ℕ
+sizesRefusal targets suns observers beyond =
+    first ((unlikeLengths targets suns observers || beyond, 1)
+    ∷ (tooMany (targets / 3) (suns / 3), 2)
+    ∷ [])
+
+-- *Plan*, 0 for none: the sizes, the number said in the place of 3, the numbers
 unfoldable pub planRefusal : Plan → ℕ → Bool → ℕ
 planRefusal p said beyond =
-    first ((unlikeLengths (length (p .targets)) (length (p .suns)) (length (p .observers)) || beyond, 1)
-    ∷ (tooMany (rowsOf p) (timesOf p), 2)
+    first (carried (sizesRefusal (length (p .targets)) (length (p .suns)) (length (p .observers)) beyond)
     ∷ carried said
-    ∷ (badPosition (p .suns) || badPosition (p .observers), 4)
-    ∷ (badDirection (p .targets), 5)
-    ∷ (badPosition (planPanel p), 6)
+    ∷ carried (numbersRefusal (p .targets) (p .suns) (p .observers) (p .panels))
     ∷ [])
 
 -- what is known of a plan that is not refused (`plan-facts`, proofs/PlanFacts)
@@ -147,4 +158,4 @@ pub record PlanFacts (p : Plan) : Type 0 where
   pub suns-small : badPosition (p .suns) ≡ false
   pub observers-small : badPosition (p .observers) ≡ false
   pub targets-small : badDirection (p .targets) ≡ false
-  pub panel-small : badPosition (planPanel p) ≡ false
+  pub panels-small : badPosition (p .panels) ≡ false

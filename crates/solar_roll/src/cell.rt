@@ -11,7 +11,7 @@ ghost use mathlib.Core.Path.{_≡_};
 ghost use Rattle.buffers.specs.Ranges.{any};
 ghost use Rattle.buffers.specs.Refusal.{reply};
 ghost use Rattle.solar_roll.specs.Roll.{sunUnit};
-ghost use Rattle.solar_roll.specs.Cell.{optimalRoll, freeOrAt, rollIn, cellReply, violates, inForce, tooLarge, badPosition, badDirection, cellRefusal};
+ghost use Rattle.solar_roll.specs.Cell.{optimalRoll, freeOrAt, rollIn, cellReply, violates, inForce, tooLarge, badPosition, badDirection, directionRefusal, numbersRefusal};
 
 // The largest size of a position's or a panel's number.
 const LIMIT: f64 = 1.0e100;
@@ -108,16 +108,52 @@ fn any_too_large(xs: &[f64], limit: f64) -> bool
     false
 }
 
-pub fn bad_position(xs: &[f64]) -> bool
+fn bad_position(xs: &[f64]) -> bool
     ensures { λ r. ⌜ r ≡ badPosition (now (xs .entry)) ⌝ }
 {
     any_too_large(xs, LIMIT)
 }
 
-pub fn bad_direction(xs: &[f64]) -> bool
+fn bad_direction(xs: &[f64]) -> bool
     ensures { λ r. ⌜ r ≡ badDirection (now (xs .entry)) ⌝ }
 {
     any_too_large(xs, 1.0)
+}
+
+// 5 of directions, a flat list of triples; 0 for none.
+fn directions_refusal(targets: &[f64]) -> u64
+    ensures { λ r. ⌜ r ≡ directionRefusal (now (targets .entry)) ⌝ }
+{
+    if bad_direction(targets) { 5 } else { 0 }
+}
+
+// The number of the refusal of one direction, 0 for none.
+pub fn direction_refusal(target: [f64; 3]) -> u64
+    ensures { λ r. ⌜ r ≡ directionRefusal target ⌝ }
+{
+    directions_refusal(&target)
+}
+
+// 4, 5 and 6, of flat lists of triples; 0 for none.
+pub(crate) fn numbers_refusal(
+    targets: &[f64],
+    suns: &[f64],
+    observers: &[f64],
+    panels: &[f64],
+) -> u64
+    ensures { λ r. ⌜ r ≡ numbersRefusal (now (targets .entry)) (now (suns .entry)) (now (observers .entry)) (now (panels .entry)) ⌝ }
+{
+    if bad_position(suns) {
+        return 4;
+    }
+    if bad_position(observers) {
+        return 4;
+    }
+    let refusal = directions_refusal(targets);
+    if refusal != 0 {
+        return refusal;
+    }
+    if bad_position(panels) { 6 } else { 0 }
 }
 
 // The answer of one cell, given by its four triples.
@@ -127,19 +163,11 @@ pub fn cell_roll(
     observer: [f64; 3],
     panel_normal: [f64; 3],
 ) -> CellRoll
-    ensures { λ r. ⌜ cellReply r ≡ reply (cellRefusal target sun observer «panel_normal») (optimalRoll target (sunUnit sun observer) «panel_normal») ⌝ }
+    ensures { λ r. ⌜ cellReply r ≡ reply (numbersRefusal target sun observer «panel_normal») (optimalRoll target (sunUnit sun observer) «panel_normal») ⌝ }
 {
-    if bad_position(&sun) {
-        return CellRoll::Refused(4);
-    }
-    if bad_position(&observer) {
-        return CellRoll::Refused(4);
-    }
-    if bad_direction(&target) {
-        return CellRoll::Refused(5);
-    }
-    if bad_position(&panel_normal) {
-        return CellRoll::Refused(6);
+    let refusal = numbers_refusal(&target, &sun, &observer, &panel_normal);
+    if refusal != 0 {
+        return CellRoll::Refused(refusal);
     }
     optimal_roll(target, sun_unit(sun, observer), panel_normal)
 }

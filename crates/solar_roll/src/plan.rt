@@ -1,11 +1,13 @@
 // A plan as its calls lend it, and what is refused of it.
 use crate::cell::ConfiguredRoll;
-use crate::cell::bad_direction;
-use crate::cell::bad_position;
+use crate::cell::numbers_refusal;
+use crate::roll::Panel;
+use crate::roll::panel_of;
 ghost use mathlib.Core.Path.{_≡_};
 ghost use lib.ListN.{getD};
 ghost use lib.Ieee.{nan};
-ghost use Rattle.solar_roll.specs.Plan.{planOf, triple, rowDirection, rowConfig, unlikeLengths, tooMany, samplesRefusal, samplesOrNoneRefusal, planRefusal};
+ghost use Rattle.solar_roll.specs.Roll.{panelOf};
+ghost use Rattle.solar_roll.specs.Plan.{Plan, planOf, triple, rowDirection, rowPanel, rowConfig, unlikeLengths, tooMany, samplesRefusal, samplesOrNoneRefusal, sizesRefusal, planRefusal};
 
 // The most rows, times and cells of a plan.
 pub const MOST_ROWS: usize = 65_536;
@@ -50,11 +52,34 @@ pub fn direction(targets: &[f64], row: usize) -> [f64; 3]
     triple(targets, row)
 }
 
-// The settings of a row.
-pub fn row_config(config: SolarRollConfig, row: usize) -> SolarRollConfig
-    ensures { λ r. ⌜ r ≡ rowConfig config row ⌝ }
+// The normal of a row's panel: the first, for every row.
+fn row_panel(panels: &[f64], row: usize) -> [f64; 3]
+    ensures { λ r. ⌜ r ≡ rowPanel (now (panels .entry)) row ⌝ }
 {
-    config
+    triple(panels, 0)
+}
+
+// A row's panel.
+pub fn panel_at(panels: &[f64], row: usize) -> Panel
+    ensures { λ r. ⌜ r ≡ panelOf (rowPanel (now (panels .entry)) row) ⌝ }
+{
+    panel_of(row_panel(panels, row))
+}
+
+// The settings of a row: the first tolerance, for every row.
+pub fn row_config(
+    tolerances: &[f64],
+    configured: ConfiguredRoll,
+    panels: &[f64],
+    row: usize,
+) -> SolarRollConfig
+    ensures { λ r. ⌜ r ≡ rowConfig (now (tolerances .entry)) configured (now (panels .entry)) row ⌝ }
+{
+    SolarRollConfig {
+        tolerance_deg: number(tolerances, 0),
+        roll_deg: configured,
+        panel_normal: row_panel(panels, row),
+    }
 }
 
 // 1, of the lists' lengths.
@@ -100,42 +125,45 @@ pub fn samples_or_none_refusal(n: u64) -> u64
     if MOST_SAMPLES < n { 3 } else { 0 }
 }
 
-// The number of the plan's first refusal, 0 for none. `said` is the number said in the place of
-// 3, 0 for none, and `beyond` says that a used length lies beyond its buffer.
-pub fn plan_refusal(
-    targets: &[f64],
-    suns: &[f64],
-    observers: &[f64],
-    config: SolarRollConfig,
-    said: u64,
-    beyond: bool,
-) -> u64
-    ensures { λ r. ⌜ r ≡ planRefusal (planOf (now (targets .entry)) (now (suns .entry)) (now (observers .entry)) config) said beyond ⌝ }
+// 1 and 2, of the lists' lengths; 0 for none. `beyond` says that a used length lies beyond its buffer.
+fn sizes_refusal(targets: usize, suns: usize, observers: usize, beyond: bool) -> u64
+    ensures { λ r. ⌜ r ≡ sizesRefusal targets suns observers beyond ⌝ }
 {
-    let panel_normal = config.panel_normal;
-    if unlike_lengths(targets.len(), suns.len(), observers.len()) {
+    if unlike_lengths(targets, suns, observers) {
         return 1;
     }
     if beyond {
         return 1;
     }
-    if too_many(targets.len() / 3, suns.len() / 3) {
-        return 2;
+    if too_many(targets / 3, suns / 3) {
+        2
+    } else {
+        0
+    }
+}
+
+// The number of the plan's first refusal, 0 for none. `said` is the number said in the place of
+// 3, 0 for none.
+pub fn plan_refusal(
+    targets: &[f64],
+    suns: &[f64],
+    observers: &[f64],
+    tolerances: &[f64],
+    configured: ConfiguredRoll,
+    panels: &[f64],
+    said: u64,
+    beyond: bool,
+) -> u64
+    ensures { λ r.
+        let p : Plan = planOf (now (targets .entry)) (now (suns .entry)) (now (observers .entry)) (now (tolerances .entry)) configured (now (panels .entry)) in
+        ⌜ r ≡ planRefusal p said beyond ⌝ }
+{
+    let sizes = sizes_refusal(targets.len(), suns.len(), observers.len(), beyond);
+    if sizes != 0 {
+        return sizes;
     }
     if said != 0 {
         return said;
     }
-    if bad_position(suns) {
-        return 4;
-    }
-    if bad_position(observers) {
-        return 4;
-    }
-    if bad_direction(targets) {
-        return 5;
-    }
-    if bad_position(&panel_normal) {
-        return 6;
-    }
-    0
+    numbers_refusal(targets, suns, observers, panels)
 }

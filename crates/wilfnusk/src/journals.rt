@@ -1,13 +1,14 @@
 // Begin, work, work over a range, recover and collect.
 use crate::answers::int64;
-use crate::plans::settings;
+use crate::plans::configured;
 ghost use mathlib.Core.Path.{_≡_};
+ghost use Rattle.solar_roll.specs.Plan.{Plan};
 ghost use Rattle.roll_sweep.specs.Sweep.{Sweep};
 ghost use Rattle.journal.specs.Calls.{beginReply, beginBytes, workReply, workBytes, recoverReply, collectReply, collectMask};
 ghost use Rattle.journal.specs.Range.{rangeReply, rangeBytes, rangeStopped};
-ghost use Rattle.journal.specs.Plan.{lentSweep};
+ghost use Rattle.journal.specs.Plan.{evenSweep};
 ghost use Rattle.wilfnusk.specs.Answers.{int64};
-ghost use Rattle.wilfnusk.specs.Plans.{settings};
+ghost use Rattle.wilfnusk.specs.Plans.{lentPlan};
 
 #[no_mangle]
 pub extern "C" fn wilfnusk_begin(
@@ -24,13 +25,26 @@ pub extern "C" fn wilfnusk_begin(
     journal: &mut [u8],
     used: u64,
 ) -> u64
-    ensures { λ r. let s : Sweep = lentSweep (now (targets .entry)) (now (suns .entry)) (now (observers .entry))
-        (settings «tolerance_deg» «has_roll» «roll_deg» «panel_x» «panel_y» «panel_z») n in
+    ensures { λ r. let p : Plan = lentPlan (now (targets .entry)) (now (suns .entry)) (now (observers .entry))
+        «tolerance_deg» «has_roll» «roll_deg» «panel_x» «panel_y» «panel_z» in
+        let s : Sweep = evenSweep p n in
         ⌜ (r ≡ int64 (beginReply s (now (journal .entry)) used))
         × (now (journal .exit) ≡ beginBytes s (now (journal .entry)) used) ⌝ }
 {
-    let config = settings(tolerance_deg, has_roll, roll_deg, panel_x, panel_y, panel_z);
-    int64(journal::begin(targets, suns, observers, config, n, journal, used))
+    let configured = configured(has_roll, roll_deg);
+    let tolerances = [tolerance_deg];
+    let panels = [panel_x, panel_y, panel_z];
+    int64(journal::begin(
+        targets,
+        suns,
+        observers,
+        &tolerances,
+        configured,
+        &panels,
+        n,
+        journal,
+        used,
+    ))
 }
 
 #[no_mangle]
@@ -49,13 +63,27 @@ pub extern "C" fn wilfnusk_work(
     journal: &mut [u8],
     used: u64,
 ) -> u64
-    ensures { λ r. let s : Sweep = lentSweep (now (targets .entry)) (now (suns .entry)) (now (observers .entry))
-        (settings «tolerance_deg» «has_roll» «roll_deg» «panel_x» «panel_y» «panel_z») n in
+    ensures { λ r. let p : Plan = lentPlan (now (targets .entry)) (now (suns .entry)) (now (observers .entry))
+        «tolerance_deg» «has_roll» «roll_deg» «panel_x» «panel_y» «panel_z» in
+        let s : Sweep = evenSweep p n in
         ⌜ (r ≡ int64 (workReply s chunk (now (journal .entry)) used))
         × (now (journal .exit) ≡ workBytes s chunk (now (journal .entry)) used) ⌝ }
 {
-    let config = settings(tolerance_deg, has_roll, roll_deg, panel_x, panel_y, panel_z);
-    int64(journal::work(targets, suns, observers, config, n, chunk, journal, used))
+    let configured = configured(has_roll, roll_deg);
+    let tolerances = [tolerance_deg];
+    let panels = [panel_x, panel_y, panel_z];
+    int64(journal::work(
+        targets,
+        suns,
+        observers,
+        &tolerances,
+        configured,
+        &panels,
+        n,
+        chunk,
+        journal,
+        used,
+    ))
 }
 
 #[no_mangle]
@@ -76,18 +104,23 @@ pub extern "C" fn wilfnusk_work_range(
     used: u64,
     stopped: &mut u64,
 ) -> u64
-    ensures { λ r. let s : Sweep = lentSweep (now (targets .entry)) (now (suns .entry)) (now (observers .entry))
-        (settings «tolerance_deg» «has_roll» «roll_deg» «panel_x» «panel_y» «panel_z») n in
+    ensures { λ r. let p : Plan = lentPlan (now (targets .entry)) (now (suns .entry)) (now (observers .entry))
+        «tolerance_deg» «has_roll» «roll_deg» «panel_x» «panel_y» «panel_z» in
+        let s : Sweep = evenSweep p n in
         ⌜ (r ≡ int64 (rangeReply s from to (now (journal .entry)) used))
         × (now (journal .exit) ≡ rangeBytes s from to (now (journal .entry)) used)
         × (now (stopped .exit) ≡ rangeStopped s from to (now (journal .entry)) used (now (stopped .entry))) ⌝ }
 {
-    let config = settings(tolerance_deg, has_roll, roll_deg, panel_x, panel_y, panel_z);
+    let configured = configured(has_roll, roll_deg);
+    let tolerances = [tolerance_deg];
+    let panels = [panel_x, panel_y, panel_z];
     int64(journal::work_range(
         targets,
         suns,
         observers,
-        config,
+        &tolerances,
+        configured,
+        &panels,
         n,
         from,
         to,
@@ -112,12 +145,25 @@ pub extern "C" fn wilfnusk_recover(
     journal: &[u8],
     used: u64,
 ) -> u64
-    ensures { λ r. let s : Sweep = lentSweep (now (targets .entry)) (now (suns .entry)) (now (observers .entry))
-        (settings «tolerance_deg» «has_roll» «roll_deg» «panel_x» «panel_y» «panel_z») n in
+    ensures { λ r. let p : Plan = lentPlan (now (targets .entry)) (now (suns .entry)) (now (observers .entry))
+        «tolerance_deg» «has_roll» «roll_deg» «panel_x» «panel_y» «panel_z» in
+        let s : Sweep = evenSweep p n in
         ⌜ r ≡ int64 (recoverReply s (now (journal .entry)) used) ⌝ }
 {
-    let config = settings(tolerance_deg, has_roll, roll_deg, panel_x, panel_y, panel_z);
-    int64(journal::recover(targets, suns, observers, config, n, journal, used))
+    let configured = configured(has_roll, roll_deg);
+    let tolerances = [tolerance_deg];
+    let panels = [panel_x, panel_y, panel_z];
+    int64(journal::recover(
+        targets,
+        suns,
+        observers,
+        &tolerances,
+        configured,
+        &panels,
+        n,
+        journal,
+        used,
+    ))
 }
 
 #[no_mangle]
@@ -136,11 +182,25 @@ pub extern "C" fn wilfnusk_collect(
     used: u64,
     mask: &mut [u8],
 ) -> u64
-    ensures { λ r. let s : Sweep = lentSweep (now (targets .entry)) (now (suns .entry)) (now (observers .entry))
-        (settings «tolerance_deg» «has_roll» «roll_deg» «panel_x» «panel_y» «panel_z») n in
+    ensures { λ r. let p : Plan = lentPlan (now (targets .entry)) (now (suns .entry)) (now (observers .entry))
+        «tolerance_deg» «has_roll» «roll_deg» «panel_x» «panel_y» «panel_z» in
+        let s : Sweep = evenSweep p n in
         ⌜ (r ≡ int64 (collectReply s (now (journal .entry)) used (now (mask .entry))))
         × (now (mask .exit) ≡ collectMask s (now (journal .entry)) used (now (mask .entry))) ⌝ }
 {
-    let config = settings(tolerance_deg, has_roll, roll_deg, panel_x, panel_y, panel_z);
-    int64(journal::collect(targets, suns, observers, config, n, journal, used, mask))
+    let configured = configured(has_roll, roll_deg);
+    let tolerances = [tolerance_deg];
+    let panels = [panel_x, panel_y, panel_z];
+    int64(journal::collect(
+        targets,
+        suns,
+        observers,
+        &tolerances,
+        configured,
+        &panels,
+        n,
+        journal,
+        used,
+        mask,
+    ))
 }

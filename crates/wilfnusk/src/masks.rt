@@ -1,16 +1,16 @@
 // Masks, rows, the field of regard and the named values of a plan.
 use crate::answers::int64;
 use crate::plans::asked;
-use crate::plans::settings;
+use crate::plans::configured;
 ghost use mathlib.Core.Path.{_≡_};
 ghost use lib.ListN.{length};
-ghost use Rattle.solar_roll.specs.Plan.{Plan, planOf, samplesOrNoneRefusal};
+ghost use Rattle.solar_roll.specs.Plan.{Plan, samplesOrNoneRefusal};
 ghost use Rattle.solar_masks.specs.Mask.{atRoll, atConfigured, atEveryRoll, cellsReply, maskAfter, valuesAfter};
 ghost use Rattle.solar_masks.specs.Row.{rowReply, rowMaskAfter, severitiesAfter};
 ghost use Rattle.solar_masks.specs.Field.{fieldReply, fieldAfter};
 ghost use Rattle.solar_roll.specs.declared.cell.EvaluationRoll.the-variants.{Sweep};
 ghost use Rattle.wilfnusk.specs.Answers.{int64};
-ghost use Rattle.wilfnusk.specs.Plans.{asked, settings};
+ghost use Rattle.wilfnusk.specs.Plans.{asked, lentPlan};
 
 #[no_mangle]
 pub extern "C" fn wilfnusk_named_values(
@@ -25,13 +25,23 @@ pub extern "C" fn wilfnusk_named_values(
     panel_z: f64,
     out: &mut [f64],
 ) -> u64
-    ensures { λ r. let p : Plan = planOf (now (targets .entry)) (now (suns .entry)) (now (observers .entry))
-        (settings «tolerance_deg» «has_roll» «roll_deg» «panel_x» «panel_y» «panel_z») in
+    ensures { λ r. let p : Plan = lentPlan (now (targets .entry)) (now (suns .entry)) (now (observers .entry))
+        «tolerance_deg» «has_roll» «roll_deg» «panel_x» «panel_y» «panel_z» in
         ⌜ (r ≡ int64 (cellsReply p 0 (length (now (out .entry)))))
         × (now (out .exit) ≡ valuesAfter p (now (out .entry))) ⌝ }
 {
-    let config = settings(tolerance_deg, has_roll, roll_deg, panel_x, panel_y, panel_z);
-    int64(solar_masks::named_values(targets, suns, observers, config, out))
+    let configured = configured(has_roll, roll_deg);
+    let tolerances = [tolerance_deg];
+    let panels = [panel_x, panel_y, panel_z];
+    int64(solar_masks::named_values(
+        targets,
+        suns,
+        observers,
+        &tolerances,
+        configured,
+        &panels,
+        out,
+    ))
 }
 
 #[no_mangle]
@@ -47,13 +57,23 @@ pub extern "C" fn wilfnusk_in_constraint_batch(
     panel_z: f64,
     mask: &mut [u8],
 ) -> u64
-    ensures { λ r. let p : Plan = planOf (now (targets .entry)) (now (suns .entry)) (now (observers .entry))
-        (settings «tolerance_deg» «has_roll» «roll_deg» «panel_x» «panel_y» «panel_z») in
+    ensures { λ r. let p : Plan = lentPlan (now (targets .entry)) (now (suns .entry)) (now (observers .entry))
+        «tolerance_deg» «has_roll» «roll_deg» «panel_x» «panel_y» «panel_z» in
         ⌜ (r ≡ int64 (cellsReply p 0 (length (now (mask .entry)))))
         × (now (mask .exit) ≡ maskAfter p 0 atConfigured (now (mask .entry))) ⌝ }
 {
-    let config = settings(tolerance_deg, has_roll, roll_deg, panel_x, panel_y, panel_z);
-    int64(solar_masks::in_constraint_batch(targets, suns, observers, config, mask))
+    let configured = configured(has_roll, roll_deg);
+    let tolerances = [tolerance_deg];
+    let panels = [panel_x, panel_y, panel_z];
+    int64(solar_masks::in_constraint_batch(
+        targets,
+        suns,
+        observers,
+        &tolerances,
+        configured,
+        &panels,
+        mask,
+    ))
 }
 
 #[no_mangle]
@@ -71,14 +91,25 @@ pub extern "C" fn wilfnusk_in_constraint_batch_at_roll(
     roll_at_deg: f64,
     mask: &mut [u8],
 ) -> u64
-    ensures { λ r. let p : Plan = planOf (now (targets .entry)) (now (suns .entry)) (now (observers .entry))
-        (settings «tolerance_deg» «has_roll» «roll_deg» «panel_x» «panel_y» «panel_z») in
+    ensures { λ r. let p : Plan = lentPlan (now (targets .entry)) (now (suns .entry)) (now (observers .entry))
+        «tolerance_deg» «has_roll» «roll_deg» «panel_x» «panel_y» «panel_z» in
         ⌜ (r ≡ int64 (cellsReply p 0 (length (now (mask .entry)))))
         × (now (mask .exit) ≡ maskAfter p 0 (atRoll (asked fixed «roll_at_deg»)) (now (mask .entry))) ⌝ }
 {
-    let config = settings(tolerance_deg, has_roll, roll_deg, panel_x, panel_y, panel_z);
+    let configured = configured(has_roll, roll_deg);
+    let tolerances = [tolerance_deg];
+    let panels = [panel_x, panel_y, panel_z];
     let roll = asked(fixed, roll_at_deg);
-    int64(solar_masks::in_constraint_batch_at_roll(targets, suns, observers, config, roll, mask))
+    int64(solar_masks::in_constraint_batch_at_roll(
+        targets,
+        suns,
+        observers,
+        &tolerances,
+        configured,
+        &panels,
+        roll,
+        mask,
+    ))
 }
 
 #[no_mangle]
@@ -95,17 +126,21 @@ pub extern "C" fn wilfnusk_constrained_at_every_roll(
     n: u64,
     mask: &mut [u8],
 ) -> u64
-    ensures { λ r. let p : Plan = planOf (now (targets .entry)) (now (suns .entry)) (now (observers .entry))
-        (settings «tolerance_deg» «has_roll» «roll_deg» «panel_x» «panel_y» «panel_z») in
+    ensures { λ r. let p : Plan = lentPlan (now (targets .entry)) (now (suns .entry)) (now (observers .entry))
+        «tolerance_deg» «has_roll» «roll_deg» «panel_x» «panel_y» «panel_z» in
         ⌜ (r ≡ int64 (cellsReply p (samplesOrNoneRefusal n) (length (now (mask .entry)))))
         × (now (mask .exit) ≡ maskAfter p (samplesOrNoneRefusal n) (atEveryRoll n) (now (mask .entry))) ⌝ }
 {
-    let config = settings(tolerance_deg, has_roll, roll_deg, panel_x, panel_y, panel_z);
+    let configured = configured(has_roll, roll_deg);
+    let tolerances = [tolerance_deg];
+    let panels = [panel_x, panel_y, panel_z];
     int64(solar_masks::in_constraint_batch_constrained_at_every_roll(
         targets,
         suns,
         observers,
-        config,
+        &tolerances,
+        configured,
+        &panels,
         n,
         mask,
     ))
@@ -126,14 +161,26 @@ pub extern "C" fn wilfnusk_evaluate(
     mask: &mut [u8],
     severities: &mut [f64],
 ) -> u64
-    ensures { λ r. let p : Plan = planOf (now (targets .entry)) (now (suns .entry)) (now (observers .entry))
-        (settings «tolerance_deg» «has_roll» «roll_deg» «panel_x» «panel_y» «panel_z») in
+    ensures { λ r. let p : Plan = lentPlan (now (targets .entry)) (now (suns .entry)) (now (observers .entry))
+        «tolerance_deg» «has_roll» «roll_deg» «panel_x» «panel_y» «panel_z» in
         ⌜ (r ≡ int64 (rowReply p target (length (now (mask .entry))) (length (now (severities .entry)))))
         × (now (mask .exit) ≡ rowMaskAfter p target (now (mask .entry)) (now (severities .entry)))
         × (now (severities .exit) ≡ severitiesAfter p target (now (mask .entry)) (now (severities .entry))) ⌝ }
 {
-    let config = settings(tolerance_deg, has_roll, roll_deg, panel_x, panel_y, panel_z);
-    int64(solar_masks::evaluate(targets, suns, observers, config, target, mask, severities))
+    let configured = configured(has_roll, roll_deg);
+    let tolerances = [tolerance_deg];
+    let panels = [panel_x, panel_y, panel_z];
+    int64(solar_masks::evaluate(
+        targets,
+        suns,
+        observers,
+        &tolerances,
+        configured,
+        &panels,
+        target,
+        mask,
+        severities,
+    ))
 }
 
 #[no_mangle]
@@ -151,17 +198,21 @@ pub extern "C" fn wilfnusk_field_of_regard_violated_batch(
     n: u64,
     mask: &mut [u8],
 ) -> u64
-    ensures { λ r. let p : Plan = planOf (now (targets .entry)) (now (suns .entry)) (now (observers .entry))
-        (settings «tolerance_deg» «has_roll» «roll_deg» «panel_x» «panel_y» «panel_z») in
+    ensures { λ r. let p : Plan = lentPlan (now (targets .entry)) (now (suns .entry)) (now (observers .entry))
+        «tolerance_deg» «has_roll» «roll_deg» «panel_x» «panel_y» «panel_z» in
         ⌜ (r ≡ int64 (fieldReply p (samplesOrNoneRefusal n) time (length (now (mask .entry)))))
         × (now (mask .exit) ≡ fieldAfter p (samplesOrNoneRefusal n) time (atEveryRoll n) (now (mask .entry))) ⌝ }
 {
-    let config = settings(tolerance_deg, has_roll, roll_deg, panel_x, panel_y, panel_z);
+    let configured = configured(has_roll, roll_deg);
+    let tolerances = [tolerance_deg];
+    let panels = [panel_x, panel_y, panel_z];
     int64(solar_masks::field_of_regard_violated_batch(
         targets,
         suns,
         observers,
-        config,
+        &tolerances,
+        configured,
+        &panels,
         time,
         n,
         mask,
@@ -183,17 +234,21 @@ pub extern "C" fn wilfnusk_field_of_regard_violated_at_roll(
     roll_at_deg: f64,
     mask: &mut [u8],
 ) -> u64
-    ensures { λ r. let p : Plan = planOf (now (targets .entry)) (now (suns .entry)) (now (observers .entry))
-        (settings «tolerance_deg» «has_roll» «roll_deg» «panel_x» «panel_y» «panel_z») in
+    ensures { λ r. let p : Plan = lentPlan (now (targets .entry)) (now (suns .entry)) (now (observers .entry))
+        «tolerance_deg» «has_roll» «roll_deg» «panel_x» «panel_y» «panel_z» in
         ⌜ (r ≡ int64 (fieldReply p 0 time (length (now (mask .entry)))))
         × (now (mask .exit) ≡ fieldAfter p 0 time (atRoll (Sweep «roll_at_deg»)) (now (mask .entry))) ⌝ }
 {
-    let config = settings(tolerance_deg, has_roll, roll_deg, panel_x, panel_y, panel_z);
+    let configured = configured(has_roll, roll_deg);
+    let tolerances = [tolerance_deg];
+    let panels = [panel_x, panel_y, panel_z];
     int64(solar_masks::field_of_regard_violated_at_roll(
         targets,
         suns,
         observers,
-        config,
+        &tolerances,
+        configured,
+        &panels,
         time,
         roll_at_deg,
         mask,

@@ -1,5 +1,5 @@
 -- `sweep_cells`: before cell k, where a row's part begins, mask and probes are those of the cells before it. Assumes nothing.
-use Prim.Native.Nat.{ℕ, _+_, _-_, _*_, _%_, _^_, _≤_, _<_}
+use Prim.Native.Nat.{ℕ, _+_, _-_, _*_, _/_, _%_, _^_, _≤_, _<_}
 use mathlib.Core.Path.{_≡_, sym, ap, _∙_}
 use mathlib.Core.Bool.{Bool}
 use mathlib.Core.List.{List}
@@ -10,8 +10,10 @@ use lib.ListN.{length, getD}
 use lib.Bits.{bitOr}
 use lib.Ieee.{Float, nan}
 use Rattle.solar_roll.specs.Vectors.{Vector}
-use Rattle.solar_roll.specs.Plan.{mostSamples}
-use Rattle.solar_roll.specs.declared.plan.SolarRollConfig.{SolarRollConfig}
+use Rattle.solar_roll.specs.Roll.{panelOf}
+use Rattle.solar_roll.specs.Plan.{rowPanel, rowConfig, mostSamples}
+use Rattle.solar_roll.proofs.Cells.{one-panel}
+use Rattle.solar_roll.specs.declared.cell.ConfiguredRoll.{ConfiguredRoll}
 use Rattle.roll_sweep.specs.Chunk.{violatesBy, sweptBy}
 use Rattle.roll_sweep.proofs.Swept.{Upto, upto-zero, upto-whole, upto-le, upto-part}
 use Rattle.roll_sweep.proofs.Cells.{row-swept}
@@ -19,15 +21,15 @@ use Rattle.roll_sweep.proofs.chunk.sweep_cells.Statement.{statement}
 use Rattle.roll_sweep.proofs.chunk.sweep_cells.Tie as tie
 
 -- the k-th cell is violated at roll s
-abbrev nth-violated : List Float → ℕ → List Vector → SolarRollConfig → List Float → ℕ → ℕ → ℕ → Bool
-nth-violated targets times units config rolls first k s = violatesBy targets times units config (first + k) (getD rolls s nan)
+abbrev nth-violated : List Float → ℕ → List Vector → List Float → ConfiguredRoll → List Float → List Float → ℕ → ℕ → ℕ → Bool
+nth-violated targets times units tolerances configured panels rolls first k s = violatesBy targets times units tolerances configured panels (first + k) (getD rolls s nan)
 
 abbrev Inv-loop : tie.InvT-loop
-Inv-loop targets times units config rolls first cells panel mask₀ probes₀ k₀ mask probes k =
-    (k ≤ cells) × Upto (length rolls) (nth-violated targets times units config rolls first) k mask probes
+Inv-loop targets times units tolerances configured panels rolls first cells panel mask₀ probes₀ k₀ mask probes k =
+    (k ≤ cells) × Upto (length rolls) (nth-violated targets times units tolerances configured panels rolls first) k mask probes
 
 abbrev μ-loop : tie.MeasureT-loop
-μ-loop targets times units config rolls first cells panel mask₀ probes₀ k₀ mask probes k = cells - k
+μ-loop targets times units tolerances configured panels rolls first cells panel mask₀ probes₀ k₀ mask probes k = cells - k
 
 -- the part of a row that is swept together
 record Part (i times table k cells m : ℕ) : Type 0 where
@@ -38,11 +40,11 @@ record Part (i times table k cells m : ℕ) : Type 0 where
   pub few : k + m ≤ 64
 
 part : (c : tie.After-smaller2 Inv-loop μ-loop) →
-    let a = c .before .before .before .before .before .before .before .before .args in
+    let a = c .before .before .before .before .before .before .before .before .before .args in
     let k = c .before .before .before .loop .k in
     Part (a .first + k) (a .times) (length (a .units .now)) k (a .cells) (c .smaller2 .result)
 part c =
-    let a = c .before .before .before .before .before .before .before .before .args in
+    let a = c .before .before .before .before .before .before .before .before .before .args in
     let k = c .before .before .before .loop .k in
     let pos : 0 < a .times = omega arith in
     let some : 0 < length (a .units .now) = omega arith in
@@ -52,26 +54,33 @@ part c =
 
 -- mask and probes with the row's part
 stepped : (c : tie.After-sweep-row Inv-loop μ-loop) →
-    let a = c .before .before .before .before .before .before .before .before .before .before .before .before .before .args in
+    let a = c .before .before .before .before .before .before .before .before .before .before .before .before .before .before .args in
     let at = c .before .before .before .before .before .before .before .before .loop in
     let m = c .before .before .before .before .before .smaller2 .result in
-    Upto (length (a .rolls .now)) (nth-violated (a .targets .now) (a .times) (a .units .now) (a .config) (a .rolls .now) (a .first))
+    Upto (length (a .rolls .now)) (nth-violated (a .targets .now) (a .times) (a .units .now) (a .tolerances .now) (a .configured) (a .panels .now) (a .rolls .now) (a .first))
     (at .k + m) (bitOr (at .mask) ((c .sweep-row .result .mask * 2 ^ at .k) % 2 ^ 64)) (at .probes + c .sweep-row .result .probes)
+unfolding rowConfig
 stepped c =
-    let a = c .before .before .before .before .before .before .before .before .before .before .before .before .before .args in
+    let a = c .before .before .before .before .before .before .before .before .before .before .before .before .before .before .args in
     let at = c .before .before .before .before .before .before .before .before .loop in
     let m = c .before .before .before .before .before .smaller2 .result in
     let h = part (c .before .before .before .before .before) in
     let start : ℕ = (a .first + at .k) % length (a .units .now) in
     let z : at .k + m - at .k ≡ m = omega arith in
+    let row : ℕ = (a .first + at .k) / a .times in
+    let turned : c .before .before .before .before .before .before .before .before .before .panel-at .result ≡ panelOf (rowPanel (a .panels .now) row) =
+    c .before .before .before .before .before .before .before .before .before .panel-at .ensures ∙ ap panelOf (one-panel (a .panels .now) (a .first / a .times) row) in
     upto-part _ _ (at .k + m) (c .sweep-row .result) (at .inv .1) (omega arith) (h .few)
     (c .sweep-row .ensures
-    ∙ rw (c .before .before .before .body-axes .ensures, c .before .before .before .before .direction .ensures, c .before .before .row-config .ensures, c .before .before .before .before .before .before .before .before .before .panel-of .ensures)
-    (row-swept (a .targets .now) (a .config) (a .rolls .now) (a .units .now) (a .times) (a .first) (at .k) m (start + m - start) (omega arith) (h .in-row) (h .in-table))
-    ∙ ap (λ (w : ℕ). sweptBy w (length (a .rolls .now)) (λ j. nth-violated (a .targets .now) (a .times) (a .units .now) (a .config) (a .rolls .now) (a .first) (at .k + j))) (sym z))
+    ∙ rw (c .before .before .before .body-axes .ensures, c .before .before .before .before .direction .ensures, c .before .before .row-config .ensures, turned)
+    (row-swept (a .targets .now) (a .tolerances .now) (a .configured) (a .panels .now) (a .rolls .now) (a .units .now) (a .times) (a .first) (at .k) m (start + m - start) (omega arith) (h .in-row) (h .in-table))
+    ∙ ap (λ (w : ℕ). sweptBy w (length (a .rolls .now)) (λ j. nth-violated (a .targets .now) (a .times) (a .units .now) (a .tolerances .now) (a .configured) (a .panels .now) (a .rolls .now) (a .first) (at .k + j))) (sym z))
 
-panel-of-requires : tie.Need-panel-of-requires Inv-loop μ-loop
-panel-of-requires c κs = search needs
+div-panel-at : tie.Need-div-panel-at Inv-loop μ-loop
+div-panel-at c = search needs
+
+panel-at-requires : tie.Need-panel-at-requires Inv-loop μ-loop
+panel-at-requires c κs = search needs
 
 loop-holds : tie.Need-loop-holds Inv-loop μ-loop
 loop-holds c = (omega arith, upto-zero _ _)
@@ -90,7 +99,7 @@ rem-left c = search needs
 
 sub-left : tie.Need-sub-left Inv-loop μ-loop
 sub-left c =
-    let a = c .before .before .before .before .before .before .args in
+    let a = c .before .before .before .before .before .before .before .args in
     let pos : 0 < a .times = omega arith in
     omega (arith, mod-lt (a .first + c .before .loop .k) pos)
 
@@ -108,7 +117,7 @@ smaller-requires c κs = search needs
 
 sub-smaller-2 : tie.Need-sub-smaller-2 Inv-loop μ-loop
 sub-smaller-2 c =
-    let a = c .before .before .before .before .before .before .before .args in
+    let a = c .before .before .before .before .before .before .before .before .args in
     let some : 0 < length (a .units .now) = omega arith in
     omega (arith, mod-lt (a .first + c .before .before .loop .k) some)
 
@@ -150,10 +159,10 @@ shl-mask c =
 
 add-probes : tie.Need-add-probes Inv-loop μ-loop
 add-probes c =
-    let a = c .before .before .before .before .before .before .before .before .before .before .before .before .before .before .before .args in
+    let a = c .before .before .before .before .before .before .before .before .before .before .before .before .before .before .before .before .args in
     let h = part (c .before .before .before .before .before .before .before) in
     let u = stepped (c .before .before) in
-    let few : length (a .rolls .now) ≤ mostSamples = c .before .before .before .before .before .before .before .before .before .before .before .before .before .before .before .pre .1 in
+    let few : length (a .rolls .now) ≤ mostSamples = c .before .before .before .before .before .before .before .before .before .before .before .before .before .before .before .before .pre .1 in
     record { fits = omega (arith, upto-le _ _ u, mul-le-mul (h .few) few) }
 
 add-k : tie.Need-add-k Inv-loop μ-loop
@@ -167,7 +176,7 @@ loop-again c = (part (c .before .before .before .before .before .before .before)
 
 returns : tie.Need-returns Inv-loop μ-loop
 returns c =
-    let h : c .before .loop .k ≡ c .before .before .before .before .before .before .args .cells = omega arith in
+    let h : c .before .loop .k ≡ c .before .before .before .before .before .before .before .args .cells = omega arith in
     upto-whole _ _ (c .before .loop .inv .1) ∙ rw h
 
 pub sweep-cells-spec : {M : Type 1} → statement M
@@ -176,7 +185,8 @@ sweep-cells-spec =
     (tie.spec
     Inv-loop
     μ-loop
-    panel-of-requires
+    div-panel-at
+    panel-at-requires
     loop-holds
     add-row
     div-row

@@ -13,12 +13,12 @@ use Rattle.roll_sweep.proofs.chunk.sweep_chunk.Statement.{statement}
 use Rattle.roll_sweep.proofs.chunk.sweep_chunk.Tie as tie
 
 facts : (c : tie.Else1) →
-    let a = c .before .before .before .before .args in
+    let a = c .before .before .before .before .before .before .args in
     ChunkFacts (count (a .targets .now)) (a .times) (length (a .units .now)) (length (a .rolls .now)) (a .chunk)
 facts c = chunk-facts _ _ _ _ _ (sym (c .before .chunk-refusal .ensures) ∙ c .if1 .left)
 
 cells-held : (c : tie.After-cells-in) →
-    let a = c .before .before .before .before .before .args in
+    let a = c .before .before .before .before .before .before .before .args in
     Held (count (a .targets .now)) (a .times) (a .chunk) (c .cells-in .result)
 cells-held c = held _ _ _ _ _ _ (facts (c .before)) (c .cells-in .ensures)
 
@@ -31,7 +31,7 @@ returns c = rw (← c .before .chunk-refusal .ensures) (sym (reply-some _ _ (ome
 
 mul-first : tie.Need-mul-first
 mul-first c =
-    let l : 64 * c .before .before .before .before .args .chunk < 2 ^ 64 = omega (arith, first-below (facts c), facts c .few-cells) in
+    let l : 64 * c .before .before .before .before .before .before .args .chunk < 2 ^ 64 = omega (arith, first-below (facts c), facts c .few-cells) in
     record { fits = l }
 
 mul-cells-in : tie.Need-mul-cells-in
@@ -49,10 +49,10 @@ sweep-samples-requires c κs =
 returns-2 : tie.Need-returns-2
 unfolding chunkReply
 returns-2 c =
-    let a = c .before .before .before .before .before .before .args in
+    let a = c .before .before .before .before .before .before .before .before .args in
     sym (reply-none _ _ (sym (c .before .before .before .chunk-refusal .ensures) ∙ c .before .before .if1 .left)
     ∙ ap accepted (sym (c .sweep-samples .ensures
-    ∙ ap (λ (w : ℕ). sweptBy w (length (a .rolls .now)) (λ k s. violatesBy (a .targets .now) (a .times) (a .units .now) (a .config) (64 * a .chunk + k) (sampleRoll (a .rolls .now) (a .config .«roll_deg») s))) (cells-held (c .before) .whole))))
+    ∙ ap (λ (w : ℕ). sweptBy w (length (a .rolls .now)) (λ k s. violatesBy (a .targets .now) (a .times) (a .units .now) (a .tolerances .now) (a .configured) (a .panels .now) (64 * a .chunk + k) (sampleRoll (a .rolls .now) (a .configured) s))) (cells-held (c .before) .whole))))
 
 pub sweep-chunk-spec : {M : Type 1} → statement M
 sweep-chunk-spec =

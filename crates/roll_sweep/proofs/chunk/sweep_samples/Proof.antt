@@ -6,6 +6,7 @@ use mathlib.Core.List.{[], _∷_}
 use borrow.Author.Needs.{needs}
 use lib.ListN.{length, getD}
 use lib.Ieee.{Float, nan}
+use Rattle.solar_roll.specs.Plan.{rowConfig}
 use Rattle.roll_sweep.specs.Chunk.{violatesBy, sampleRoll}
 use Rattle.roll_sweep.proofs.Swept.{swept-ext, swept-same, one-each}
 use Rattle.roll_sweep.proofs.Cells.{configured-same, unconfigured}
@@ -16,7 +17,7 @@ use Rattle.roll_sweep.proofs.chunk.sweep_samples.Tie as tie
 abbrev nth-violated : tie.Start → ℕ → Float → Bool
 nth-violated x k =
     let a = x .args in
-    violatesBy (a .targets .now) (a .times) (a .units .now) (a .config) (a .first + k)
+    violatesBy (a .targets .now) (a .times) (a .units .now) (a .tolerances .now) (a .configured) (a .panels .now) (a .first + k)
 
 enum-told : tie.Need-enum-told
 enum-told c = search needs
@@ -35,26 +36,27 @@ sweep-cells-requires-2 c κs = search needs
 
 repeated-requires : tie.Need-repeated-requires
 repeated-requires c κs =
-    let x = c .before .before .before .before .before .before .before in
+    let x = c .before .before .before .before .before .before .before .before .before in
     (x .pre .6, x .pre .1, one-each (x .args .cells) _ (c .sweep-cells2 .result) (x .pre .0) (c .sweep-cells2 .ensures))
 
 returns : tie.Need-returns
 returns c =
-    let x = c .before .before .before .before .before in
+    let x = c .before .before .before .before .before .before .before in
     let rolls = x .args .rolls .now in
     c .sweep-cells .ensures
-    ∙ swept-ext (x .args .cells) (length rolls) (λ k s. nth-violated x k (getD rolls s nan)) (λ k s. nth-violated x k (sampleRoll rolls (x .args .config .«roll_deg») s))
-    (λ k s h g. ap (nth-violated x k) (sym (unconfigured (x .args .config .«roll_deg») rolls s (c .before .enum-told .given .1))))
+    ∙ swept-ext (x .args .cells) (length rolls) (λ k s. nth-violated x k (getD rolls s nan)) (λ k s. nth-violated x k (sampleRoll rolls (x .args .configured) s))
+    (λ k s h g. ap (nth-violated x k) (sym (unconfigured (x .args .configured) rolls s (c .before .enum-told .given .1))))
 
 returns-2 : tie.Need-returns-2
+unfolding violatesBy rowConfig
 returns-2 c =
-    let x = c .before .before .before .before .before .before .before .before in
+    let x = c .before .before .before .before .before .before .before .before .before .before in
     let rolls = x .args .rolls .now in
     let roll = c .before .before .before .before .configured .given .0 .0 in
     swept-same (x .args .cells) (length rolls)
-    (λ k s. nth-violated x k (sampleRoll rolls (x .args .config .«roll_deg») s)) (λ k s. nth-violated x k (getD (roll ∷ []) s nan))
+    (λ k s. nth-violated x k (sampleRoll rolls (x .args .configured) s)) (λ k s. nth-violated x k (getD (roll ∷ []) s nan))
     (c .before .sweep-cells2 .result) (c .repeated .result) (x .pre .6)
-    (λ k s. ap (nth-violated x k) (configured-same (x .args .config .«roll_deg») roll rolls s (c .before .before .before .before .configured .given .1)))
+    (λ k s. ap (nth-violated x k) (configured-same (x .args .configured) roll rolls s (c .before .before .before .before .configured .given .1)))
     (c .before .sweep-cells2 .ensures) (c .repeated .ensures .0) (c .repeated .ensures .1)
 
 pub sweep-samples-spec : {M : Type 1} → statement M

@@ -3,7 +3,7 @@ use Rattle.buffers.specs.Lent.{filled}
 use Rattle.solar_masks.proofs.Calls.{field-room}
 use Rattle.solar_masks.specs.Field.{fieldRefusal, fieldReply, fieldAfter}
 use Rattle.solar_masks.specs.Mask.{markAt}
-use Rattle.solar_roll.specs.Plan.{Plan, planOf, rowsOf, planConfigured}
+use Rattle.solar_roll.specs.Plan.{Plan, planOf, rowsOf}
 use Rattle.solar_masks.specs.declared.mask.MarkRule.{MarkRule}
 use borrow.Author.Needs.{needs}
 use denote.Ref.{now}
@@ -13,11 +13,11 @@ use Rattle.solar_masks.proofs.field.field_of_regard_violated_at_roll.St
 use Rattle.solar_masks.proofs.field.field_of_regard_violated_at_roll.Tie as tie
 
 abbrev Start-of : tie.After-field-refusal → tie.Start
-Start-of c = c .before .before .before .before .before
+Start-of c = c .before .before .before .before .before .before .before
 
 -- the plan that the call was lent
 abbrev plan : tie.After-field-refusal → Plan
-plan c = let a = Start-of c .args in planOf (now (a .targets)) (now (a .suns)) (now (a .observers)) (a .config)
+plan c = let a = Start-of c .args in planOf (now (a .targets)) (now (a .suns)) (now (a .observers)) (now (a .tolerances)) (a .configured) (now (a .panels))
 
 refusal : (c : tie.After-field-refusal) → c .field-refusal .result ≡ fieldRefusal (plan c) 0 (Start-of c .args .time) (length (now (Start-of c .args .mask)))
 refusal c = c .field-refusal .ensures
@@ -41,7 +41,7 @@ same-length : tie.Need-same-length
 same-length c = search needs
 
 returns-2 : tie.Need-returns-2
-unfolding fieldReply fieldAfter planConfigured
+unfolding fieldReply fieldAfter
 returns-2 c =
     let i = c .before .before .before .before .before in
     let k = i .before .field-refusal .result in

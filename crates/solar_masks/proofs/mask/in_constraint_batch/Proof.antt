@@ -2,7 +2,7 @@ use Rattle.buffers.proofs.Refusal.{refused-leaves, accepted-leaves}
 use Rattle.buffers.specs.Lent.{filled}
 use Rattle.solar_masks.proofs.Calls.{cells-facts, cells-room}
 use Rattle.solar_masks.specs.Mask.{cellMark, cellsRefusal, cellsReply, maskAfter}
-use Rattle.solar_roll.specs.Plan.{Plan, planOf, cellsOf, planConfigured}
+use Rattle.solar_roll.specs.Plan.{Plan, planOf, cellsOf}
 use Rattle.solar_masks.specs.declared.mask.MarkRule.{MarkRule}
 use borrow.Author.Needs.{needs}
 use denote.Ref.{now}
@@ -12,11 +12,11 @@ use Rattle.solar_masks.proofs.mask.in_constraint_batch.Statement.{state
 use Rattle.solar_masks.proofs.mask.in_constraint_batch.Tie as tie
 
 abbrev Start-of : tie.After-cells-refusal → tie.Start
-Start-of c = c .before .before .before .before .before
+Start-of c = c .before .before .before .before .before .before .before
 
 -- the plan that the call was lent
 abbrev plan : tie.After-cells-refusal → Plan
-plan c = let a = Start-of c .args in planOf (now (a .targets)) (now (a .suns)) (now (a .observers)) (a .config)
+plan c = let a = Start-of c .args in planOf (now (a .targets)) (now (a .suns)) (now (a .observers)) (now (a .tolerances)) (a .configured) (now (a .panels))
 
 refusal : (c : tie.After-cells-refusal) → c .cells-refusal .result ≡ cellsRefusal (plan c) 0 (length (now (Start-of c .args .mask)))
 refusal c = c .cells-refusal .ensures
@@ -43,7 +43,7 @@ same-length : tie.Need-same-length
 same-length c = search needs
 
 returns-2 : tie.Need-returns-2
-unfolding cellsReply maskAfter planConfigured
+unfolding cellsReply maskAfter
 returns-2 c =
     let i = c .before .before .before .before .before in
     let k = i .before .cells-refusal .result in

@@ -7,8 +7,9 @@ use Rattle.solar_masks.proofs.Blocks.{Block, block-of, block-units}
 use Rattle.solar_masks.proofs.Shared.{mark-shared}
 use Rattle.solar_roll.specs.Cell.{rollIn}
 use Rattle.solar_masks.specs.Mask.{markedBy, markAt, cellMark}
-use Rattle.solar_roll.specs.Plan.{Plan, planOf, count, rowsOf, timesOf, directionOf, configOf, sunAt, planPanel}
-use Rattle.solar_roll.specs.Roll.{bodyAxes}
+use Rattle.solar_roll.specs.Plan.{Plan, planOf, count, rowsOf, timesOf, directionOf, configOf, sunAt}
+use Rattle.solar_roll.specs.Roll.{bodyAxes, panelOf}
+use Rattle.solar_roll.proofs.Cells.{one-panel}
 use borrow.Author.Needs.{needs}
 use denote.Ref.{now}
 use lib.ListN.{length, getD}
@@ -21,17 +22,17 @@ use Rattle.solar_masks.proofs.mask.mark.Statement.{statement}
 use Rattle.solar_masks.proofs.mask.mark.Tie as tie
 
 abbrev Inv-loop : tie.InvT-loop
-Inv-loop targets suns observers config rule mask₀ times panel units₀ from₀ mask units from = (from ≤ times) × (length units ≡ 2048) × ColumnsWritten (count targets) times (count targets) 0 from (markAt (planOf targets suns observers config) rule) 0 mask₀ mask
+Inv-loop targets suns observers tolerances configured panels rule mask₀ times panel units₀ from₀ mask units from = (from ≤ times) × (length units ≡ 2048) × ColumnsWritten (count targets) times (count targets) 0 from (markAt (planOf targets suns observers tolerances configured panels) rule) 0 mask₀ mask
 
 abbrev μ-loop : tie.MeasureT-loop
-μ-loop targets suns observers config rule mask₀ times panel units₀ from₀ mask units from = times - from
+μ-loop targets suns observers tolerances configured panels rule mask₀ times panel units₀ from₀ mask units from = times - from
 
 abbrev Start-of : tie.At-loop Inv-loop μ-loop → tie.Start Inv-loop μ-loop
-Start-of o = o .before .before .before .before .before .before .before
+Start-of o = o .before .before .before .before .before .before .before .before
 
 -- the plan that the call was lent
 abbrev plan : tie.At-loop Inv-loop μ-loop → Plan
-plan o = let a = Start-of o .args in planOf (now (a .targets)) (now (a .suns)) (now (a .observers)) (a .config)
+plan o = let a = Start-of o .args in planOf (now (a .targets)) (now (a .suns)) (now (a .observers)) (now (a .tolerances)) (a .configured) (now (a .panels))
 
 abbrev F : tie.At-loop Inv-loop μ-loop → ℕ → ℕ → ℕ
 F o = markAt (plan o) (Start-of o .args .rule)
@@ -49,8 +50,8 @@ units-filled c =
     let o = c .before .before .before .before in
     block-units (plan o) (o .loop .from) _ (o .loop .units) _ (o .loop .inv .1) (c .before .before .smaller .ensures) (c .sun-units .ensures)
 
-panel-of-requires : tie.Need-panel-of-requires Inv-loop μ-loop
-panel-of-requires c κs = search needs
+panel-at-requires : tie.Need-panel-at-requires Inv-loop μ-loop
+panel-at-requires c κs = search needs
 
 loop-holds : tie.Need-loop-holds Inv-loop μ-loop
 loop-holds c = (omega arith, refl, columns-zero _ _ _ _ _ _)
@@ -80,20 +81,20 @@ loop-less : tie.Need-loop-less Inv-loop μ-loop
 loop-less c = omega (arith, block (c .before .before .before .before .before .before .before .before) .more, block (c .before .before .before .before .before .before .before .before) .within)
 
 loop-again : tie.Need-loop-again Inv-loop μ-loop
-unfolding sunAt planPanel
+unfolding sunAt
 loop-again c =
     let o = c .before .before .before .before .before .before .before .before .before .before in
     let a = Start-of o .args in
     let p = plan o in
     let n = c .before .before .before .before .before .before .before .before .smaller .result in
     let units = c .before .before .before .before .before .before .sun-units .last .1 .1 .1 .0 in
-    let new = c .before .before .mark-block .last .1 .1 .1 .1 .1 .1 .1 .1 .0 in
-    let G : ℕ → ℕ → ℕ = λ r j. flag (markedBy (rollIn (bodyAxes (directionOf p r)) (getD units (j - o .loop .from) []) (o .before .panel-of .result)) (a .rule) (configOf p r .«tolerance_deg»)) in
+    let new = c .before .before .mark-block .last .1 .1 .1 .1 .1 .1 .1 .1 .1 .1 .0 in
+    let G : ℕ → ℕ → ℕ = λ r j. flag (markedBy (rollIn (bodyAxes (directionOf p r)) (getD units (j - o .loop .from) []) (o .before .panel-at .result)) (a .rule) (configOf p r .«tolerance_deg»)) in
     let e : (r j : ℕ) → r < rowsOf p → o .loop .from ≤ j → j < o .loop .from + n → G r j ≡ F o r j = λ r j h l u.
     let q : o .loop .from + (j - o .loop .from) ≡ j = omega arith in
-    mark-shared p r j (bodyAxes (directionOf p r)) (getD units (j - o .loop .from) []) (o .before .panel-of .result) refl
+    mark-shared p r j (bodyAxes (directionOf p r)) (getD units (j - o .loop .from) []) (o .before .panel-at .result) refl
     (ap (λ (x : List Vector). getD x (j - o .loop .from) []) (units-filled (c .before .before .before .before .before .before) .0) ∙ getD-filled _ n _ [] (j - o .loop .from) (omega arith) ∙ ap (sunAt p) q)
-    (o .before .panel-of .ensures) (a .rule) (configOf p r .«tolerance_deg») refl in (
+    (o .before .panel-at .ensures ∙ ap panelOf (one-panel (p .panels) 0 r)) (a .rule) (configOf p r .«tolerance_deg») refl in (
       block (c .before .before .before .before .before .before .before .before) .within,
       search needs,
       columns-add (rowsOf p) (timesOf p) (F o) 0 (o .loop .from) n (now (a .mask)) (o .loop .mask) new (o .loop .inv .2)
@@ -119,7 +120,7 @@ mark-spec =
     (tie.spec
     Inv-loop
     μ-loop
-    panel-of-requires
+    panel-at-requires
     loop-holds
     sub-smaller
     smaller-requires

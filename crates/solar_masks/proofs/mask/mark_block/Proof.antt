@@ -18,13 +18,13 @@ use Rattle.solar_masks.proofs.mask.mark_block.Statement.{statement}
 use Rattle.solar_masks.proofs.mask.mark_block.Tie as tie
 
 abbrev Inv-loop : tie.InvT-loop
-Inv-loop targets config panel units times from count rule mask₀ rows row₀ mask row = (row ≤ rows) × ColumnsWritten rows times row from count (λ r j. flag (markedBy (rollIn (bodyAxes (rowDirection targets r)) (getD units (j - from) []) panel) rule (rowConfig config r .«tolerance_deg»))) 0 mask₀ mask
+Inv-loop targets tolerances configured panels panel units times from count rule mask₀ rows row₀ mask row = (row ≤ rows) × ColumnsWritten rows times row from count (λ r j. flag (markedBy (rollIn (bodyAxes (rowDirection targets r)) (getD units (j - from) []) panel) rule (rowConfig tolerances configured panels r .«tolerance_deg»))) 0 mask₀ mask
 
 abbrev μ-loop : tie.MeasureT-loop
-μ-loop targets config panel units times from count rule mask₀ rows row₀ mask row = rows - row
+μ-loop targets tolerances configured panels panel units times from count rule mask₀ rows row₀ mask row = rows - row
 
 abbrev Start-of : tie.At-loop Inv-loop μ-loop → tie.Start Inv-loop μ-loop
-Start-of o = o .before .before .before
+Start-of o = o .before .before .before .before .before
 
 abbrev rows : tie.At-loop Inv-loop μ-loop → ℕ
 rows o = count (now (Start-of o .args .targets))
@@ -33,7 +33,7 @@ rows o = count (now (Start-of o .args .targets))
 abbrev F : tie.At-loop Inv-loop μ-loop → ℕ → ℕ → ℕ
 F o r j =
     let a = Start-of o .args in
-    flag (markedBy (rollIn (bodyAxes (rowDirection (now (a .targets)) r)) (getD (now (a .units)) (j - a .from) []) (a .panel)) (a .rule) (rowConfig (a .config) r .«tolerance_deg»))
+    flag (markedBy (rollIn (bodyAxes (rowDirection (now (a .targets)) r)) (getD (now (a .units)) (j - a .from) []) (a .panel)) (a .rule) (rowConfig (now (a .tolerances)) (a .configured) (now (a .panels)) r .«tolerance_deg»))
 
 room : (o : tie.At-loop Inv-loop μ-loop) → rows o * Start-of o .args .times ≤ length (o .loop .mask)
 room o = omega (arith, o .loop .inv .1 .same, Start-of o .pre .0)

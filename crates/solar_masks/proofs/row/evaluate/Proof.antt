@@ -9,11 +9,11 @@ use Rattle.solar_masks.proofs.row.evaluate.Statement.{statement}
 use Rattle.solar_masks.proofs.row.evaluate.Tie as tie
 
 abbrev Start-of : tie.After-row-refusal → tie.Start
-Start-of c = c .before .before .before .before .before .before
+Start-of c = c .before .before .before .before .before .before .before .before
 
 -- the plan that the call was lent
 abbrev plan : tie.After-row-refusal → Plan
-plan c = let a = Start-of c .args in planOf (now (a .targets)) (now (a .suns)) (now (a .observers)) (a .config)
+plan c = let a = Start-of c .args in planOf (now (a .targets)) (now (a .suns)) (now (a .observers)) (now (a .tolerances)) (a .configured) (now (a .panels))
 
 row-refusal-requires : tie.Need-row-refusal-requires
 row-refusal-requires c κs = search needs

@@ -5,7 +5,7 @@ use Rattle.buffers.specs.Ranges.{flag}
 use Rattle.solar_masks.proofs.Shared.{mark-shared, severity-shared}
 use Rattle.solar_roll.specs.Cell.{rollIn}
 use Rattle.solar_masks.specs.Mask.{markedBy, atConfigured, markAt}
-use Rattle.solar_roll.specs.Plan.{Plan, planOf, triple, timesOf, sunAt, planPanel, planConfigured}
+use Rattle.solar_roll.specs.Plan.{Plan, planOf, triple, timesOf, sunAt}
 use Rattle.solar_roll.specs.Roll.{sunUnit, bodyAxes}
 use Rattle.solar_masks.specs.Row.{severity, severityAt}
 use Rattle.solar_roll.specs.Vectors.{Vector}
@@ -22,33 +22,33 @@ use Rattle.solar_masks.proofs.row.fill_row.Statement.{statement}
 use Rattle.solar_masks.proofs.row.fill_row.Tie as tie
 
 abbrev Inv-loop : tie.InvT-loop
-Inv-loop targets suns observers row mask₀ severities₀ axes tolerance configured panel times j₀ mask severities j = (j ≤ times) × (mask ≡ filled j (λ t. flag (markedBy (rollIn axes (sunUnit (triple suns t) (triple observers t)) panel) (atConfigured configured) tolerance)) mask₀) × (severities ≡ filled j (λ t. severity (rollIn axes (sunUnit (triple suns t) (triple observers t)) panel) configured tolerance) severities₀)
+Inv-loop targets suns observers tolerances configured panels row mask₀ severities₀ axes tolerance panel times j₀ mask severities j = (j ≤ times) × (mask ≡ filled j (λ t. flag (markedBy (rollIn axes (sunUnit (triple suns t) (triple observers t)) panel) (atConfigured configured) tolerance)) mask₀) × (severities ≡ filled j (λ t. severity (rollIn axes (sunUnit (triple suns t) (triple observers t)) panel) configured tolerance) severities₀)
 
 abbrev μ-loop : tie.MeasureT-loop
-μ-loop targets suns observers row mask₀ severities₀ axes tolerance configured panel times j₀ mask severities j = times - j
+μ-loop targets suns observers tolerances configured panels row mask₀ severities₀ axes tolerance panel times j₀ mask severities j = times - j
 
 abbrev Start-of : tie.At-loop Inv-loop μ-loop → tie.Start Inv-loop μ-loop
-Start-of o = o .before .before .before .before .before .before .before .before .before .before .before
+Start-of o = o .before .before .before .before .before .before .before .before .before .before .before .before
 
 small : (s : tie.Start Inv-loop μ-loop) → length (now (s .args .severities)) * 8 < 2 ^ 64
 small s = omega arith
 
 -- the plan that the call was lent
 abbrev plan : tie.At-loop Inv-loop μ-loop → Plan
-plan o = let a = Start-of o .args in planOf (now (a .targets)) (now (a .suns)) (now (a .observers)) (a .config)
+plan o = let a = Start-of o .args in planOf (now (a .targets)) (now (a .suns)) (now (a .observers)) (now (a .tolerances)) (a .configured) (now (a .panels))
 
 abbrev cell : tie.At-loop Inv-loop μ-loop → ℕ → CellRoll
-cell o t = let a = Start-of o .args in rollIn (o .before .before .before .before .body-axes .result) (sunUnit (triple (now (a .suns)) t) (triple (now (a .observers)) t)) (o .before .panel-of .result)
+cell o t = let a = Start-of o .args in rollIn (o .before .before .before .body-axes .result) (sunUnit (triple (now (a .suns)) t) (triple (now (a .observers)) t)) (o .before .panel-at .result)
 
 abbrev tolerance : tie.At-loop Inv-loop μ-loop → Float
-tolerance o = o .before .before .before .row-config .result .«tolerance_deg»
+tolerance o = o .before .before .row-config .result .«tolerance_deg»
 
 -- the byte and the severity of each time
 abbrev M : tie.At-loop Inv-loop μ-loop → ℕ → ℕ
-M o t = flag (markedBy (cell o t) (atConfigured (Start-of o .args .config .«roll_deg»)) (tolerance o))
+M o t = flag (markedBy (cell o t) (atConfigured (Start-of o .args .configured)) (tolerance o))
 
 abbrev S : tie.At-loop Inv-loop μ-loop → ℕ → Float
-S o t = severity (cell o t) (Start-of o .args .config .«roll_deg») (tolerance o)
+S o t = severity (cell o t) (Start-of o .args .configured) (tolerance o)
 
 kept : (o : tie.At-loop Inv-loop μ-loop) → length (o .loop .mask) ≡ length (now (Start-of o .args .mask))
 kept o = ap length (o .loop .inv .1) ∙ length-filled (M o) (o .loop .j) (now (Start-of o .args .mask)) (omega (arith, Start-of o .pre .0))
@@ -65,8 +65,8 @@ body-axes-requires c κs = search needs
 row-config-requires : tie.Need-row-config-requires Inv-loop μ-loop
 row-config-requires c κs = search needs
 
-panel-of-requires : tie.Need-panel-of-requires Inv-loop μ-loop
-panel-of-requires c κs = search needs
+panel-at-requires : tie.Need-panel-at-requires Inv-loop μ-loop
+panel-at-requires c κs = search needs
 
 loop-holds : tie.Need-loop-holds Inv-loop μ-loop
 loop-holds c = (omega arith, filled-zero _ _, filled-zero _ _)
@@ -104,9 +104,9 @@ loop-again c =
     let a = Start-of o .args in
     let j = o .loop .j in
     let unit = c .before .sun-unit .ensures ∙ ap₂ sunUnit (c .before .before .before .triple .ensures) (c .before .before .triple2 .ensures) in
-    let cells = ap (λ (u : Vector). rollIn (o .before .before .before .before .body-axes .result) u (o .before .panel-of .result)) unit in
-    let v = c .evaluate-cell .ensures .0 ∙ ap (λ (d : CellRoll). flag (markedBy d (atConfigured (a .config .«roll_deg»)) (tolerance o))) cells in
-    let w = c .evaluate-cell .ensures .1 ∙ ap (λ (d : CellRoll). severity d (a .config .«roll_deg») (tolerance o)) cells in
+    let cells = ap (λ (u : Vector). rollIn (o .before .before .before .body-axes .result) u (o .before .panel-at .result)) unit in
+    let v = c .evaluate-cell .ensures .0 ∙ ap (λ (d : CellRoll). flag (markedBy d (atConfigured (a .configured)) (tolerance o))) cells in
+    let w = c .evaluate-cell .ensures .1 ∙ ap (λ (d : CellRoll). severity d (a .configured) (tolerance o)) cells in
     let h : j < length (now (a .mask)) = omega (arith, Start-of o .pre .0) in
     let g : j < length (now (a .severities)) = omega (arith, Start-of o .pre .1) in (
       omega arith,
@@ -121,18 +121,18 @@ same-length-2 : tie.Need-same-length-2 Inv-loop μ-loop
 same-length-2 c = kept-2 (c .before)
 
 returns : tie.Need-returns Inv-loop μ-loop
-unfolding sunAt planPanel planConfigured
+unfolding sunAt
 returns c =
     let o = c .before in
     let a = Start-of o .args in
     let p = plan o in
     let e : o .loop .j ≡ timesOf p = omega arith in
-    let axes = o .before .before .before .before .body-axes .ensures ∙ ap bodyAxes (o .before .before .before .before .before .direction .ensures) in
-    let settings = ap (λ (s : SolarRollConfig). s .«tolerance_deg») (o .before .before .before .row-config .ensures) in
-    let panel = o .before .panel-of .ensures in (
+    let axes = o .before .before .before .body-axes .ensures ∙ ap bodyAxes (o .before .before .before .before .direction .ensures) in
+    let settings = ap (λ (s : SolarRollConfig). s .«tolerance_deg») (o .before .before .row-config .ensures) in
+    let panel = o .before .panel-at .ensures in (
       o .loop .inv .1
           ∙ ap (λ (n : ℕ). filled n (M o) (now (a .mask))) e
-          ∙ filled-ext (M o) (markAt p (atConfigured (planConfigured p)) (a .row)) (timesOf p) (now (a .mask)) (λ t l. mark-shared p (a .row) t _ _ _ axes refl panel _ _ settings),
+          ∙ filled-ext (M o) (markAt p (atConfigured (p .configured)) (a .row)) (timesOf p) (now (a .mask)) (λ t l. mark-shared p (a .row) t _ _ _ axes refl panel _ _ settings),
       o .loop .inv .2
           ∙ ap (λ (n : ℕ). filled n (S o) (now (a .severities))) e
           ∙ filled-ext (S o) (severityAt p (a .row)) (timesOf p) (now (a .severities)) (λ t l. severity-shared p (a .row) t _ _ _ axes refl panel _ settings),
@@ -147,7 +147,7 @@ fill-row-spec =
     direction-requires
     body-axes-requires
     row-config-requires
-    panel-of-requires
+    panel-at-requires
     loop-holds
     triple-requires
     triple-requires-2

@@ -6,8 +6,9 @@ use Rattle.float.specs.Arithmetic.{zero·0}
 use Rattle.solar_masks.proofs.Blocks.{Block, block-of, block-units}
 use Rattle.solar_masks.proofs.Shared.{value-shared}
 use Rattle.solar_masks.specs.Mask.{cellValue}
-use Rattle.solar_roll.specs.Plan.{Plan, planOf, count, triple, rowsOf, timesOf, rowDirection, directionOf, sunAt, optimalAt, planPanel}
-use Rattle.solar_roll.specs.Roll.{sunUnit, bodyAxes, rollDegIn}
+use Rattle.solar_roll.specs.Plan.{Plan, planOf, count, triple, rowsOf, timesOf, rowDirection, directionOf, sunAt, optimalAt}
+use Rattle.solar_roll.specs.Roll.{sunUnit, bodyAxes, rollDegIn, panelOf}
+use Rattle.solar_roll.proofs.Cells.{one-panel}
 use Rattle.solar_roll.specs.Vectors.{Vector}
 use borrow.Author.Needs.{needs}
 use denote.Ref.{now}
@@ -21,20 +22,20 @@ use Rattle.solar_masks.proofs.values.write_values.Statement.{statement}
 use Rattle.solar_masks.proofs.values.write_values.Tie as tie
 
 abbrev Inv-loop : tie.InvT-loop
-Inv-loop targets suns observers values₀ times angle units₀ from₀ values units from = (from ≤ times) × (length units ≡ 2048) × ColumnsWritten (count targets) times (count targets) 0 from (λ r j. rollDegIn (bodyAxes (rowDirection targets r)) (sunUnit (triple suns j) (triple observers j)) angle) zero·0 values₀ values
+Inv-loop targets suns observers tolerances panels values₀ times angle units₀ from₀ values units from = (from ≤ times) × (length units ≡ 2048) × ColumnsWritten (count targets) times (count targets) 0 from (λ r j. rollDegIn (bodyAxes (rowDirection targets r)) (sunUnit (triple suns j) (triple observers j)) angle) zero·0 values₀ values
 
 abbrev μ-loop : tie.MeasureT-loop
-μ-loop targets suns observers values₀ times angle units₀ from₀ values units from = times - from
+μ-loop targets suns observers tolerances panels values₀ times angle units₀ from₀ values units from = times - from
 
 abbrev Start-of : tie.At-loop Inv-loop μ-loop → tie.Start Inv-loop μ-loop
-Start-of o = o .before .before .before .before .before .before .before
+Start-of o = o .before .before .before .before .before .before .before .before
 
 -- the plan that the call was lent
 abbrev plan : tie.At-loop Inv-loop μ-loop → Plan
-plan o = let a = Start-of o .args in planOf (now (a .targets)) (now (a .suns)) (now (a .observers)) (a .config)
+plan o = let a = Start-of o .args in planOf (now (a .targets)) (now (a .suns)) (now (a .observers)) (now (a .tolerances)) (a .configured) (now (a .panels))
 
 abbrev F : tie.At-loop Inv-loop μ-loop → ℕ → ℕ → Float
-F o r j = rollDegIn (bodyAxes (directionOf (plan o) r)) (sunUnit (triple (plan o .suns) j) (triple (plan o .observers) j)) (o .before .panel-of .result .angle)
+F o r j = rollDegIn (bodyAxes (directionOf (plan o) r)) (sunUnit (triple (plan o .suns) j) (triple (plan o .observers) j)) (o .before .panel-at .result .angle)
 
 -- the block of times, and the table with its units
 block : (c : tie.After-smaller Inv-loop μ-loop) → Block (c .before .before .loop .from) (timesOf (plan (c .before .before))) (c .smaller .result)
@@ -49,8 +50,8 @@ units-filled c =
     let o = c .before .before .before .before in
     block-units (plan o) (o .loop .from) _ (o .loop .units) _ (o .loop .inv .1) (c .before .before .smaller .ensures) (c .sun-units .ensures)
 
-panel-of-requires : tie.Need-panel-of-requires Inv-loop μ-loop
-panel-of-requires c κs = search needs
+panel-at-requires : tie.Need-panel-at-requires Inv-loop μ-loop
+panel-at-requires c κs = search needs
 
 loop-holds : tie.Need-loop-holds Inv-loop μ-loop
 loop-holds c = (omega arith, refl, columns-zero _ _ _ _ _ _)
@@ -88,10 +89,10 @@ loop-again c =
     let n = c .before .before .before .before .before .before .before .before .smaller .result in
     let units = c .before .before .before .before .before .before .sun-units .last .1 .1 .1 .0 in
     let new = c .before .before .value-block .last .1 .1 .1 .1 .1 .1 .0 in
-    let G : ℕ → ℕ → Float = λ r j. rollDegIn (bodyAxes (directionOf p r)) (getD units (j - o .loop .from) []) (o .before .panel-of .result .angle) in
+    let G : ℕ → ℕ → Float = λ r j. rollDegIn (bodyAxes (directionOf p r)) (getD units (j - o .loop .from) []) (o .before .panel-at .result .angle) in
     let e : (r j : ℕ) → r < rowsOf p → o .loop .from ≤ j → j < o .loop .from + n → G r j ≡ F o r j = λ r j h l u.
     let q : o .loop .from + (j - o .loop .from) ≡ j = omega arith in
-    ap (λ (unit : Vector). rollDegIn (bodyAxes (directionOf p r)) unit (o .before .panel-of .result .angle))
+    ap (λ (unit : Vector). rollDegIn (bodyAxes (directionOf p r)) unit (o .before .panel-at .result .angle))
     (ap (λ (x : List Vector). getD x (j - o .loop .from) []) (units-filled (c .before .before .before .before .before .before) .0) ∙ getD-filled _ n _ [] (j - o .loop .from) (omega arith)
     ∙ ap (sunAt p) q) in (
       block (c .before .before .before .before .before .before .before .before) .within,
@@ -104,7 +105,7 @@ same-length : tie.Need-same-length Inv-loop μ-loop
 same-length c = c .before .loop .inv .2 .same
 
 returns : tie.Need-returns Inv-loop μ-loop
-unfolding cellValue sunAt planPanel
+unfolding cellValue sunAt
 returns c =
     let o = c .before in
     let a = Start-of o .args in
@@ -112,7 +113,7 @@ returns c =
     let e : o .loop .from ≡ timesOf p = omega arith in
     columns-all (rowsOf p) (timesOf p) (optimalAt p) zero·0 (now (a .values)) (o .loop .values) (Start-of o .pre .0)
     (columns-ext (rowsOf p) (timesOf p) 0 (timesOf p) (F o) zero·0 (rowsOf p) (optimalAt p) (now (a .values)) (o .loop .values)
-    (λ r j h l u. value-shared p r j _ _ _ refl refl (o .before .panel-of .ensures))
+    (λ r j h l u. value-shared p r j _ _ _ refl refl (o .before .panel-at .ensures ∙ ap panelOf (one-panel (p .panels) 0 r)))
     (subst (λ (n : ℕ). ColumnsWritten (rowsOf p) (timesOf p) (rowsOf p) 0 n (F o) zero·0 (now (a .values)) (o .loop .values)) e (o .loop .inv .2)))
 
 pub write-values-spec : {M : Type 1} → statement M
@@ -121,7 +122,7 @@ write-values-spec =
     (tie.spec
     Inv-loop
     μ-loop
-    panel-of-requires
+    panel-at-requires
     loop-holds
     sub-smaller
     smaller-requires

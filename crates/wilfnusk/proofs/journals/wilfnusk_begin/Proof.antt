@@ -2,8 +2,14 @@ use borrow.Author.Needs.{needs}
 use Rattle.wilfnusk.proofs.journals.wilfnusk_begin.Statement.{statement}
 use Rattle.wilfnusk.proofs.journals.wilfnusk_begin.Tie as tie
 
-settings-requires : tie.Need-settings-requires
-settings-requires c κs = search needs
+configured-requires : tie.Need-configured-requires
+configured-requires c κs = search needs
+
+slice-aggregate-begin : tie.Need-slice-aggregate-begin
+slice-aggregate-begin c = search needs
+
+slice-aggregate-begin-2 : tie.Need-slice-aggregate-begin-2
+slice-aggregate-begin-2 c = search needs
 
 begin-requires : tie.Need-begin-requires
 begin-requires c κs = search needs
@@ -17,9 +23,9 @@ same-length c = search needs
 returns : tie.Need-returns
 returns c =
     let call = c .before .before .before .begin .ensures in
-    let set = c .before .before .before .before .before .settings .ensures in
-    (simp (c .int64 .ensures, call .0, set), simp (call .1, set))
+    let roll = c .before .before .before .before .before .before .before .configured .ensures in
+    (simp (c .int64 .ensures, call .0, roll), simp (call .1, roll))
 
 pub wilfnusk-begin-spec : {M : Type 1} → statement M
 wilfnusk-begin-spec =
-    tie.close (tie.spec settings-requires begin-requires int64-requires same-length returns)
+    tie.close (tie.spec configured-requires slice-aggregate-begin slice-aggregate-begin-2 begin-requires int64-requires same-length returns)

@@ -2,8 +2,14 @@ use borrow.Author.Needs.{needs}
 use Rattle.wilfnusk.proofs.journals.wilfnusk_collect.Statement.{statement}
 use Rattle.wilfnusk.proofs.journals.wilfnusk_collect.Tie as tie
 
-settings-requires : tie.Need-settings-requires
-settings-requires c κs = search needs
+configured-requires : tie.Need-configured-requires
+configured-requires c κs = search needs
+
+slice-aggregate-collect : tie.Need-slice-aggregate-collect
+slice-aggregate-collect c = search needs
+
+slice-aggregate-collect-2 : tie.Need-slice-aggregate-collect-2
+slice-aggregate-collect-2 c = search needs
 
 collect-requires : tie.Need-collect-requires
 collect-requires c κs = search needs
@@ -17,9 +23,9 @@ same-length c = search needs
 returns : tie.Need-returns
 returns c =
     let call = c .before .before .before .collect .ensures in
-    let set = c .before .before .before .before .before .settings .ensures in
-    (simp (c .int64 .ensures, call .0, set), simp (call .1, set))
+    let roll = c .before .before .before .before .before .before .before .configured .ensures in
+    (simp (c .int64 .ensures, call .0, roll), simp (call .1, roll))
 
 pub wilfnusk-collect-spec : {M : Type 1} → statement M
 wilfnusk-collect-spec =
-    tie.close (tie.spec settings-requires collect-requires int64-requires same-length returns)
+    tie.close (tie.spec configured-requires slice-aggregate-collect slice-aggregate-collect-2 collect-requires int64-requires same-length returns)

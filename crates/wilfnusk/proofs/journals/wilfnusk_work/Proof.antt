@@ -2,8 +2,14 @@ use borrow.Author.Needs.{needs}
 use Rattle.wilfnusk.proofs.journals.wilfnusk_work.Statement.{statement}
 use Rattle.wilfnusk.proofs.journals.wilfnusk_work.Tie as tie
 
-settings-requires : tie.Need-settings-requires
-settings-requires c κs = search needs
+configured-requires : tie.Need-configured-requires
+configured-requires c κs = search needs
+
+slice-aggregate-work : tie.Need-slice-aggregate-work
+slice-aggregate-work c = search needs
+
+slice-aggregate-work-2 : tie.Need-slice-aggregate-work-2
+slice-aggregate-work-2 c = search needs
 
 work-requires : tie.Need-work-requires
 work-requires c κs = search needs
@@ -17,9 +23,9 @@ same-length c = search needs
 returns : tie.Need-returns
 returns c =
     let call = c .before .before .before .work .ensures in
-    let set = c .before .before .before .before .before .settings .ensures in
-    (simp (c .int64 .ensures, call .0, set), simp (call .1, set))
+    let roll = c .before .before .before .before .before .before .before .configured .ensures in
+    (simp (c .int64 .ensures, call .0, roll), simp (call .1, roll))
 
 pub wilfnusk-work-spec : {M : Type 1} → statement M
 wilfnusk-work-spec =
-    tie.close (tie.spec settings-requires work-requires int64-requires same-length returns)
+    tie.close (tie.spec configured-requires slice-aggregate-work slice-aggregate-work-2 work-requires int64-requires same-length returns)

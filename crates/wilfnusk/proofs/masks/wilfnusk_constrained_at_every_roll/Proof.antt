@@ -2,8 +2,16 @@ use borrow.Author.Needs.{needs}
 use Rattle.wilfnusk.proofs.masks.wilfnusk_constrained_at_every_roll.Statement.{statement}
 use Rattle.wilfnusk.proofs.masks.wilfnusk_constrained_at_every_roll.Tie as tie
 
-settings-requires : tie.Need-settings-requires
-settings-requires c κs = search needs
+configured-requires : tie.Need-configured-requires
+configured-requires c κs = search needs
+
+slice-aggregate-in-constraint-batch-constrained-at-every-roll :
+    tie.Need-slice-aggregate-in-constraint-batch-constrained-at-every-roll
+slice-aggregate-in-constraint-batch-constrained-at-every-roll c = search needs
+
+slice-aggregate-in-constraint-batch-constrained-at-every-roll-2 :
+    tie.Need-slice-aggregate-in-constraint-batch-constrained-at-every-roll-2
+slice-aggregate-in-constraint-batch-constrained-at-every-roll-2 c = search needs
 
 in-constraint-batch-constrained-at-every-roll-requires :
     tie.Need-in-constraint-batch-constrained-at-every-roll-requires
@@ -18,14 +26,16 @@ same-length c = search needs
 returns : tie.Need-returns
 returns c =
     let call = c .before .before .before .in-constraint-batch-constrained-at-every-roll .ensures in
-    let set = c .before .before .before .before .before .settings .ensures in
-    (simp (c .int64 .ensures, call .0, set), simp (call .1, set))
+    let roll = c .before .before .before .before .before .before .before .configured .ensures in
+    (simp (c .int64 .ensures, call .0, roll), simp (call .1, roll))
 
 pub wilfnusk-constrained-at-every-roll-spec : {M : Type 1} → statement M
 wilfnusk-constrained-at-every-roll-spec =
     tie.close
     (tie.spec
-    settings-requires
+    configured-requires
+    slice-aggregate-in-constraint-batch-constrained-at-every-roll
+    slice-aggregate-in-constraint-batch-constrained-at-every-roll-2
     in-constraint-batch-constrained-at-every-roll-requires
     int64-requires
     same-length

@@ -2,8 +2,14 @@ use borrow.Author.Needs.{needs}
 use Rattle.wilfnusk.proofs.masks.wilfnusk_evaluate.Statement.{statement}
 use Rattle.wilfnusk.proofs.masks.wilfnusk_evaluate.Tie as tie
 
-settings-requires : tie.Need-settings-requires
-settings-requires c κs = search needs
+configured-requires : tie.Need-configured-requires
+configured-requires c κs = search needs
+
+slice-aggregate-evaluate : tie.Need-slice-aggregate-evaluate
+slice-aggregate-evaluate c = search needs
+
+slice-aggregate-evaluate-2 : tie.Need-slice-aggregate-evaluate-2
+slice-aggregate-evaluate-2 c = search needs
 
 evaluate-requires : tie.Need-evaluate-requires
 evaluate-requires c κs = search needs
@@ -20,10 +26,18 @@ same-length-2 c = search needs
 returns : tie.Need-returns
 returns c =
     let call = c .before .before .before .before .before .evaluate .ensures in
-    let set = c .before .before .before .before .before .before .before .before .settings .ensures in
-    (simp (c .int64 .ensures, call .0, set), simp (call .1 .0, set), simp (call .1 .1, set))
+    let roll = c .before .before .before .before .before .before .before .before .before .before .configured .ensures in
+    (simp (c .int64 .ensures, call .0, roll), simp (call .1 .0, roll), simp (call .1 .1, roll))
 
 pub wilfnusk-evaluate-spec : {M : Type 1} → statement M
 wilfnusk-evaluate-spec =
     tie.close
-    (tie.spec settings-requires evaluate-requires int64-requires same-length same-length-2 returns)
+    (tie.spec
+    configured-requires
+    slice-aggregate-evaluate
+    slice-aggregate-evaluate-2
+    evaluate-requires
+    int64-requires
+    same-length
+    same-length-2
+    returns)

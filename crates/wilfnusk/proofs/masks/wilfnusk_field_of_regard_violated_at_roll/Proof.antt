@@ -4,8 +4,16 @@ use Rattle.wilfnusk.proofs.masks.wilfnusk_field_of_regard_violated_at_r
 }
 use Rattle.wilfnusk.proofs.masks.wilfnusk_field_of_regard_violated_at_roll.Tie as tie
 
-settings-requires : tie.Need-settings-requires
-settings-requires c κs = search needs
+configured-requires : tie.Need-configured-requires
+configured-requires c κs = search needs
+
+slice-aggregate-field-of-regard-violated-at-roll :
+    tie.Need-slice-aggregate-field-of-regard-violated-at-roll
+slice-aggregate-field-of-regard-violated-at-roll c = search needs
+
+slice-aggregate-field-of-regard-violated-at-roll-2 :
+    tie.Need-slice-aggregate-field-of-regard-violated-at-roll-2
+slice-aggregate-field-of-regard-violated-at-roll-2 c = search needs
 
 field-of-regard-violated-at-roll-requires : tie.Need-field-of-regard-violated-at-roll-requires
 field-of-regard-violated-at-roll-requires c κs = search needs
@@ -19,14 +27,16 @@ same-length c = search needs
 returns : tie.Need-returns
 returns c =
     let call = c .before .before .before .field-of-regard-violated-at-roll .ensures in
-    let set = c .before .before .before .before .before .settings .ensures in
-    (simp (c .int64 .ensures, call .0, set), simp (call .1, set))
+    let roll = c .before .before .before .before .before .before .before .configured .ensures in
+    (simp (c .int64 .ensures, call .0, roll), simp (call .1, roll))
 
 pub wilfnusk-field-of-regard-violated-at-roll-spec : {M : Type 1} → statement M
 wilfnusk-field-of-regard-violated-at-roll-spec =
     tie.close
     (tie.spec
-    settings-requires
+    configured-requires
+    slice-aggregate-field-of-regard-violated-at-roll
+    slice-aggregate-field-of-regard-violated-at-roll-2
     field-of-regard-violated-at-roll-requires
     int64-requires
     same-length

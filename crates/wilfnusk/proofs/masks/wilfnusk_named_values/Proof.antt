@@ -2,8 +2,14 @@ use borrow.Author.Needs.{needs}
 use Rattle.wilfnusk.proofs.masks.wilfnusk_named_values.Statement.{statement}
 use Rattle.wilfnusk.proofs.masks.wilfnusk_named_values.Tie as tie
 
-settings-requires : tie.Need-settings-requires
-settings-requires c κs = search needs
+configured-requires : tie.Need-configured-requires
+configured-requires c κs = search needs
+
+slice-aggregate-named-values : tie.Need-slice-aggregate-named-values
+slice-aggregate-named-values c = search needs
+
+slice-aggregate-named-values-2 : tie.Need-slice-aggregate-named-values-2
+slice-aggregate-named-values-2 c = search needs
 
 named-values-requires : tie.Need-named-values-requires
 named-values-requires c κs = search needs
@@ -17,9 +23,17 @@ same-length c = search needs
 returns : tie.Need-returns
 returns c =
     let call = c .before .before .before .named-values .ensures in
-    let set = c .before .before .before .before .before .settings .ensures in
-    (simp (c .int64 .ensures, call .0, set), simp (call .1, set))
+    let roll = c .before .before .before .before .before .before .before .configured .ensures in
+    (simp (c .int64 .ensures, call .0, roll), simp (call .1, roll))
 
 pub wilfnusk-named-values-spec : {M : Type 1} → statement M
 wilfnusk-named-values-spec =
-    tie.close (tie.spec settings-requires named-values-requires int64-requires same-length returns)
+    tie.close
+    (tie.spec
+    configured-requires
+    slice-aggregate-named-values
+    slice-aggregate-named-values-2
+    named-values-requires
+    int64-requires
+    same-length
+    returns)
