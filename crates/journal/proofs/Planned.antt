@@ -16,7 +16,7 @@ use Rattle.buffers.proofs.Lent.{put-first, over-all}
 use Rattle.buffers.proofs.Tests.{or-right}
 use Rattle.solar_roll.specs.Vectors.{Vector, x, y, z}
 use Rattle.solar_roll.specs.declared.cell.ConfiguredRoll.{ConfiguredRoll}
-use Rattle.solar_roll.specs.Plan.{Plan, rowsOf, timesOf, headTolerance, planConfigured, planPanel, unlikeLengths, samplesRefusal, planRefusal, sunAt, mostSamples, PlanFacts}
+use Rattle.solar_roll.specs.Plan.{Plan, rowsOf, timesOf, headTolerance, headPanel, unlikeLengths, samplesRefusal, sizesRefusal, planRefusal, sunAt, mostSamples, PlanFacts}
 use Rattle.solar_roll.proofs.PlanFacts.{plan-facts}
 use Rattle.roll_sweep.specs.Sweep.{chunks, cellsIn}
 use Rattle.roll_sweep.specs.Rolls.{evenRolls}
@@ -54,22 +54,22 @@ module _ (p : Plan) (rolls : List Float) (said : ℕ) where
   refusal-said k beyond e = e
 
   pub passed : (room u : ℕ) → sweepOf p rolls said .refusal (ltb room u) ≡ 0 → PlanPassed p said room u
-  unfolding sweepOf planRefusal
+  unfolding sweepOf planRefusal sizesRefusal
   passed room u h =
       let unlike : Bool = unlikeLengths (length (p .targets)) (length (p .suns)) (length (p .observers)) in
-      let c1 = first-clear _ _ _ (lit< tt) h in
-      let c2 = first-clear _ _ _ (lit< tt) (c1 .1) in
-      let c3 = carried-clear _ _ (c2 .1) in
+      let c1 = carried-clear _ _ h in
+      let c2 = carried-clear _ _ (c1 .1) in
+      let c3 = first-clear _ _ _ (lit< tt) (c1 .0) in
       record {
         facts = plan-facts p said (ltb room u) h;
-        none-said = c3 .0;
-        used = ltb-false room u (or-right unlike (ltb room u) (c1 .0));
+        none-said = c2 .0;
+        used = ltb-false room u (or-right unlike (ltb room u) (c3 .0));
       }
 
   -- the header has 107 bytes
   pub length-header-of : length (sweepOf p rolls said .header) ≡ headerLength
   unfolding sweepOf headerOf
-  length-header-of = length-settings (rowsOf p) (timesOf p) (length rolls) (headTolerance p) (planConfigured p) (planPanel p)
+  length-header-of = length-settings (rowsOf p) (timesOf p) (length rolls) (headTolerance p) (p .configured) (headPanel p)
 
   -- so the plan's sweep is one of an accepted plan: with 1 to 3,600 samples
   pub sweep-facts : 1 ≤ sweepOf p rolls said .samples → sweepOf p rolls said .samples ≤ mostSamples → (room u : ℕ) → sweepOf p rolls said .refusal (ltb room u) ≡ 0 → SweepFacts (sweepOf p rolls said)
@@ -90,20 +90,20 @@ module _ (p : Plan) (rolls : List Float) (said : ℕ) where
   accepted-sweep says room u e = let k = samples-within (length rolls) (says (passed room u e .none-said)) in sweep-facts (k .0) (k .1) room u e
 
   module _ (n : ℕ) (size : length rolls ≡ n) where
-    pub header-put : (b out : List ℕ) → out ≡ over (settingsHeader (rowsOf p) (timesOf p) n (headTolerance p) (planConfigured p) (planPanel p)) b
+    pub header-put : (b out : List ℕ) → out ≡ over (settingsHeader (rowsOf p) (timesOf p) n (headTolerance p) (p .configured) (headPanel p)) b
         → out ≡ put 0 (sweepOf p rolls said .header) b
     unfolding sweepOf headerOf
     header-put b out e = e ∙ sym (put-first (headerOf p n) b) ∙ ap (λ (k : ℕ). put 0 (headerOf p k) b) (sym size)
 
     -- the plan's sweep, by the header that was written: over a blank array of its length
     pub passed-with : Says said n → (h : List ℕ) (room u : ℕ) → sweepOf p rolls said .refusal (ltb room u) ≡ 0
-        → h ≡ over (settingsHeader (rowsOf p) (timesOf p) n (headTolerance p) (planConfigured p) (planPanel p)) (replicate headerLength 0)
+        → h ≡ over (settingsHeader (rowsOf p) (timesOf p) n (headTolerance p) (p .configured) (headPanel p)) (replicate headerLength 0)
         → Passed (sweepOf p rolls said) (rowsOf p * timesOf p) n h room u
     unfolding sweepOf headerOf
     passed-with says h room u e w =
         let f = passed room u e in
         let k = samples-within n (says (f .none-said)) in
-        let long : length (headerOf p n) ≡ headerLength = length-settings (rowsOf p) (timesOf p) n (headTolerance p) (planConfigured p) (planPanel p) in
+        let long : length (headerOf p n) ≡ headerLength = length-settings (rowsOf p) (timesOf p) n (headTolerance p) (p .configured) (headPanel p) in
         let written : h ≡ headerOf p n = w ∙ over-all (headerOf p n) (replicate headerLength 0) (omega (arith, length-replicate {A = ℕ} headerLength 0)) in
         record {
           plan = e;
@@ -146,11 +146,11 @@ module _ (p : Plan) (rolls : List Float) (said c : ℕ) (f : PlanFacts p) (one :
   -- by a table that has the Sun's unit at each of its cells
   swept-by : (units : List Vector) → 0 < length units
       → ((k : ℕ) → k < cellsIn (rowsOf p * timesOf p) c → getD units ((64 * c + k) % length units) [] ≡ sunAt p ((64 * c + k) % timesOf p))
-      → sweptReply (p .targets) (timesOf p) units (p .config) rolls c ≡ accepted (sweptOf (sweepOf p rolls said) c)
+      → sweptReply (p .targets) (timesOf p) units (p .tolerances) (p .configured) (p .panels) rolls c ≡ accepted (sweptOf (sweepOf p rolls said) c)
   unfolding sweepOf
   swept-by units some unit =
       let w : ℕ = cellsIn (rowsOf p * timesOf p) c in
-      let v : ℕ → ℕ → Bool = λ k j. violatesBy (p .targets) (timesOf p) units (p .config) (64 * c + k) (sampleRoll rolls (p .config .«roll_deg») j) in
+      let v : ℕ → ℕ → Bool = λ k j. violatesBy (p .targets) (timesOf p) units (p .tolerances) (p .configured) (p .panels) (64 * c + k) (sampleRoll rolls (p .configured) j) in
       reply-none _ _ (not-refused (length units) some)
       ∙ ap accepted (swept-ext w (length rolls) v (λ k. sweepOf p rolls said .violates (64 * c + k))
       (λ k j h g. cell-violates p rolls units (64 * c + k) j (unit k h))
@@ -158,11 +158,11 @@ module _ (p : Plan) (rolls : List Float) (said c : ℕ) (f : PlanFacts p) (one :
 
   -- of all times
   pub swept-by-times : (units : List Vector) → 0 < length units → units ≡ tab (timesOf p) (sunAt p)
-      → sweptReply (p .targets) (timesOf p) units (p .config) rolls c ≡ accepted (sweptOf (sweepOf p rolls said) c)
+      → sweptReply (p .targets) (timesOf p) units (p .tolerances) (p .configured) (p .panels) rolls c ≡ accepted (sweptOf (sweepOf p rolls said) c)
   swept-by-times units some e = swept-by units some (λ k h. unit-of-time p units (64 * c + k) (chunk-held _ refl .positive) e)
 
   -- of its own cells
   pub swept-by-cells : (units : List Vector) (w : ℕ) → w ≡ cellsIn (rowsOf p * timesOf p) c → length units ≡ 64 → take w units ≡ tab w (λ k. sunAt p ((64 * c + k) % timesOf p))
-      → sweptReply (p .targets) (timesOf p) units (p .config) rolls c ≡ accepted (sweptOf (sweepOf p rolls said) c)
+      → sweptReply (p .targets) (timesOf p) units (p .tolerances) (p .configured) (p .panels) rolls c ≡ accepted (sweptOf (sweepOf p rolls said) c)
   swept-by-cells units w e size u =
       swept-by units (omega arith) (λ k h. unit-of-cell p units c w k (chunk-held w e .few) size u (omega arith))

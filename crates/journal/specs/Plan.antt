@@ -6,8 +6,7 @@ use lib.ListN.{length, getD}
 use lib.Ieee.{Float, nan}
 use Rattle.buffers.specs.Ranges.{tab}
 use Rattle.solar_roll.specs.Vectors.{Vector}
-use Rattle.solar_roll.specs.Plan.{Plan, planOf, rowsOf, timesOf, sunAt, violatesAt, samplesRefusal, planRefusal}
-use Rattle.solar_roll.specs.declared.plan.SolarRollConfig.{SolarRollConfig}
+use Rattle.solar_roll.specs.Plan.{Plan, rowsOf, timesOf, sunAt, violatesAt, samplesRefusal, planRefusal}
 use Rattle.roll_sweep.specs.Sweep.{Sweep}
 use Rattle.roll_sweep.specs.Rolls.{evenRolls}
 use Rattle.journal.specs.Header.{headerOf}
@@ -30,15 +29,7 @@ sweepOf p rolls said =
 abbrev pub evenSweep : Plan → ℕ → Sweep
 evenSweep p n = sweepOf p (evenRolls n) (samplesRefusal n)
 
--- that of a plan as it is lent
-abbrev pub lentSweep : List Float → List Float → List Float → SolarRollConfig → ℕ → Sweep
-lentSweep targets suns observers config n = evenSweep (planOf targets suns observers config) n
-
 -- ---- for the contracts of private functions
-
--- that of a lent plan over lent rolls of which nothing is said
-abbrev pub rollsSweep : List Float → List Float → List Float → SolarRollConfig → List Float → Sweep
-rollsSweep targets suns observers config rolls = sweepOf (planOf targets suns observers config) rolls 0
 
 -- what is said of n samples refuses n outside 1 to 3,600, perhaps more
 abbrev pub Says : ℕ → ℕ → Type 0

@@ -8,7 +8,7 @@ ghost use Rattle.solar_roll.specs.Plan.{Plan, planOf};
 ghost use Rattle.roll_sweep.specs.Sweep.{Sweep};
 ghost use Rattle.journal.specs.Calls.{beginReply, beginBytes, workReply, workBytes, recoverReply, collectReply, collectMask};
 ghost use Rattle.journal.specs.Range.{rangeReply, rangeBytes, rangeStopped};
-ghost use Rattle.journal.specs.Plan.{sweepOf, lentSweep, Says};
+ghost use Rattle.journal.specs.Plan.{sweepOf, evenSweep, Says};
 use crate::accepted::collect_lines;
 use crate::accepted::recover_used;
 use crate::header::HEADER_LENGTH;
@@ -17,7 +17,7 @@ use crate::line::LINE_LENGTH;
 use crate::plan::lent_plan;
 use crate::range::work_even;
 use buffers::Answer;
-use solar_roll::SolarRollConfig;
+use solar_roll::ConfiguredRoll;
 use solar_roll::plan_refusal;
 use solar_roll::samples_refusal;
 
@@ -26,19 +26,30 @@ fn begin_samples(
     targets: &[f64],
     suns: &[f64],
     observers: &[f64],
-    config: SolarRollConfig,
+    tolerances: &[f64],
+    configured: ConfiguredRoll,
+    panels: &[f64],
     said: u64,
     samples: u64,
     journal: &mut [u8],
     used: u64,
 ) -> Answer
     ensures { λ r.
-        let p : Plan = planOf (now (targets .entry)) (now (suns .entry)) (now (observers .entry)) config in
+        let p : Plan = planOf (now (targets .entry)) (now (suns .entry)) (now (observers .entry)) (now (tolerances .entry)) configured (now (panels .entry)) in
         ⌜ ((rolls : List Float) → length rolls ≡ samples → (replyOf r ≡ beginReply (sweepOf p rolls said) (now (journal .entry)) used)
         × (now (journal .exit) ≡ beginBytes (sweepOf p rolls said) (now (journal .entry)) used)) ⌝ }
 {
     let room = journal.len() as u64;
-    let refusal = plan_refusal(targets, suns, observers, config, said, room < used);
+    let refusal = plan_refusal(
+        targets,
+        suns,
+        observers,
+        tolerances,
+        configured,
+        panels,
+        said,
+        room < used,
+    );
     if refusal != 0 {
         return Answer::Refused(refusal);
     }
@@ -53,7 +64,9 @@ fn begin_samples(
         (targets.len() / 3) as u64,
         (suns.len() / 3) as u64,
         samples,
-        config,
+        tolerances,
+        configured,
+        panels,
     );
     Answer::Accepted(HEADER_LENGTH as u64)
 }
@@ -63,18 +76,32 @@ pub fn begin(
     targets: &[f64],
     suns: &[f64],
     observers: &[f64],
-    config: SolarRollConfig,
+    tolerances: &[f64],
+    configured: ConfiguredRoll,
+    panels: &[f64],
     n: u64,
     journal: &mut [u8],
     used: u64,
 ) -> Answer
     ensures { λ r.
-        let s : Sweep = lentSweep (now (targets .entry)) (now (suns .entry)) (now (observers .entry)) config n in
+        let p : Plan = planOf (now (targets .entry)) (now (suns .entry)) (now (observers .entry)) (now (tolerances .entry)) configured (now (panels .entry)) in
+        let s : Sweep = evenSweep p n in
         ⌜ (replyOf r ≡ beginReply s (now (journal .entry)) used)
         × (now (journal .exit) ≡ beginBytes s (now (journal .entry)) used) ⌝ }
 {
     let said = samples_refusal(n);
-    begin_samples(targets, suns, observers, config, said, n, journal, used)
+    begin_samples(
+        targets,
+        suns,
+        observers,
+        tolerances,
+        configured,
+        panels,
+        said,
+        n,
+        journal,
+        used,
+    )
 }
 
 // Sweeps a chunk, appends its line, and gives the used length.
@@ -82,20 +109,34 @@ pub fn work(
     targets: &[f64],
     suns: &[f64],
     observers: &[f64],
-    config: SolarRollConfig,
+    tolerances: &[f64],
+    configured: ConfiguredRoll,
+    panels: &[f64],
     n: u64,
     chunk: u64,
     journal: &mut [u8],
     used: u64,
 ) -> Answer
     ensures { λ r.
-        let s : Sweep = lentSweep (now (targets .entry)) (now (suns .entry)) (now (observers .entry)) config n in
+        let p : Plan = planOf (now (targets .entry)) (now (suns .entry)) (now (observers .entry)) (now (tolerances .entry)) configured (now (panels .entry)) in
+        let s : Sweep = evenSweep p n in
         ⌜ (replyOf r ≡ workReply s chunk (now (journal .entry)) used)
         × (now (journal .exit) ≡ workBytes s chunk (now (journal .entry)) used) ⌝ }
 {
     let room = journal.len() as u64;
     let said = samples_refusal(n);
-    let plan = lent_plan(targets, suns, observers, config, said, n, room, used);
+    let plan = lent_plan(
+        targets,
+        suns,
+        observers,
+        tolerances,
+        configured,
+        panels,
+        said,
+        n,
+        room,
+        used,
+    );
     if plan.refusal != 0 {
         return Answer::Refused(plan.refusal);
     }
@@ -104,7 +145,9 @@ pub fn work(
         targets,
         suns,
         observers,
-        config,
+        tolerances,
+        configured,
+        panels,
         n,
         &header,
         plan.cells,
@@ -116,7 +159,8 @@ pub fn work(
     if worked.refusal != 0 {
         return Answer::Refused(worked.refusal);
     }
-    Answer::Accepted(used + LINE_LENGTH as u64)
+    let end = used + LINE_LENGTH as u64;
+    Answer::Accepted(end)
 }
 
 // Works of the chunks from, from + 1, .., up to the first that work refuses, or `to`, with one check of the journal at the start. Gives the used
@@ -125,7 +169,9 @@ pub fn work_range(
     targets: &[f64],
     suns: &[f64],
     observers: &[f64],
-    config: SolarRollConfig,
+    tolerances: &[f64],
+    configured: ConfiguredRoll,
+    panels: &[f64],
     n: u64,
     from: u64,
     to: u64,
@@ -134,14 +180,26 @@ pub fn work_range(
     stopped: &mut u64,
 ) -> Answer
     ensures { λ r.
-        let s : Sweep = lentSweep (now (targets .entry)) (now (suns .entry)) (now (observers .entry)) config n in
+        let p : Plan = planOf (now (targets .entry)) (now (suns .entry)) (now (observers .entry)) (now (tolerances .entry)) configured (now (panels .entry)) in
+        let s : Sweep = evenSweep p n in
         ⌜ (replyOf r ≡ rangeReply s from to (now (journal .entry)) used)
         × (now (journal .exit) ≡ rangeBytes s from to (now (journal .entry)) used)
         × (now (stopped .exit) ≡ rangeStopped s from to (now (journal .entry)) used (now (stopped .entry))) ⌝ }
 {
     let room = journal.len() as u64;
     let said = samples_refusal(n);
-    let plan = lent_plan(targets, suns, observers, config, said, n, room, used);
+    let plan = lent_plan(
+        targets,
+        suns,
+        observers,
+        tolerances,
+        configured,
+        panels,
+        said,
+        n,
+        room,
+        used,
+    );
     if plan.refusal != 0 {
         return Answer::Refused(plan.refusal);
     }
@@ -153,7 +211,9 @@ pub fn work_range(
         targets,
         suns,
         observers,
-        config,
+        tolerances,
+        configured,
+        panels,
         n,
         &header,
         plan.cells,
@@ -167,7 +227,9 @@ pub fn work_range(
     }
     let next = worked.stopped;
     *stopped = next;
-    Answer::Accepted(used + LINE_LENGTH as u64 * (next - from))
+    let lines = next - from;
+    let end = used + LINE_LENGTH as u64 * lines;
+    Answer::Accepted(end)
 }
 
 // Recover, over any rolls of this number, of which `said` is said in the place of 3.
@@ -175,7 +237,9 @@ fn recover_samples(
     targets: &[f64],
     suns: &[f64],
     observers: &[f64],
-    config: SolarRollConfig,
+    tolerances: &[f64],
+    configured: ConfiguredRoll,
+    panels: &[f64],
     said: u64,
     samples: u64,
     journal: &[u8],
@@ -183,11 +247,22 @@ fn recover_samples(
 ) -> Answer
     requires { ⌜ Says said samples ⌝ }
     ensures { λ r.
-        let p : Plan = planOf (now (targets .entry)) (now (suns .entry)) (now (observers .entry)) config in
+        let p : Plan = planOf (now (targets .entry)) (now (suns .entry)) (now (observers .entry)) (now (tolerances .entry)) configured (now (panels .entry)) in
         ⌜ ((rolls : List Float) → length rolls ≡ samples → replyOf r ≡ recoverReply (sweepOf p rolls said) (now (journal .entry)) used) ⌝ }
 {
     let room = journal.len() as u64;
-    let plan = lent_plan(targets, suns, observers, config, said, samples, room, used);
+    let plan = lent_plan(
+        targets,
+        suns,
+        observers,
+        tolerances,
+        configured,
+        panels,
+        said,
+        samples,
+        room,
+        used,
+    );
     if plan.refusal != 0 {
         return Answer::Refused(plan.refusal);
     }
@@ -200,17 +275,31 @@ pub fn recover(
     targets: &[f64],
     suns: &[f64],
     observers: &[f64],
-    config: SolarRollConfig,
+    tolerances: &[f64],
+    configured: ConfiguredRoll,
+    panels: &[f64],
     n: u64,
     journal: &[u8],
     used: u64,
 ) -> Answer
     ensures { λ r.
-        let s : Sweep = lentSweep (now (targets .entry)) (now (suns .entry)) (now (observers .entry)) config n in
+        let p : Plan = planOf (now (targets .entry)) (now (suns .entry)) (now (observers .entry)) (now (tolerances .entry)) configured (now (panels .entry)) in
+        let s : Sweep = evenSweep p n in
         ⌜ replyOf r ≡ recoverReply s (now (journal .entry)) used ⌝ }
 {
     let said = samples_refusal(n);
-    recover_samples(targets, suns, observers, config, said, n, journal, used)
+    recover_samples(
+        targets,
+        suns,
+        observers,
+        tolerances,
+        configured,
+        panels,
+        said,
+        n,
+        journal,
+        used,
+    )
 }
 
 // Collect, over any rolls of this number, of which `said` is said in the place of 3.
@@ -218,7 +307,9 @@ fn collect_samples(
     targets: &[f64],
     suns: &[f64],
     observers: &[f64],
-    config: SolarRollConfig,
+    tolerances: &[f64],
+    configured: ConfiguredRoll,
+    panels: &[f64],
     said: u64,
     samples: u64,
     journal: &[u8],
@@ -227,13 +318,24 @@ fn collect_samples(
 ) -> Answer
     requires { ⌜ Says said samples ⌝ }
     ensures { λ r.
-        let p : Plan = planOf (now (targets .entry)) (now (suns .entry)) (now (observers .entry)) config in
+        let p : Plan = planOf (now (targets .entry)) (now (suns .entry)) (now (observers .entry)) (now (tolerances .entry)) configured (now (panels .entry)) in
         ⌜ ((rolls : List Float) → length rolls ≡ samples
         → (replyOf r ≡ collectReply (sweepOf p rolls said) (now (journal .entry)) used (now (mask .entry)))
         × (now (mask .exit) ≡ collectMask (sweepOf p rolls said) (now (journal .entry)) used (now (mask .entry)))) ⌝ }
 {
     let room = journal.len() as u64;
-    let plan = lent_plan(targets, suns, observers, config, said, samples, room, used);
+    let plan = lent_plan(
+        targets,
+        suns,
+        observers,
+        tolerances,
+        configured,
+        panels,
+        said,
+        samples,
+        room,
+        used,
+    );
     if plan.refusal != 0 {
         return Answer::Refused(plan.refusal);
     }
@@ -246,14 +348,17 @@ pub fn collect(
     targets: &[f64],
     suns: &[f64],
     observers: &[f64],
-    config: SolarRollConfig,
+    tolerances: &[f64],
+    configured: ConfiguredRoll,
+    panels: &[f64],
     n: u64,
     journal: &[u8],
     used: u64,
     mask: &mut [u8],
 ) -> Answer
     ensures { λ r.
-        let s : Sweep = lentSweep (now (targets .entry)) (now (suns .entry)) (now (observers .entry)) config n in
+        let p : Plan = planOf (now (targets .entry)) (now (suns .entry)) (now (observers .entry)) (now (tolerances .entry)) configured (now (panels .entry)) in
+        let s : Sweep = evenSweep p n in
         ⌜ (replyOf r ≡ collectReply s (now (journal .entry)) used (now (mask .entry)))
         × (now (mask .exit) ≡ collectMask s (now (journal .entry)) used (now (mask .entry))) ⌝ }
 {
@@ -262,7 +367,9 @@ pub fn collect(
         targets,
         suns,
         observers,
-        config,
+        tolerances,
+        configured,
+        panels,
         said,
         n,
         journal,

@@ -17,7 +17,7 @@ ghost use Rattle.buffers.specs.Refusal.{accepted};
 ghost use Rattle.journal.specs.Lines.{lineLength};
 ghost use Rattle.journal.specs.Calls.{workRefusal};
 ghost use Rattle.journal.specs.Pass.{mostChunks, Passed, Ready};
-ghost use Rattle.journal.specs.Plan.{lentSweep, rollsSweep, UnitsOf, tableTimes};
+ghost use Rattle.journal.specs.Plan.{sweepOf, evenSweep, UnitsOf, tableTimes};
 ghost use Rattle.journal.specs.Range.{ranTo, ran};
 use crate::accepted::work_refusal;
 use crate::line::LINE_LENGTH;
@@ -28,7 +28,7 @@ use roll_sweep::Swept;
 use roll_sweep::cells_in;
 use roll_sweep::even_rolls;
 use roll_sweep::sweep_chunk;
-use solar_roll::SolarRollConfig;
+use solar_roll::ConfiguredRoll;
 use solar_roll::sun_unit;
 use solar_roll::sun_units;
 use solar_roll::triple;
@@ -80,25 +80,46 @@ fn sweep_rolls(
     targets: &[f64],
     suns: &[f64],
     observers: &[f64],
-    config: SolarRollConfig,
+    tolerances: &[f64],
+    configured: ConfiguredRoll,
+    panels: &[f64],
     rolls: &[f64],
     units: &[[f64; 3]],
     chunk: u64,
 ) -> Swept
-    requires { let p : Plan = planOf (now targets) (now suns) (now observers) config in
+    requires { let p : Plan = planOf (now targets) (now suns) (now observers) (now tolerances) configured (now panels) in
         ⌜ PlanFacts p × (1 ≤ length (now rolls)) × (length (now rolls) ≤ mostSamples)
         × UnitsOf p (now units) × (chunk < chunks (rowsOf p * timesOf p)) ⌝ }
     ensures { λ r.
-        let s : Sweep = rollsSweep (now (targets .entry)) (now (suns .entry)) (now (observers .entry)) config (now (rolls .entry)) in
+        let p : Plan = planOf (now (targets .entry)) (now (suns .entry)) (now (observers .entry)) (now (tolerances .entry)) configured (now (panels .entry)) in
+        let s : Sweep = sweepOf p (now (rolls .entry)) 0 in
         ⌜ r ≡ sweptOf s chunk ⌝ }
 {
     let times = suns.len() / 3;
     if 0 < units.len() {
-        return accepted(sweep_chunk(targets, times, units, config, rolls, chunk));
+        return accepted(sweep_chunk(
+            targets,
+            times,
+            units,
+            tolerances,
+            configured,
+            panels,
+            rolls,
+            chunk,
+        ));
     }
     let cells = cells_in((targets.len() / 3 * times) as u64, chunk) as usize;
     let own = chunk_units(suns, observers, 64 * chunk as usize, cells);
-    accepted(sweep_chunk(targets, times, &own, config, rolls, chunk))
+    accepted(sweep_chunk(
+        targets,
+        times,
+        &own,
+        tolerances,
+        configured,
+        panels,
+        rolls,
+        chunk,
+    ))
 }
 
 // Work refuses the chunk: it does not exist, it has a line, or there is no room for one.
@@ -121,7 +142,9 @@ fn append_swept(
     targets: &[f64],
     suns: &[f64],
     observers: &[f64],
-    config: SolarRollConfig,
+    tolerances: &[f64],
+    configured: ConfiguredRoll,
+    panels: &[f64],
     rolls: &[f64],
     units: &[[f64; 3]],
     from: u64,
@@ -130,10 +153,11 @@ fn append_swept(
     used: u64,
     seen: &[u8],
 ) -> u64
-    requires { ⌜ UnitsOf (planOf (now targets) (now suns) (now observers) config) (now units)
-        × ((masks : List ℕ) × Ready (rollsSweep (now targets) (now suns) (now observers) config (now rolls)) (now journal) used (now seen) masks) ⌝ }
+    requires { let p : Plan = planOf (now targets) (now suns) (now observers) (now tolerances) configured (now panels) in
+        ⌜ UnitsOf p (now units) × ((masks : List ℕ) × Ready (sweepOf p (now rolls) 0) (now journal) used (now seen) masks) ⌝ }
     ensures { λ r.
-        let s : Sweep = rollsSweep (now (targets .entry)) (now (suns .entry)) (now (observers .entry)) config (now (rolls .entry)) in
+        let p : Plan = planOf (now (targets .entry)) (now (suns .entry)) (now (observers .entry)) (now (tolerances .entry)) configured (now (panels .entry)) in
+        let s : Sweep = sweepOf p (now (rolls .entry)) 0 in
         ⌜ ranTo (now (journal .exit)) (used + lineLength * (r - from)) r ≡ ran s limit (ranTo (now (journal .entry)) used from) ⌝ }
 {
     let chunks = ((targets.len() / 3 * (suns.len() / 3) + 63) / 64) as u64;
@@ -144,7 +168,17 @@ fn append_swept(
         if is_refused(seen, chunks, journal.len() - at, chunk) {
             return chunk;
         }
-        let swept = sweep_rolls(targets, suns, observers, config, rolls, units, chunk);
+        let swept = sweep_rolls(
+            targets,
+            suns,
+            observers,
+            tolerances,
+            configured,
+            panels,
+            rolls,
+            units,
+            chunk,
+        );
         append_line(journal, at, chunk, swept.mask, swept.probes);
         at += LINE_LENGTH;
         chunk += 1;
@@ -170,7 +204,9 @@ fn append_by_units(
     targets: &[f64],
     suns: &[f64],
     observers: &[f64],
-    config: SolarRollConfig,
+    tolerances: &[f64],
+    configured: ConfiguredRoll,
+    panels: &[f64],
     rolls: &[f64],
     from: u64,
     limit: u64,
@@ -178,10 +214,11 @@ fn append_by_units(
     used: u64,
     seen: &[u8],
 ) -> u64
-    requires { ⌜ (count (now suns) ≤ tableTimes)
-        × ((masks : List ℕ) × Ready (rollsSweep (now targets) (now suns) (now observers) config (now rolls)) (now journal) used (now seen) masks) ⌝ }
+    requires { let p : Plan = planOf (now targets) (now suns) (now observers) (now tolerances) configured (now panels) in
+        ⌜ (count (now suns) ≤ tableTimes) × ((masks : List ℕ) × Ready (sweepOf p (now rolls) 0) (now journal) used (now seen) masks) ⌝ }
     ensures { λ r.
-        let s : Sweep = rollsSweep (now (targets .entry)) (now (suns .entry)) (now (observers .entry)) config (now (rolls .entry)) in
+        let p : Plan = planOf (now (targets .entry)) (now (suns .entry)) (now (observers .entry)) (now (tolerances .entry)) configured (now (panels .entry)) in
+        let s : Sweep = sweepOf p (now (rolls .entry)) 0 in
         ⌜ ranTo (now (journal .exit)) (used + lineLength * (r - from)) r ≡ ran s limit (ranTo (now (journal .entry)) used from) ⌝ }
 {
     let mut units = [[0.0; 3]; TABLE_TIMES];
@@ -191,7 +228,9 @@ fn append_by_units(
         targets,
         suns,
         observers,
-        config,
+        tolerances,
+        configured,
+        panels,
         rolls,
         &units[..end],
         from,
@@ -207,7 +246,9 @@ fn append_lines(
     targets: &[f64],
     suns: &[f64],
     observers: &[f64],
-    config: SolarRollConfig,
+    tolerances: &[f64],
+    configured: ConfiguredRoll,
+    panels: &[f64],
     rolls: &[f64],
     from: u64,
     limit: u64,
@@ -215,9 +256,11 @@ fn append_lines(
     used: u64,
     seen: &[u8],
 ) -> u64
-    requires { ⌜ ((masks : List ℕ) × Ready (rollsSweep (now targets) (now suns) (now observers) config (now rolls)) (now journal) used (now seen) masks) ⌝ }
+    requires { let p : Plan = planOf (now targets) (now suns) (now observers) (now tolerances) configured (now panels) in
+        ⌜ ((masks : List ℕ) × Ready (sweepOf p (now rolls) 0) (now journal) used (now seen) masks) ⌝ }
     ensures { λ r.
-        let s : Sweep = rollsSweep (now (targets .entry)) (now (suns .entry)) (now (observers .entry)) config (now (rolls .entry)) in
+        let p : Plan = planOf (now (targets .entry)) (now (suns .entry)) (now (observers .entry)) (now (tolerances .entry)) configured (now (panels .entry)) in
+        let s : Sweep = sweepOf p (now (rolls .entry)) 0 in
         ⌜ ranTo (now (journal .exit)) (used + lineLength * (r - from)) r ≡ ran s limit (ranTo (now (journal .entry)) used from) ⌝ }
 {
     if pays(suns.len() / 3, limit) {
@@ -225,7 +268,9 @@ fn append_lines(
             targets,
             suns,
             observers,
-            config,
+            tolerances,
+            configured,
+            panels,
             rolls,
             from,
             limit,
@@ -239,7 +284,9 @@ fn append_lines(
         targets,
         suns,
         observers,
-        config,
+        tolerances,
+        configured,
+        panels,
         rolls,
         &none,
         from,
@@ -261,7 +308,9 @@ pub(crate) fn work_chunks(
     targets: &[f64],
     suns: &[f64],
     observers: &[f64],
-    config: SolarRollConfig,
+    tolerances: &[f64],
+    configured: ConfiguredRoll,
+    panels: &[f64],
     rolls: &[f64],
     header: &[u8],
     cells: u64,
@@ -270,10 +319,11 @@ pub(crate) fn work_chunks(
     journal: &mut [u8],
     used: u64,
 ) -> Worked
-    requires { let s : Sweep = rollsSweep (now targets) (now suns) (now observers) config (now rolls) in
-        ⌜ Passed s cells (length (now rolls)) (now header) (length (now journal)) used ⌝ }
+    requires { let p : Plan = planOf (now targets) (now suns) (now observers) (now tolerances) configured (now panels) in
+        ⌜ Passed (sweepOf p (now rolls) 0) cells (length (now rolls)) (now header) (length (now journal)) used ⌝ }
     ensures { λ r.
-        let s : Sweep = rollsSweep (now (targets .entry)) (now (suns .entry)) (now (observers .entry)) config (now (rolls .entry)) in
+        let p : Plan = planOf (now (targets .entry)) (now (suns .entry)) (now (observers .entry)) (now (tolerances .entry)) configured (now (panels .entry)) in
+        let s : Sweep = sweepOf p (now (rolls .entry)) 0 in
         let b : List ℕ = now (journal .entry) in
         ⌜ (r .refusal ≡ workRefusal s from b used)
         × (ranTo (now (journal .exit)) (used + lineLength * (r .stopped - from)) (r .stopped) ≡ ran s limit (ranTo b used from)) ⌝ }
@@ -300,7 +350,9 @@ pub(crate) fn work_chunks(
         targets,
         suns,
         observers,
-        config,
+        tolerances,
+        configured,
+        panels,
         rolls,
         from,
         limit,
@@ -319,7 +371,9 @@ pub(crate) fn work_even(
     targets: &[f64],
     suns: &[f64],
     observers: &[f64],
-    config: SolarRollConfig,
+    tolerances: &[f64],
+    configured: ConfiguredRoll,
+    panels: &[f64],
     n: u64,
     header: &[u8],
     cells: u64,
@@ -328,10 +382,11 @@ pub(crate) fn work_even(
     journal: &mut [u8],
     used: u64,
 ) -> Worked
-    requires { let s : Sweep = lentSweep (now targets) (now suns) (now observers) config n in
-        ⌜ Passed s cells n (now header) (length (now journal)) used ⌝ }
+    requires { let p : Plan = planOf (now targets) (now suns) (now observers) (now tolerances) configured (now panels) in
+        ⌜ Passed (evenSweep p n) cells n (now header) (length (now journal)) used ⌝ }
     ensures { λ r.
-        let s : Sweep = lentSweep (now (targets .entry)) (now (suns .entry)) (now (observers .entry)) config n in
+        let p : Plan = planOf (now (targets .entry)) (now (suns .entry)) (now (observers .entry)) (now (tolerances .entry)) configured (now (panels .entry)) in
+        let s : Sweep = evenSweep p n in
         let b : List ℕ = now (journal .entry) in
         ⌜ (r .refusal ≡ workRefusal s from b used)
         × (ranTo (now (journal .exit)) (used + lineLength * (r .stopped - from)) (r .stopped) ≡ ran s limit (ranTo b used from)) ⌝ }
@@ -343,7 +398,9 @@ pub(crate) fn work_even(
         targets,
         suns,
         observers,
-        config,
+        tolerances,
+        configured,
+        panels,
         &rolls[..end],
         header,
         cells,

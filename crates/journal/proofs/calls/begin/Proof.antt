@@ -11,7 +11,7 @@ use Rattle.journal.proofs.calls.begin.Statement.{statement}
 use Rattle.journal.proofs.calls.begin.Tie as tie
 
 abbrev Start-of : tie.After-samples-refusal → tie.Start
-Start-of c = c .before .before .before .before .before
+Start-of c = c .before .before .before .before .before .before .before
 
 samples-refusal-requires : tie.Need-samples-refusal-requires
 samples-refusal-requires c κs = search needs
@@ -27,7 +27,7 @@ returns c =
     let k = c .before .before .before .before in
     let a = Start-of k .args in
     let b = a .journal .now in
-    let even = even-said (planOf (a .targets .now) (a .suns .now) (a .observers .now) (a .config)) (a .n) _ (k .samples-refusal .ensures) in
+    let even = even-said (planOf (a .targets .now) (a .suns .now) (a .observers .now) (a .tolerances .now) (a .configured) (a .panels .now)) (a .n) _ (k .samples-refusal .ensures) in
     let r = c .before .before .begin-samples .ensures (evenRolls (a .n)) (length-even (a .n)) in
     (r .0 ∙ ap (λ (s : Sweep). beginReply s b (a .used)) even, r .1 ∙ ap (λ (s : Sweep). beginBytes s b (a .used)) even)
 

@@ -6,7 +6,7 @@ use lib.Dec.{ltb}
 use lib.Ieee.{Float}
 use lib.ListN.{length}
 use borrow.Author.Needs.{needs}
-use Rattle.solar_roll.specs.Plan.{Plan, planOf, headTolerance, planConfigured, planPanel}
+use Rattle.solar_roll.specs.Plan.{Plan, planOf, headTolerance, headPanel}
 use Rattle.roll_sweep.specs.Sweep.{Sweep}
 use Rattle.journal.specs.Calls.{beginConditions, beginRefusal}
 use Rattle.journal.specs.Plan.{sweepOf}
@@ -18,10 +18,10 @@ use Rattle.journal.proofs.calls.begin_samples.Tie as tie
 -- ---- what is known at the places of the code
 
 abbrev Start-of : tie.After-plan-refusal → tie.Start
-Start-of c = c .before .before .before .before .before
+Start-of c = c .before .before .before .before .before .before .before
 
 abbrev plan : tie.After-plan-refusal → Plan
-plan c = let a = Start-of c .args in planOf (a .targets .now) (a .suns .now) (a .observers .now) (a .config)
+plan c = let a = Start-of c .args in planOf (a .targets .now) (a .suns .now) (a .observers .now) (a .tolerances .now) (a .configured) (a .panels .now)
 
 abbrev sweep : tie.After-plan-refusal → List Float → Sweep
 sweep c rolls = sweepOf (plan c) rolls (Start-of c .args .said)
@@ -66,7 +66,7 @@ same-length : tie.Need-same-length
 same-length c = search needs
 
 returns-4 : tie.Need-returns-4
-unfolding headTolerance planConfigured planPanel
+unfolding headTolerance headPanel
 returns-4 c rolls size =
     let o = c .before .before .before .before in
     let k = o .before .before .before in

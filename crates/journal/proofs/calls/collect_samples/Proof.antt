@@ -18,10 +18,10 @@ use Rattle.journal.proofs.calls.collect_samples.Tie as tie
 -- ---- what is known at the places of the code
 
 abbrev Start-of : tie.After-lent-plan → tie.Start
-Start-of c = c .before .before .before .before .before .before
+Start-of c = c .before .before .before .before .before .before .before .before
 
 abbrev sweep : tie.After-lent-plan → List Float → Sweep
-sweep c rolls = let a = Start-of c .args in sweepOf (planOf (a .targets .now) (a .suns .now) (a .observers .now) (a .config)) rolls (a .said)
+sweep c rolls = let a = Start-of c .args in sweepOf (planOf (a .targets .now) (a .suns .now) (a .observers .now) (a .tolerances .now) (a .configured) (a .panels .now)) rolls (a .said)
 
 -- the plan has passed
 passes : (c : tie.Else1) (rolls : List Float) →

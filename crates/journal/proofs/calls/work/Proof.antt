@@ -4,13 +4,13 @@ use native.Mathlib.Omega.{arith}
 use lib.Dec.{ltb}
 use lib.ListN.{length}
 use borrow.Author.Needs.{needs}
-use Rattle.solar_roll.specs.Plan.{planOf}
+use Rattle.solar_roll.specs.Plan.{Plan, planOf}
 use Rattle.roll_sweep.specs.Sweep.{Sweep}
 use Rattle.roll_sweep.specs.Rolls.{evenRolls}
 use Rattle.roll_sweep.proofs.Even.{length-even}
 use Rattle.journal.specs.Calls.{workConditions, workRefusal}
 use Rattle.journal.specs.Pass.{Passed}
-use Rattle.journal.specs.Plan.{lentSweep}
+use Rattle.journal.specs.Plan.{evenSweep}
 use Rattle.journal.specs.Range.{Ran}
 use Rattle.journal.proofs.Along.{ran-refused, ran-one}
 use Rattle.journal.proofs.Chains.{plan-refused, work-clear, work-refused, work-accepted}
@@ -21,10 +21,13 @@ use Rattle.journal.proofs.calls.work.Tie as tie
 -- ---- what is known at the places of the code
 
 abbrev Start-of : tie.After-samples-refusal → tie.Start
-Start-of c = c .before .before .before .before .before
+Start-of c = c .before .before .before .before .before .before .before
+
+abbrev lent : tie.After-samples-refusal → Plan
+lent c = let a = Start-of c .args in planOf (a .targets .now) (a .suns .now) (a .observers .now) (a .tolerances .now) (a .configured) (a .panels .now)
 
 abbrev sweep : tie.After-samples-refusal → Sweep
-sweep c = let a = Start-of c .args in lentSweep (a .targets .now) (a .suns .now) (a .observers .now) (a .config) (a .n)
+sweep c = evenSweep (lent c) (Start-of c .args .n)
 
 -- the plan's refusal, and what is known if it is none
 plan : (c : tie.After-lent-plan) →
@@ -37,7 +40,7 @@ plan c =
     let a = Start-of k .args in
     let p = c .lent-plan .result in
     subst (λ (s : Sweep). (p .refusal ≡ s .refusal (ltb (length (a .journal .now)) (a .used))) × (p .refusal ≡ 0 → Passed s (p .cells) (a .n) (p .header) (length (a .journal .now)) (a .used)))
-    (even-said (planOf (a .targets .now) (a .suns .now) (a .observers .now) (a .config)) (a .n) _ (k .samples-refusal .ensures)) (c .lent-plan .ensures (evenRolls (a .n)) (length-even (a .n)))
+    (even-said (lent k) (a .n) _ (k .samples-refusal .ensures)) (c .lent-plan .ensures (evenRolls (a .n)) (length-even (a .n)))
 
 passes : (c : tie.Else1) →
     let k = c .before .before .before in
@@ -88,10 +91,10 @@ returns-2 c =
     let q = work-refused s b (a .used) (a .chunk) _ (worked .0) (c .if2 .taken) in
     (q .0, ap (λ (r : Ran). r .bytes) (worked .1 ∙ ran-refused s b (a .used) (a .chunk) 1 _ (worked .0) (c .if2 .taken)) ∙ q .1)
 
-add-t21 : tie.Need-add-t21
-add-t21 c =
+add-end : tie.Need-add-end
+add-end c =
     let x = Start-of (c .before .before .before .before .before .before .before .before .before .before .before) in
-    omega (arith, (work-clear _ _ _ _ (clear c)) .room, x .good .1 .1 .1 .1 .1 .1 .0 .0)
+    omega (arith, (work-clear _ _ _ _ (clear c)) .room, x .good .1 .1 .1 .1 .1 .1 .1 .1 .0 .0)
 
 same-length-2 : tie.Need-same-length-2
 same-length-2 c = search needs
@@ -116,6 +119,6 @@ work-spec =
     work-even-requires
     same-length
     returns-2
-    add-t21
+    add-end
     same-length-2
     returns-3)

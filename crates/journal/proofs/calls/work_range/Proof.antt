@@ -5,13 +5,13 @@ use native.Mathlib.Omega.{arith}
 use lib.Dec.{ltb}
 use lib.ListN.{length}
 use borrow.Author.Needs.{needs}
-use Rattle.solar_roll.specs.Plan.{planOf}
+use Rattle.solar_roll.specs.Plan.{Plan, planOf}
 use Rattle.roll_sweep.specs.Sweep.{Sweep}
 use Rattle.roll_sweep.specs.Rolls.{evenRolls}
 use Rattle.roll_sweep.proofs.Even.{length-even}
 use Rattle.journal.specs.Lines.{lineLength}
 use Rattle.journal.specs.Pass.{Passed}
-use Rattle.journal.specs.Plan.{lentSweep}
+use Rattle.journal.specs.Plan.{evenSweep}
 use Rattle.journal.specs.Range.{Ran, rangeConditions, rangeRefusal}
 use Rattle.journal.proofs.Along.{Came, came, ran-refused}
 use Rattle.journal.proofs.Chains.{plan-refused, range-9, range-work, range-refused, range-accepted}
@@ -22,10 +22,13 @@ use Rattle.journal.proofs.calls.work_range.Tie as tie
 -- ---- what is known at the places of the code
 
 abbrev Start-of : tie.After-samples-refusal → tie.Start
-Start-of c = c .before .before .before .before .before
+Start-of c = c .before .before .before .before .before .before .before
+
+abbrev lent : tie.After-samples-refusal → Plan
+lent c = let a = Start-of c .args in planOf (a .targets .now) (a .suns .now) (a .observers .now) (a .tolerances .now) (a .configured) (a .panels .now)
 
 abbrev sweep : tie.After-samples-refusal → Sweep
-sweep c = let a = Start-of c .args in lentSweep (a .targets .now) (a .suns .now) (a .observers .now) (a .config) (a .n)
+sweep c = evenSweep (lent c) (Start-of c .args .n)
 
 -- the plan's refusal, and what is known if it is none
 plan : (c : tie.After-lent-plan) →
@@ -38,7 +41,7 @@ plan c =
     let a = Start-of k .args in
     let p = c .lent-plan .result in
     subst (λ (s : Sweep). (p .refusal ≡ s .refusal (ltb (length (a .journal .now)) (a .used))) × (p .refusal ≡ 0 → Passed s (p .cells) (a .n) (p .header) (length (a .journal .now)) (a .used)))
-    (even-said (planOf (a .targets .now) (a .suns .now) (a .observers .now) (a .config)) (a .n) _ (k .samples-refusal .ensures)) (c .lent-plan .ensures (evenRolls (a .n)) (length-even (a .n)))
+    (even-said (lent k) (a .n) _ (k .samples-refusal .ensures)) (c .lent-plan .ensures (evenRolls (a .n)) (length-even (a .n)))
 
 passes : (c : tie.Else1) →
     let k = c .before .before .before in
@@ -117,14 +120,14 @@ returns-3 c =
     let q = range-refused s (a .from) (a .to) b (a .used) (a .stopped .now) _ (refused-with o) (c .if3 .taken) in
     (q .0, ap (λ (r : Ran). r .bytes) (worked .1 ∙ ran-refused s b (a .used) (a .from) (a .to - a .from) _ (worked .0) (c .if3 .taken)) ∙ q .1, q .2)
 
-sub-t24 : tie.Need-sub-t24
-sub-t24 c = (come (c .before .before .before .before)) .0
+sub-lines : tie.Need-sub-lines
+sub-lines c = (come (c .before .before .before .before)) .0
 
-mul-t25 : tie.Need-mul-t25
-mul-t25 c = omega (arith, come (c .before .before .before .before), Start-of (c .before .before .before .before .before .before .before .before .before .before .before .before) .good .1 .1 .1 .1 .1 .1 .1 .0 .0)
+mul-end : tie.Need-mul-end
+mul-end c = omega (arith, come (c .before .before .before .before), Start-of (c .before .before .before .before .before .before .before .before .before .before .before .before) .good .1 .1 .1 .1 .1 .1 .1 .1 .1 .0 .0)
 
-add-t26 : tie.Need-add-t26
-add-t26 c = omega (arith, come (c .before .before .before .before), Start-of (c .before .before .before .before .before .before .before .before .before .before .before .before) .good .1 .1 .1 .1 .1 .1 .1 .0 .0)
+add-end : tie.Need-add-end
+add-end c = omega (arith, come (c .before .before .before .before), Start-of (c .before .before .before .before .before .before .before .before .before .before .before .before) .good .1 .1 .1 .1 .1 .1 .1 .1 .1 .0 .0)
 
 same-length-2 : tie.Need-same-length-2
 same-length-2 c = search needs
@@ -149,8 +152,8 @@ work-range-spec =
     work-even-requires
     same-length
     returns-3
-    sub-t24
-    mul-t25
-    add-t26
+    sub-lines
+    mul-end
+    add-end
     same-length-2
     returns-4)

@@ -5,7 +5,7 @@ use native.Mathlib.Omega.{arith}
 use lib.Dec.{ltb}
 use lib.Ieee.{Float}
 use borrow.Author.Needs.{needs}
-use Rattle.solar_roll.specs.Plan.{Plan, planOf, headTolerance, planConfigured, planPanel}
+use Rattle.solar_roll.specs.Plan.{Plan, planOf, headTolerance, headPanel}
 use Rattle.journal.specs.Plan.{sweepOf}
 use Rattle.journal.proofs.Planned.{refusal-said, passed, passed-with}
 use Rattle.journal.proofs.plan.lent_plan.Statement.{statement}
@@ -14,10 +14,10 @@ use Rattle.journal.proofs.plan.lent_plan.Tie as tie
 -- ---- what is known at the places of the code
 
 abbrev Start-of : tie.After-plan-refusal → tie.Start
-Start-of c = c .before .before .before .before
+Start-of c = c .before .before .before .before .before .before
 
 abbrev plan : tie.After-plan-refusal → Plan
-plan c = let a = Start-of c .args in planOf (a .targets .now) (a .suns .now) (a .observers .now) (a .config)
+plan c = let a = Start-of c .args in planOf (a .targets .now) (a .suns .now) (a .observers .now) (a .tolerances .now) (a .configured) (a .panels .now)
 
 -- the plan's refusal, whatever the rolls are
 said : (c : tie.After-plan-refusal) (rolls : List Float) →
@@ -43,14 +43,14 @@ slice-aggregate-write-header c = search needs
 write-header-requires : tie.Need-write-header-requires
 write-header-requires c κs = search needs
 
-mul-t20 : tie.Need-mul-t20
-mul-t20 c =
+mul-cells : tie.Need-mul-cells
+mul-cells c =
     let k = c .before .before .before in
     let a = Start-of (k .before) .args in
     omega (arith, passed (plan (k .before)) [] (a .said) (a .room) (a .used) (passes k []) .facts .few-cells)
 
 returns-2 : tie.Need-returns-2
-unfolding headTolerance planConfigured planPanel
+unfolding headTolerance headPanel
 returns-2 c rolls size =
     let k = c .before .before .before in
     let x = Start-of (k .before) in
@@ -65,5 +65,5 @@ lent-plan-spec =
     returns
     slice-aggregate-write-header
     write-header-requires
-    mul-t20
+    mul-cells
     returns-2)

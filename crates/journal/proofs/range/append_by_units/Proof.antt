@@ -16,10 +16,10 @@ use Rattle.journal.proofs.range.append_by_units.Statement.{statement}
 use Rattle.journal.proofs.range.append_by_units.Tie as tie
 
 abbrev Start-of : tie.After-sun-units → tie.Start
-Start-of c = c .before .before .before .before .before .before .before .before
+Start-of c = c .before .before .before .before .before .before .before .before .before .before
 
 abbrev plan : tie.After-sun-units → Plan
-plan c = let a = Start-of c .args in planOf (a .targets .now) (a .suns .now) (a .observers .now) (a .config)
+plan c = let a = Start-of c .args in planOf (a .targets .now) (a .suns .now) (a .observers .now) (a .tolerances .now) (a .configured) (a .panels .now)
 
 -- the table's first places hold the units of all times
 table : (c : tie.After-sun-units) →

@@ -6,7 +6,7 @@ use Rattle.journal.proofs.range.append_lines.Statement.{statement}
 use Rattle.journal.proofs.range.append_lines.Tie as tie
 
 abbrev Start-of : tie.After-pays → tie.Start
-Start-of c = c .before .before .before .before .before .before .before
+Start-of c = c .before .before .before .before .before .before .before .before .before
 
 pays-requires : tie.Need-pays-requires
 pays-requires c κs = search needs

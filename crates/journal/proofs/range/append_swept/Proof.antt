@@ -10,7 +10,7 @@ use Rattle.solar_roll.specs.Plan.{Plan, planOf}
 use Rattle.roll_sweep.specs.Sweep.{Sweep, cells, chunks}
 use Rattle.roll_sweep.specs.declared.chunk.Swept.{Swept}
 use Rattle.journal.specs.Lines.{lineLength, lineText, lineOf}
-use Rattle.journal.specs.Plan.{sweepOf, rollsSweep}
+use Rattle.journal.specs.Plan.{sweepOf}
 use Rattle.journal.specs.Range.{ranTo}
 use Rattle.journal.proofs.Scan.{chunks-le}
 use Rattle.journal.proofs.Written.{SweepFacts}
@@ -20,22 +20,22 @@ use Rattle.journal.proofs.range.append_swept.Statement.{statement}
 use Rattle.journal.proofs.range.append_swept.Tie as tie
 
 abbrev Inv-loop : tie.InvT-loop
-Inv-loop targets suns observers config rolls units from limit journal₀ used seen chunks at₀ chunk₀ left₀ journal at chunk left =
-    Along (rollsSweep targets suns observers config rolls) from limit seen journal₀ used chunk left journal at
+Inv-loop targets suns observers tolerances configured panels rolls units from limit journal₀ used seen chunks at₀ chunk₀ left₀ journal at chunk left =
+    Along (sweepOf (planOf targets suns observers tolerances configured panels) rolls 0) from limit seen journal₀ used chunk left journal at
 
 abbrev μ-loop : tie.MeasureT-loop
-μ-loop targets suns observers config rolls units from limit journal₀ used seen chunks at₀ chunk₀ left₀ journal at chunk left = left
+μ-loop targets suns observers tolerances configured panels rolls units from limit journal₀ used seen chunks at₀ chunk₀ left₀ journal at chunk left = left
 
 -- ---- what is known at the places of the code
 
 abbrev Lent : Type 0
-Lent = tie.After-shared-slice-known5 Inv-loop μ-loop
+Lent = tie.After-shared-slice-known7 Inv-loop μ-loop
 
 abbrev Start-of : Lent → tie.Start Inv-loop μ-loop
-Start-of c = c .before .before .before .before .before .before
+Start-of c = c .before .before .before .before .before .before .before .before
 
 abbrev plan : Lent → Plan
-plan c = let a = Start-of c .args in planOf (a .targets .now) (a .suns .now) (a .observers .now) (a .config)
+plan c = let a = Start-of c .args in planOf (a .targets .now) (a .suns .now) (a .observers .now) (a .tolerances .now) (a .configured) (a .panels .now)
 
 abbrev sweep : Lent → Sweep
 sweep c = sweepOf (plan c) (Start-of c .args .rolls .now) 0
@@ -113,7 +113,7 @@ add-at : tie.Need-add-at Inv-loop μ-loop
 add-at c =
     let k = c .before .before .before .before .before in
     let o = k .before .before .before in
-    omega (arith, room k, o .loop .inv .room, Start-of (o .before) .good .1 .1 .1 .1 .1 .1 .1 .1 .0 .0)
+    omega (arith, room k, o .loop .inv .room, Start-of (o .before) .good .1 .1 .1 .1 .1 .1 .1 .1 .1 .1 .0 .0)
 
 add-chunk : tie.Need-add-chunk Inv-loop μ-loop
 add-chunk c =

@@ -8,11 +8,11 @@ use Rattle.journal.proofs.Planned.{chunk-held, swept-by-times, swept-by
 use Rattle.journal.proofs.range.sweep_rolls.Statement.{statement}
 use Rattle.journal.proofs.range.sweep_rolls.Tie as tie
 
-abbrev Start-of : tie.After-shared-slice-known4 → tie.Start
-Start-of c = c .before .before .before .before
+abbrev Start-of : tie.After-shared-slice-known6 → tie.Start
+Start-of c = c .before .before .before .before .before .before
 
-abbrev plan : tie.After-shared-slice-known4 → Plan
-plan c = let a = Start-of c .args in planOf (a .targets .now) (a .suns .now) (a .observers .now) (a .config)
+abbrev plan : tie.After-shared-slice-known6 → Plan
+plan c = let a = Start-of c .args in planOf (a .targets .now) (a .suns .now) (a .observers .now) (a .tolerances .now) (a .configured) (a .panels .now)
 
 -- the chunk's cells
 cells-held : (c : tie.After-cells-in) →

@@ -4,10 +4,11 @@ use Prim.Native.Nat.{ℕ, _+_, _-_, _*_}
 use native.Mathlib.Omega.{arith}
 use lib.ListN.{length}
 use borrow.Author.Needs.{needs}
+use Rattle.solar_roll.specs.Plan.{planOf}
 use Rattle.roll_sweep.specs.Sweep.{Sweep}
 use Rattle.journal.specs.Lines.{lineLength}
 use Rattle.journal.specs.Calls.{workRefusal}
-use Rattle.journal.specs.Plan.{rollsSweep}
+use Rattle.journal.specs.Plan.{sweepOf}
 use Rattle.journal.specs.Range.{ranTo}
 use Rattle.journal.proofs.Along.{ready, ran-refused}
 use Rattle.journal.proofs.range.work_chunks.Statement.{statement}
@@ -16,10 +17,10 @@ use Rattle.journal.proofs.range.work_chunks.Tie as tie
 -- ---- what is known at the places of the code
 
 abbrev Start-of : tie.After-slice-known → tie.Start
-Start-of c = c .before .before .before .before .before .before
+Start-of c = c .before .before .before .before .before .before .before .before
 
 abbrev sweep : tie.After-slice-known → Sweep
-sweep c = let a = Start-of c .args in rollsSweep (a .targets .now) (a .suns .now) (a .observers .now) (a .config) (a .rolls .now)
+sweep c = let a = Start-of c .args in sweepOf (planOf (a .targets .now) (a .suns .now) (a .observers .now) (a .tolerances .now) (a .configured) (a .panels .now)) (a .rolls .now) 0
 
 -- work's refusal of the first chunk
 found : (c : tie.After-work-refusal) →

@@ -18,10 +18,10 @@ use Rattle.journal.proofs.range.work_even.Tie as tie
 -- ---- what is known at the places of the code
 
 abbrev Start-of : tie.After-slice-known → tie.Start
-Start-of c = c .before .before .before .before .before
+Start-of c = c .before .before .before .before .before .before .before
 
 abbrev plan : tie.After-slice-known → Plan
-plan c = let a = Start-of c .args in planOf (a .targets .now) (a .suns .now) (a .observers .now) (a .config)
+plan c = let a = Start-of c .args in planOf (a .targets .now) (a .suns .now) (a .observers .now) (a .tolerances .now) (a .configured) (a .panels .now)
 
 -- the table's first n places hold the even rolls
 even : (c : tie.After-even-rolls) → let n = Start-of (c .before .before) .args .n in take n (c .even-rolls .last .1 .0) ≡ evenRolls n
