@@ -17,7 +17,7 @@ use Rattle.roll_sweep.specs.Sweep.{Sweep, cells, chunks}
 use Rattle.journal.specs.Lines.{lineLength, lineOf, hasChunk}
 use Rattle.journal.specs.Right.{wholeLines, torn, right}
 use Rattle.journal.specs.Calls.{wrong, workRefusal, workBytes}
-use Rattle.journal.specs.Pass.{mostChunks, Flags, Ready}
+use Rattle.journal.specs.Pass.{mostChunks, Tables, Passed, Ready}
 use Rattle.journal.specs.Range.{Ran, ranTo, oneMore, ran}
 use Rattle.journal.proofs.Chains.{work-9, work-10, work-7, work-0, work-clear}
 use Rattle.journal.proofs.Scan.{chunks-le, flag-zero, flag-some}
@@ -37,6 +37,11 @@ module _ (s : Sweep) (b : List ℕ) (u c : ℕ) where
   unfolding ran
   ran-stop zero h = refl
   ran-stop (suc m) h = written-some (workRefusal s c b u) (ran s m (oneMore s (ranTo b u c))) (ranTo b u c) h
+
+  -- by the number that work's refusal is
+  pub ran-refused : (m k : ℕ) → k ≡ workRefusal s c b u → (k ≡ 0 → ⊥) → ran s m (ranTo b u c) ≡ ranTo b u c
+  ran-refused m zero e h = absurd (h refl)
+  ran-refused m (suc k) e h = ran-stop m (omega (arith, e))
 
 -- the bytes before a text that was put
 take-before : (i : ℕ) (t b : List ℕ) → i ≤ length b → take i (put i t b) ≡ take i b
@@ -92,15 +97,13 @@ ran-keeps s (suc m) b u c h = go (workRefusal s c b u) refl (λ g. ran-keeps s m
     go (suc k) e more = ap (λ (x : Ran). take u (x .bytes)) (ran-stop s b u c (suc m) (omega arith))
 
 -- a range of one chunk is its work
-pub ran-one : (s : Sweep) (b : List ℕ) (u c : ℕ) → workRefusal s c b u ≡ 0 → ran s (c + 1 - c) (ranTo b u c) ≡ ranTo (workBytes s c b u) (u + lineLength) (c + 1)
+pub ran-one : (s : Sweep) (b : List ℕ) (u c : ℕ) → workRefusal s c b u ≡ 0 → ran s 1 (ranTo b u c) ≡ ranTo (workBytes s c b u) (u + lineLength) (c + 1)
 unfolding ran oneMore
-ran-one s b u c e =
-    let n : c + 1 - c ≡ 1 = omega arith in
-    ap (λ (m : ℕ). ran s m (ranTo b u c)) n ∙ written-none (workRefusal s c b u) (oneMore s (ranTo b u c)) (ranTo b u c) e
+ran-one s b u c e = written-none (workRefusal s c b u) (oneMore s (ranTo b u c)) (ranTo b u c) e
 
--- ---- what the loop keeps: after the chunks from `from` to c, of a journal b₀ with u₀ bytes used, b is left with u
+-- ---- what the loop keeps: after the chunks from `from` to c, of a journal b₀ with u₀ bytes used, b is left with u, and of m chunks `left` are to come
 
-pub record Along (s : Sweep) (from to : ℕ) (seen b₀ : List ℕ) (u₀ c : ℕ) (b : List ℕ) (u : ℕ) : Type 0 where
+pub record Along (s : Sweep) (from m : ℕ) (seen b₀ : List ℕ) (u₀ c left : ℕ) (b : List ℕ) (u : ℕ) : Type 0 where
   pub since : from ≤ c
   pub used : u ≡ u₀ + lineLength * (c - from)
   pub within : u ≤ length b
@@ -110,32 +113,34 @@ pub record Along (s : Sweep) (from to : ℕ) (seen b₀ : List ℕ) (u₀ c : �
   -- the flags of the chunks to come
   pub count : length seen ≡ mostChunks
   pub flags : (d : ℕ) → c ≤ d → d < mostChunks → getD seen d 0 ≡ flag (hasChunk b (wholeLines u) d)
-  pub rest : ran s (to - c) (ranTo b u c) ≡ ran s (to - from) (ranTo b₀ u₀ from)
+  pub rest : ran s left (ranTo b u c) ≡ ran s m (ranTo b₀ u₀ from)
 
 -- the journal after work's checks
-pub ready : (s : Sweep) (b : List ℕ) (u c : ℕ) (seen : List ℕ) → workRefusal s c b u ≡ 0 → Flags b (wholeLines u) seen → Ready s b u seen
-ready s b u c seen e f = let q = work-clear s b u c e in record { plan = q .plan; right = q .right; whole = q .whole; flags = f }
+pub ready : (s : Sweep) (n k : ℕ) (h b : List ℕ) (u c : ℕ) (seen masks : List ℕ) → Passed s n k h (length b) u → workRefusal s c b u ≡ 0 → Tables b (wholeLines u) seen masks → Ready s b u seen masks
+ready s n k h b u c seen masks p e f =
+    let q = work-clear s b u c e in
+    record { plan = q .plan; one = omega (arith, p .one, p .samples); most = omega (arith, p .most, p .samples); right = q .right; whole = q .whole; tables = f }
 
 -- work refuses the next chunk: it does not exist, it has a line, or there is no room
 abbrev pub isRefused : ℕ → List ℕ → ℕ → ℕ → Bool
 isRefused m seen free c = leb m c || (not (eqb (getD seen c 0) 0) || ltb free lineLength)
 
-module _ (s : Sweep) (a : SweepFacts s) (from to : ℕ) (seen b₀ : List ℕ) (u₀ : ℕ) where
-  pub along-start : Ready s b₀ u₀ seen → u₀ ≤ length b₀ → Along s from to seen b₀ u₀ from b₀ u₀
+module _ (s : Sweep) (a : SweepFacts s) (from m : ℕ) (seen b₀ : List ℕ) (u₀ : ℕ) where
+  pub along-start : (masks : List ℕ) → Ready s b₀ u₀ seen masks → u₀ ≤ length b₀ → Along s from m seen b₀ u₀ from m b₀ u₀
   unfolding wrong
-  along-start r h = record {
+  along-start masks r h = record {
     since = omega arith;
     used = omega arith;
     within = h;
     room = refl;
     is-right = not-false (right (cells s) (s .samples) (s .header) b₀ u₀) (r .right);
     whole = r .whole;
-    count = r .flags .count;
-    flags = λ d g l. r .flags .chunk d l;
+    count = r .tables .flags .count;
+    flags = λ d g l. r .tables .flags .chunk d l;
     rest = refl;
   }
 
-  module _ (c : ℕ) (b : List ℕ) (u : ℕ) (t : Along s from to seen b₀ u₀ c b u) where
+  module _ (c left : ℕ) (b : List ℕ) (u : ℕ) (t : Along s from m seen b₀ u₀ c left b u) where
     plan-passes : s .refusal (ltb (length b) u) ≡ 0
     plan-passes = ap (s .refusal) (le-ltb (length b) u (t .within)) ∙ a .plan
 
@@ -160,8 +165,8 @@ module _ (s : Sweep) (a : SweepFacts s) (from to : ℕ) (seen b₀ : List ℕ) (
         omega (arith, work-7 s b u c plan-passes g not-wrong (t .whole) new (omega (arith, ltb-true (length b - u) lineLength ez, t .within)))
     refused-by false false false ex ey ez h = absurd (false≢true h)
 
-    pub along-stop : isRefused (chunks (cells s)) seen (length b - u) c ≡ true → ranTo b u c ≡ ran s (to - from) (ranTo b₀ u₀ from)
-    along-stop h = sym (ran-stop s b u c (to - c) (refused-by _ _ _ refl refl refl h)) ∙ t .rest
+    pub along-stop : isRefused (chunks (cells s)) seen (length b - u) c ≡ true → ranTo b u c ≡ ran s m (ranTo b₀ u₀ from)
+    along-stop h = sym (ran-stop s b u c left (refused-by _ _ _ refl refl refl h)) ∙ t .rest
 
     -- the next chunk is not refused
     module _ (h : isRefused (chunks (cells s)) seen (length b - u) c ≡ false) where
@@ -180,8 +185,8 @@ module _ (s : Sweep) (a : SweepFacts s) (from to : ℕ) (seen b₀ : List ℕ) (
           (sym (next-flag next-exists) ∙ eqb-true (getD seen c 0) 0 (not-false (eqb (getD seen c 0) 0) (or-left (not (eqb (getD seen c 0) 0)) (ltb (length b - u) lineLength) r)))
 
       -- its line is appended
-      pub along-next : (o : List ℕ) → c < to → o ≡ put u (lineOf s c) b → Along s from to seen b₀ u₀ (c + 1) o (u + lineLength)
-      along-next o l e = subst (λ (x : List ℕ). Along s from to seen b₀ u₀ (c + 1) x (u + lineLength)) (sym e) (record {
+      pub along-next : (o : List ℕ) → 0 < left → o ≡ put u (lineOf s c) b → Along s from m seen b₀ u₀ (c + 1) (left - 1) o (u + lineLength)
+      along-next o l e = subst (λ (x : List ℕ). Along s from m seen b₀ u₀ (c + 1) (left - 1) x (u + lineLength)) (sym e) (record {
         since = omega (arith, t .since);
         used = omega (arith, t .used, t .since);
         within = omega (arith, length-more s a b u c (t .whole) next-exists next-room, next-room);
@@ -196,13 +201,13 @@ module _ (s : Sweep) (a : SweepFacts s) (from to : ℕ) (seen b₀ : List ℕ) (
             ∙ ap (λ (x : Bool). hasChunk b (wholeLines u) d || x) (sym (ne-eqb c d (λ z. omega arith)))
             ∙ sym (has-more s a b u c (t .whole) next-exists next-room d));
         rest =
-            let n : to - c ≡ suc (to - (c + 1)) = omega arith in
-            sym (ran-next s b u c (to - (c + 1)) (work-0 s b u c plan-passes next-exists not-wrong (t .whole) next-new next-room))
-            ∙ ap (λ (m : ℕ). ran s m (ranTo b u c)) (sym n)
+            let n : left ≡ suc (left - 1) = omega arith in
+            sym (ran-next s b u c (left - 1) (work-0 s b u c plan-passes next-exists not-wrong (t .whole) next-new next-room))
+            ∙ ap (λ (k : ℕ). ran s k (ranTo b u c)) (sym n)
             ∙ t .rest;
       })
 
     -- to the end of the range
-    pub along-end : to ≤ c → ranTo b u c ≡ ran s (to - from) (ranTo b₀ u₀ from)
+    pub along-end : left ≡ 0 → ranTo b u c ≡ ran s m (ranTo b₀ u₀ from)
     unfolding ran
-    along-end h = let z : to - c ≡ 0 = omega arith in ap (λ (m : ℕ). ran s m (ranTo b u c)) (sym z) ∙ t .rest
+    along-end z = ap (λ (k : ℕ). ran s k (ranTo b u c)) (sym z) ∙ t .rest

@@ -10,7 +10,7 @@ use borrow.Author.Tests.{lt-ltb, le-ltb, le-leb, lt-leb, eq-eqb, ne-eqb, leb-fal
 use Rattle.buffers.specs.Lent.{filled, put}
 use Rattle.buffers.specs.Refusal.{Conditions, first, carried, replyOf}
 use Rattle.buffers.specs.declared.Answer.the-variants.{Accepted, Refused}
-use Rattle.buffers.proofs.Refusal.{first-none, first-here, first-skip, first-clear, first-clears, carried-here, carried-skip, carried-clear, written-none, accepted-with, refused-leaves, accepted-leaves}
+use Rattle.buffers.proofs.Refusal.{first-here, first-skip, first-clear, first-clears, carried-here, carried-skip, carried-clear, carried-last, written-none, accepted-with, refused-leaves, accepted-leaves}
 use Rattle.roll_sweep.specs.Sweep.{Sweep, cells, chunks}
 use Rattle.journal.specs.Lines.{headerLength, lineLength, lineOf, hasChunk, hasChunks, heldProbes}
 use Rattle.journal.specs.Right.{wholeLines, torn, right}
@@ -181,10 +181,6 @@ module _ (s : Sweep) (b : List ℕ) (u : ℕ) where
 
 -- ---- work over a range
 
-carried-only : (k : ℕ) → first (carried k ∷ []) ≡ k
-carried-only zero = carried-skip 0 [] refl ∙ first-none
-carried-only (suc k) = carried-here (suc k) [] (omega arith)
-
 module _ (s : Sweep) (from to : ℕ) (b : List ℕ) (u : ℕ) where
   module _ (p : s .refusal (ltb (length b) u) ≡ 0) where
     pub range-9 : to ≤ from → rangeRefusal s from to b u ≡ 9
@@ -196,7 +192,7 @@ module _ (s : Sweep) (from to : ℕ) (b : List ℕ) (u : ℕ) where
     range-work h =
         plan-clear s b u (rangeConditions s from to b u) p
         ∙ first-skip (leb to from) 9 (carried (workRefusal s from b u) ∷ []) (lt-leb to from h)
-        ∙ carried-only (workRefusal s from b u)
+        ∙ carried-last (workRefusal s from b u)
 
   -- a range that is not refused has a chunk, and its work is not refused
   pub range-clear : rangeRefusal s from to b u ≡ 0 → (from < to) × (workRefusal s from b u ≡ 0)

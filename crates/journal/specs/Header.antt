@@ -3,7 +3,7 @@ use mathlib.Core.List.{List, [], _∷_, _++_}
 use Prim.Native.Nat.{ℕ}
 use lib.Ieee.{Float, binary64, toBits}
 use Rattle.solar_roll.specs.Vectors.{Vector, x, y, z}
-use Rattle.solar_roll.specs.Plan.{Plan, rowsOf, timesOf, headTolerance, planConfigured, planPanel}
+use Rattle.solar_roll.specs.Plan.{Plan, rowsOf, timesOf, headTolerance, headPanel}
 use Rattle.solar_roll.specs.declared.cell.ConfiguredRoll.{ConfiguredRoll}
 use Rattle.solar_roll.specs.declared.cell.ConfiguredRoll.the-variants.{None, Some}
 use Rattle.journal.specs.Hex.{hexText}
@@ -35,5 +35,5 @@ settingsHeader targets times n tolerance configured panel =
 
 -- the header of a plan with n samples
 unfoldable pub headerOf : Plan → ℕ → List ℕ
-unfolding settingsHeader headTolerance planConfigured planPanel
-headerOf p n = settingsHeader (rowsOf p) (timesOf p) n (headTolerance p) (planConfigured p) (planPanel p)
+unfolding settingsHeader headTolerance headPanel
+headerOf p n = settingsHeader (rowsOf p) (timesOf p) n (headTolerance p) (p .configured) (headPanel p)

@@ -43,12 +43,15 @@ pub record Passed (s : Sweep) (n k : ℕ) (h : List ℕ) (room u : ℕ) : Type 0
   pub header : s .header ≡ h
   pub size : length h ≡ headerLength
   pub few : n ≤ mostCells
+  pub one : 1 ≤ k
   pub most : k ≤ mostSamples
   pub used : u ≤ room
 
--- a journal to which lines may be appended: of work's refusals all but 9, 10 and 7 have passed, and the flags are its lines'
-pub record Ready (s : Sweep) (b : List ℕ) (u : ℕ) (seen : List ℕ) : Type 0 where
+-- a journal to which lines may be appended: of work's refusals all but 9, 10 and 7 have passed, and the tables are its lines'
+pub record Ready (s : Sweep) (b : List ℕ) (u : ℕ) (seen masks : List ℕ) : Type 0 where
   pub plan : s .refusal (ltb (length b) u) ≡ 0
+  pub one : 1 ≤ s .samples
+  pub most : s .samples ≤ mostSamples
   pub right : wrong s b u ≡ false
   pub whole : torn u ≡ false
-  pub flags : Flags b (wholeLines u) seen
+  pub tables : Tables b (wholeLines u) seen masks

@@ -2,35 +2,38 @@
 use mathlib.Core.Path.{_≡_}
 use mathlib.Core.List.{List}
 use Prim.Native.Nat.{ℕ, _/_, _%_, _<_}
-use lib.ListN.{length}
-use lib.Ieee.{Float}
+use lib.ListN.{length, getD}
+use lib.Ieee.{Float, nan}
 use Rattle.buffers.specs.Ranges.{tab}
 use Rattle.solar_roll.specs.Vectors.{Vector}
-use Rattle.solar_roll.specs.Plan.{Plan, planOf, rowsOf, timesOf, sunAt, violatesAt, samplesRefusal, planRefusal}
-use Rattle.solar_roll.specs.declared.plan.SolarRollConfig.{SolarRollConfig}
+use Rattle.solar_roll.specs.Plan.{Plan, rowsOf, timesOf, sunAt, violatesAt, samplesRefusal, planRefusal}
 use Rattle.roll_sweep.specs.Sweep.{Sweep}
-use Rattle.roll_sweep.specs.Rolls.{evenRoll}
+use Rattle.roll_sweep.specs.Rolls.{evenRolls}
 use Rattle.journal.specs.Header.{headerOf}
 
--- the sweep of a plan over n even rolls. Cell number = row · times + time; a sample is taken as a Sweep roll (`violatesAt`), so a configured roll
--- stands for every sample
-unfoldable pub sweepOf : Plan → ℕ → Sweep
-unfolding evenRoll planRefusal samplesRefusal headerOf
-sweepOf p n =
+-- the sweep of a plan over a list of rolls; `said` is the number said of them in the place of 3, 0 for none. Cell number = row · times + time; a sample is
+-- taken as a Sweep roll (`violatesAt`), so a configured roll stands for every sample
+unfoldable pub sweepOf : Plan → List Float → ℕ → Sweep
+unfolding planRefusal headerOf
+sweepOf p rolls said =
     record {
-      refusal = planRefusal p (samplesRefusal n);
+      refusal = planRefusal p said;
       rows = rowsOf p;
       times = timesOf p;
-      samples = n;
-      violates = λ i k. violatesAt p (i / timesOf p) (i % timesOf p) (evenRoll n k);
-      header = headerOf p n;
+      samples = length rolls;
+      violates = λ i k. violatesAt p (i / timesOf p) (i % timesOf p) (getD rolls k nan);
+      header = headerOf p (length rolls);
     }
 
--- that of a plan as it is lent
-abbrev pub lentSweep : List Float → List Float → List Float → SolarRollConfig → ℕ → Sweep
-lentSweep targets suns observers config n = sweepOf (planOf targets suns observers config) n
+-- over n even rolls
+abbrev pub evenSweep : Plan → ℕ → Sweep
+evenSweep p n = sweepOf p (evenRolls n) (samplesRefusal n)
 
 -- ---- for the contracts of private functions
+
+-- what is said of n samples refuses n outside 1 to 3,600, perhaps more
+abbrev pub Says : ℕ → ℕ → Type 0
+Says said n = said ≡ 0 → samplesRefusal n ≡ 0
 
 -- a table of the Sun's units, one a time of the plan, or none
 abbrev pub UnitsOf : Plan → List Vector → Type 0

@@ -9,7 +9,7 @@ ghost use Rattle.roll_sweep.specs.Sweep.{Sweep};
 ghost use Rattle.journal.specs.Lines.{headerLength};
 ghost use Rattle.journal.specs.Calls.{workRefusal, recoverReply, collectReply, collectMask};
 ghost use Rattle.journal.specs.Right.{wholeLines};
-ghost use Rattle.journal.specs.Pass.{mostChunks, Flags, Passed};
+ghost use Rattle.journal.specs.Pass.{mostChunks, Tables, Passed};
 use crate::line::LINE_LENGTH;
 use crate::mask::all_seen;
 use crate::mask::write_cells;
@@ -20,7 +20,7 @@ use crate::pass::is_torn;
 use crate::pass::kept_length;
 use buffers::Answer;
 
-// The number of work's first refusal, 0 for none. The flags come blank, and are filled if it is none.
+// The number of work's first refusal, 0 for none. The tables come blank, and are filled if it is none.
 pub(crate) fn work_refusal(
     header: &[u8],
     cells: u64,
@@ -29,27 +29,20 @@ pub(crate) fn work_refusal(
     journal: &[u8],
     used: u64,
     seen: &mut [u8],
+    masks: &mut [u64],
 ) -> u64
     requires { ⌜ (length (now header) ≡ headerLength) × (cells ≤ mostCells) × (n ≤ mostSamples) × (used ≤ length (now journal))
-        × (now seen ≡ replicate mostChunks 0) ⌝ }
+        × (now seen ≡ replicate mostChunks 0) × (now masks ≡ replicate mostChunks 0) ⌝ }
     ensures { λ r.
         let b : List ℕ = now (journal .entry) in
         ⌜ ((s : Sweep) → Passed s cells n (now (header .entry)) (length b) used → r ≡ workRefusal s chunk b used)
-        × (r ≡ 0 → Flags b (wholeLines used) (now (seen .exit))) ⌝ }
+        × (r ≡ 0 → Tables b (wholeLines used) (now (seen .exit)) (now (masks .exit))) ⌝ }
 {
     if (cells + 63) / 64 <= chunk {
         return 9;
     }
-    let mut masks = [0u64; MOST_CHUNKS];
-    let Checked::Right(_) = check_journal(
-        header,
-        cells,
-        n,
-        journal,
-        used as usize,
-        seen,
-        &mut masks,
-    ) else {
+    let Checked::Right(_) = check_journal(header, cells, n, journal, used as usize, seen, masks)
+    else {
         return 11;
     };
     if is_torn(used as usize) {

@@ -1,46 +1,53 @@
 // Begin, work, work over a range, recover and collect on a plan. Each tries its refusals in their order, and writes nothing until all have passed.
 ghost use mathlib.Core.Path.{_≡_};
+ghost use mathlib.Core.List.{List};
+ghost use lib.Ieee.{Float};
+ghost use lib.ListN.{length};
 ghost use Rattle.buffers.specs.Refusal.{replyOf};
+ghost use Rattle.solar_roll.specs.Plan.{Plan, planOf};
 ghost use Rattle.roll_sweep.specs.Sweep.{Sweep};
 ghost use Rattle.journal.specs.Calls.{beginReply, beginBytes, workReply, workBytes, recoverReply, collectReply, collectMask};
 ghost use Rattle.journal.specs.Range.{rangeReply, rangeBytes, rangeStopped};
-ghost use Rattle.journal.specs.Plan.{lentSweep};
+ghost use Rattle.journal.specs.Plan.{sweepOf, evenSweep, Says};
 use crate::accepted::collect_lines;
 use crate::accepted::recover_used;
-use crate::accepted::work_refusal;
 use crate::header::HEADER_LENGTH;
 use crate::header::write_header;
 use crate::line::LINE_LENGTH;
-use crate::pass::MOST_CHUNKS;
 use crate::plan::lent_plan;
-use crate::range::append_lines;
+use crate::range::work_even;
 use buffers::Answer;
-use solar_roll::SolarRollConfig;
+use solar_roll::ConfiguredRoll;
 use solar_roll::plan_refusal;
 use solar_roll::samples_refusal;
 
-// Makes the journal the header, and gives the used length.
-pub fn begin(
+// Begin, over any rolls of this number, of which `said` is said in the place of 3.
+fn begin_samples(
     targets: &[f64],
     suns: &[f64],
     observers: &[f64],
-    config: SolarRollConfig,
-    n: u64,
+    tolerances: &[f64],
+    configured: ConfiguredRoll,
+    panels: &[f64],
+    said: u64,
+    samples: u64,
     journal: &mut [u8],
     used: u64,
 ) -> Answer
     ensures { λ r.
-        let s : Sweep = lentSweep (now (targets .entry)) (now (suns .entry)) (now (observers .entry)) config n in
-        ⌜ (replyOf r ≡ beginReply s (now (journal .entry)) used)
-        × (now (journal .exit) ≡ beginBytes s (now (journal .entry)) used) ⌝ }
+        let p : Plan = planOf (now (targets .entry)) (now (suns .entry)) (now (observers .entry)) (now (tolerances .entry)) configured (now (panels .entry)) in
+        ⌜ ((rolls : List Float) → length rolls ≡ samples → (replyOf r ≡ beginReply (sweepOf p rolls said) (now (journal .entry)) used)
+        × (now (journal .exit) ≡ beginBytes (sweepOf p rolls said) (now (journal .entry)) used)) ⌝ }
 {
     let room = journal.len() as u64;
     let refusal = plan_refusal(
         targets,
         suns,
         observers,
-        config,
-        samples_refusal(n),
+        tolerances,
+        configured,
+        panels,
+        said,
         room < used,
     );
     if refusal != 0 {
@@ -56,10 +63,45 @@ pub fn begin(
         journal,
         (targets.len() / 3) as u64,
         (suns.len() / 3) as u64,
-        n,
-        config,
+        samples,
+        tolerances,
+        configured,
+        panels,
     );
     Answer::Accepted(HEADER_LENGTH as u64)
+}
+
+// Makes the journal the header, and gives the used length.
+pub fn begin(
+    targets: &[f64],
+    suns: &[f64],
+    observers: &[f64],
+    tolerances: &[f64],
+    configured: ConfiguredRoll,
+    panels: &[f64],
+    n: u64,
+    journal: &mut [u8],
+    used: u64,
+) -> Answer
+    ensures { λ r.
+        let p : Plan = planOf (now (targets .entry)) (now (suns .entry)) (now (observers .entry)) (now (tolerances .entry)) configured (now (panels .entry)) in
+        let s : Sweep = evenSweep p n in
+        ⌜ (replyOf r ≡ beginReply s (now (journal .entry)) used)
+        × (now (journal .exit) ≡ beginBytes s (now (journal .entry)) used) ⌝ }
+{
+    let said = samples_refusal(n);
+    begin_samples(
+        targets,
+        suns,
+        observers,
+        tolerances,
+        configured,
+        panels,
+        said,
+        n,
+        journal,
+        used,
+    )
 }
 
 // Sweeps a chunk, appends its line, and gives the used length.
@@ -67,41 +109,58 @@ pub fn work(
     targets: &[f64],
     suns: &[f64],
     observers: &[f64],
-    config: SolarRollConfig,
+    tolerances: &[f64],
+    configured: ConfiguredRoll,
+    panels: &[f64],
     n: u64,
     chunk: u64,
     journal: &mut [u8],
     used: u64,
 ) -> Answer
     ensures { λ r.
-        let s : Sweep = lentSweep (now (targets .entry)) (now (suns .entry)) (now (observers .entry)) config n in
+        let p : Plan = planOf (now (targets .entry)) (now (suns .entry)) (now (observers .entry)) (now (tolerances .entry)) configured (now (panels .entry)) in
+        let s : Sweep = evenSweep p n in
         ⌜ (replyOf r ≡ workReply s chunk (now (journal .entry)) used)
         × (now (journal .exit) ≡ workBytes s chunk (now (journal .entry)) used) ⌝ }
 {
     let room = journal.len() as u64;
-    let plan = lent_plan(targets, suns, observers, config, n, room, used);
+    let said = samples_refusal(n);
+    let plan = lent_plan(
+        targets,
+        suns,
+        observers,
+        tolerances,
+        configured,
+        panels,
+        said,
+        n,
+        room,
+        used,
+    );
     if plan.refusal != 0 {
         return Answer::Refused(plan.refusal);
     }
     let header = plan.header;
-    let mut seen = [0u8; MOST_CHUNKS];
-    let refusal = work_refusal(&header, plan.cells, n, chunk, journal, used, &mut seen);
-    if refusal != 0 {
-        return Answer::Refused(refusal);
-    }
-    append_lines(
+    let worked = work_even(
         targets,
         suns,
         observers,
-        config,
+        tolerances,
+        configured,
+        panels,
         n,
+        &header,
+        plan.cells,
         chunk,
-        chunk + 1,
+        1,
         journal,
         used,
-        &seen,
     );
-    Answer::Accepted(used + LINE_LENGTH as u64)
+    if worked.refusal != 0 {
+        return Answer::Refused(worked.refusal);
+    }
+    let end = used + LINE_LENGTH as u64;
+    Answer::Accepted(end)
 }
 
 // Works of the chunks from, from + 1, .., up to the first that work refuses, or `to`, with one check of the journal at the start. Gives the used
@@ -110,7 +169,9 @@ pub fn work_range(
     targets: &[f64],
     suns: &[f64],
     observers: &[f64],
-    config: SolarRollConfig,
+    tolerances: &[f64],
+    configured: ConfiguredRoll,
+    panels: &[f64],
     n: u64,
     from: u64,
     to: u64,
@@ -119,13 +180,26 @@ pub fn work_range(
     stopped: &mut u64,
 ) -> Answer
     ensures { λ r.
-        let s : Sweep = lentSweep (now (targets .entry)) (now (suns .entry)) (now (observers .entry)) config n in
+        let p : Plan = planOf (now (targets .entry)) (now (suns .entry)) (now (observers .entry)) (now (tolerances .entry)) configured (now (panels .entry)) in
+        let s : Sweep = evenSweep p n in
         ⌜ (replyOf r ≡ rangeReply s from to (now (journal .entry)) used)
         × (now (journal .exit) ≡ rangeBytes s from to (now (journal .entry)) used)
         × (now (stopped .exit) ≡ rangeStopped s from to (now (journal .entry)) used (now (stopped .entry))) ⌝ }
 {
     let room = journal.len() as u64;
-    let plan = lent_plan(targets, suns, observers, config, n, room, used);
+    let said = samples_refusal(n);
+    let plan = lent_plan(
+        targets,
+        suns,
+        observers,
+        tolerances,
+        configured,
+        panels,
+        said,
+        n,
+        room,
+        used,
+    );
     if plan.refusal != 0 {
         return Answer::Refused(plan.refusal);
     }
@@ -133,25 +207,67 @@ pub fn work_range(
         return Answer::Refused(9);
     }
     let header = plan.header;
-    let mut seen = [0u8; MOST_CHUNKS];
-    let refusal = work_refusal(&header, plan.cells, n, from, journal, used, &mut seen);
-    if refusal != 0 {
-        return Answer::Refused(refusal);
-    }
-    let next = append_lines(
+    let worked = work_even(
         targets,
         suns,
         observers,
-        config,
+        tolerances,
+        configured,
+        panels,
         n,
+        &header,
+        plan.cells,
         from,
-        to,
+        to - from,
         journal,
         used,
-        &seen,
     );
+    if worked.refusal != 0 {
+        return Answer::Refused(worked.refusal);
+    }
+    let next = worked.stopped;
     *stopped = next;
-    Answer::Accepted(used + LINE_LENGTH as u64 * (next - from))
+    let lines = next - from;
+    let end = used + LINE_LENGTH as u64 * lines;
+    Answer::Accepted(end)
+}
+
+// Recover, over any rolls of this number, of which `said` is said in the place of 3.
+fn recover_samples(
+    targets: &[f64],
+    suns: &[f64],
+    observers: &[f64],
+    tolerances: &[f64],
+    configured: ConfiguredRoll,
+    panels: &[f64],
+    said: u64,
+    samples: u64,
+    journal: &[u8],
+    used: u64,
+) -> Answer
+    requires { ⌜ Says said samples ⌝ }
+    ensures { λ r.
+        let p : Plan = planOf (now (targets .entry)) (now (suns .entry)) (now (observers .entry)) (now (tolerances .entry)) configured (now (panels .entry)) in
+        ⌜ ((rolls : List Float) → length rolls ≡ samples → replyOf r ≡ recoverReply (sweepOf p rolls said) (now (journal .entry)) used) ⌝ }
+{
+    let room = journal.len() as u64;
+    let plan = lent_plan(
+        targets,
+        suns,
+        observers,
+        tolerances,
+        configured,
+        panels,
+        said,
+        samples,
+        room,
+        used,
+    );
+    if plan.refusal != 0 {
+        return Answer::Refused(plan.refusal);
+    }
+    let header = plan.header;
+    recover_used(&header, plan.cells, samples, journal, used)
 }
 
 // Gives the used length that is left after a power failure.
@@ -159,22 +275,72 @@ pub fn recover(
     targets: &[f64],
     suns: &[f64],
     observers: &[f64],
-    config: SolarRollConfig,
+    tolerances: &[f64],
+    configured: ConfiguredRoll,
+    panels: &[f64],
     n: u64,
     journal: &[u8],
     used: u64,
 ) -> Answer
     ensures { λ r.
-        let s : Sweep = lentSweep (now (targets .entry)) (now (suns .entry)) (now (observers .entry)) config n in
+        let p : Plan = planOf (now (targets .entry)) (now (suns .entry)) (now (observers .entry)) (now (tolerances .entry)) configured (now (panels .entry)) in
+        let s : Sweep = evenSweep p n in
         ⌜ replyOf r ≡ recoverReply s (now (journal .entry)) used ⌝ }
 {
+    let said = samples_refusal(n);
+    recover_samples(
+        targets,
+        suns,
+        observers,
+        tolerances,
+        configured,
+        panels,
+        said,
+        n,
+        journal,
+        used,
+    )
+}
+
+// Collect, over any rolls of this number, of which `said` is said in the place of 3.
+fn collect_samples(
+    targets: &[f64],
+    suns: &[f64],
+    observers: &[f64],
+    tolerances: &[f64],
+    configured: ConfiguredRoll,
+    panels: &[f64],
+    said: u64,
+    samples: u64,
+    journal: &[u8],
+    used: u64,
+    mask: &mut [u8],
+) -> Answer
+    requires { ⌜ Says said samples ⌝ }
+    ensures { λ r.
+        let p : Plan = planOf (now (targets .entry)) (now (suns .entry)) (now (observers .entry)) (now (tolerances .entry)) configured (now (panels .entry)) in
+        ⌜ ((rolls : List Float) → length rolls ≡ samples
+        → (replyOf r ≡ collectReply (sweepOf p rolls said) (now (journal .entry)) used (now (mask .entry)))
+        × (now (mask .exit) ≡ collectMask (sweepOf p rolls said) (now (journal .entry)) used (now (mask .entry)))) ⌝ }
+{
     let room = journal.len() as u64;
-    let plan = lent_plan(targets, suns, observers, config, n, room, used);
+    let plan = lent_plan(
+        targets,
+        suns,
+        observers,
+        tolerances,
+        configured,
+        panels,
+        said,
+        samples,
+        room,
+        used,
+    );
     if plan.refusal != 0 {
         return Answer::Refused(plan.refusal);
     }
     let header = plan.header;
-    recover_used(&header, plan.cells, n, journal, used)
+    collect_lines(&header, plan.cells, samples, journal, used, mask)
 }
 
 // Writes the mask that the journal's lines hold, and gives the sum of their probes.
@@ -182,22 +348,32 @@ pub fn collect(
     targets: &[f64],
     suns: &[f64],
     observers: &[f64],
-    config: SolarRollConfig,
+    tolerances: &[f64],
+    configured: ConfiguredRoll,
+    panels: &[f64],
     n: u64,
     journal: &[u8],
     used: u64,
     mask: &mut [u8],
 ) -> Answer
     ensures { λ r.
-        let s : Sweep = lentSweep (now (targets .entry)) (now (suns .entry)) (now (observers .entry)) config n in
+        let p : Plan = planOf (now (targets .entry)) (now (suns .entry)) (now (observers .entry)) (now (tolerances .entry)) configured (now (panels .entry)) in
+        let s : Sweep = evenSweep p n in
         ⌜ (replyOf r ≡ collectReply s (now (journal .entry)) used (now (mask .entry)))
         × (now (mask .exit) ≡ collectMask s (now (journal .entry)) used (now (mask .entry))) ⌝ }
 {
-    let room = journal.len() as u64;
-    let plan = lent_plan(targets, suns, observers, config, n, room, used);
-    if plan.refusal != 0 {
-        return Answer::Refused(plan.refusal);
-    }
-    let header = plan.header;
-    collect_lines(&header, plan.cells, n, journal, used, mask)
+    let said = samples_refusal(n);
+    collect_samples(
+        targets,
+        suns,
+        observers,
+        tolerances,
+        configured,
+        panels,
+        said,
+        n,
+        journal,
+        used,
+        mask,
+    )
 }

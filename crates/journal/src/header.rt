@@ -2,14 +2,16 @@
 ghost use mathlib.Core.Path.{_≡_};
 ghost use mathlib.Core.List.{List};
 ghost use Prim.Native.Nat.{ℕ, _≤_};
-ghost use lib.ListN.{length};
+ghost use lib.ListN.{length, getD};
 ghost use Rattle.buffers.specs.Lent.{over};
+ghost use Rattle.float.specs.Arithmetic.{zero·0};
+ghost use Rattle.solar_roll.specs.Plan.{triple};
 ghost use Rattle.journal.specs.Lines.{headerLength};
 ghost use Rattle.journal.specs.Header.{headerText, hasRoll, rollBits, settingsHeader};
 use crate::hex::write_fields;
 use float::bits;
 use solar_roll::ConfiguredRoll;
-use solar_roll::SolarRollConfig;
+use solar_roll::triple;
 
 // How many bytes a header has, with its 0a.
 pub(crate) const HEADER_LENGTH: usize = 107;
@@ -56,22 +58,30 @@ fn roll_bits(configured: ConfiguredRoll) -> u64
     }
 }
 
+// The first number of xs, 0 for none.
+fn first_or_zero(xs: &[f64]) -> f64
+    ensures { λ r. ⌜ r ≡ getD (now (xs .entry)) 0 zero·0 ⌝ }
+{
+    if 0 < xs.len() { xs[0] } else { 0.0 }
+}
+
 // Writes the header of a plan's settings.
 pub(crate) fn write_header(
     out: &mut [u8],
     targets: u64,
     times: u64,
     n: u64,
-    config: SolarRollConfig,
+    tolerances: &[f64],
+    configured: ConfiguredRoll,
+    panels: &[f64],
 )
     requires { ⌜ headerLength ≤ length (now out) ⌝ }
     ensures { λ r.
-        let text : List ℕ = settingsHeader targets times n (config .«tolerance_deg») (config .«roll_deg») (config .«panel_normal») in
+        let text : List ℕ = settingsHeader targets times n (getD (now (tolerances .entry)) 0 zero·0) configured (triple (now (panels .entry)) 0) in
         ⌜ now (out .exit) ≡ over text (now (out .entry)) ⌝ }
 {
-    let configured = config.roll_deg;
-    let panel = config.panel_normal;
-    let tolerance = bits(config.tolerance_deg);
+    let panel = triple(panels, 0);
+    let tolerance = bits(first_or_zero(tolerances));
     let has = has_roll(configured);
     let roll = roll_bits(configured);
     let x = bits(panel[0]);

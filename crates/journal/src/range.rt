@@ -1,7 +1,8 @@
-// The lines of a range of chunks, once nothing but 9, 10 and 7 of work's refusals is left to be tried. The rolls are a table that is filled once, and
-// so are the Sun's units where that pays.
+// Work over a range of chunks, once the plan has passed. The journal is checked once; the rolls are a table that is filled once, and so are the Sun's
+// units where that pays.
 ghost use mathlib.Core.Path.{_≡_};
 ghost use mathlib.Core.Bool.{true, not, _||_};
+ghost use mathlib.Core.List.{List};
 ghost use Prim.Native.Nat.{ℕ, _+_, _-_, _*_, _%_, _≤_, _<_};
 ghost use lib.Dec.{leb, ltb, eqb};
 ghost use lib.ListN.{length, getD, take};
@@ -10,22 +11,24 @@ ghost use Rattle.solar_roll.specs.Vectors.{Vector};
 ghost use Rattle.solar_roll.specs.Roll.{sunUnit};
 ghost use Rattle.solar_roll.specs.Plan.{Plan, planOf, count, rowsOf, timesOf, triple, mostCells, mostSamples, PlanFacts};
 ghost use Rattle.roll_sweep.specs.Sweep.{Sweep, chunks};
-ghost use Rattle.roll_sweep.specs.Rolls.{evenRolls};
 ghost use Rattle.roll_sweep.specs.Chunk.{sweptOf, chunkReply};
 ghost use Rattle.roll_sweep.specs.declared.chunk.Swept.{Swept};
 ghost use Rattle.buffers.specs.Refusal.{accepted};
 ghost use Rattle.journal.specs.Lines.{lineLength};
-ghost use Rattle.journal.specs.Pass.{mostChunks, Ready};
-ghost use Rattle.journal.specs.Plan.{lentSweep, UnitsOf, tableTimes};
+ghost use Rattle.journal.specs.Calls.{workRefusal};
+ghost use Rattle.journal.specs.Pass.{mostChunks, Passed, Ready};
+ghost use Rattle.journal.specs.Plan.{sweepOf, evenSweep, UnitsOf, tableTimes};
 ghost use Rattle.journal.specs.Range.{ranTo, ran};
+use crate::accepted::work_refusal;
 use crate::line::LINE_LENGTH;
 use crate::line::append_line;
+use crate::pass::MOST_CHUNKS;
 use roll_sweep::ChunkAnswer;
 use roll_sweep::Swept;
 use roll_sweep::cells_in;
 use roll_sweep::even_rolls;
 use roll_sweep::sweep_chunk;
-use solar_roll::SolarRollConfig;
+use solar_roll::ConfiguredRoll;
 use solar_roll::sun_unit;
 use solar_roll::sun_units;
 use solar_roll::triple;
@@ -72,31 +75,51 @@ fn chunk_units(suns: &[f64], observers: &[f64], first: usize, cells: usize) -> [
     units
 }
 
-// Sweeps a chunk of an accepted plan over its even rolls: by a table of the Sun's units of all times, if there is one, else
-// by those of its own cells.
-fn sweep_even(
+// Sweeps a chunk of an accepted plan over rolls: by a table of the Sun's units of all times, if there is one, else by those of its own cells.
+fn sweep_rolls(
     targets: &[f64],
     suns: &[f64],
     observers: &[f64],
-    config: SolarRollConfig,
+    tolerances: &[f64],
+    configured: ConfiguredRoll,
+    panels: &[f64],
     rolls: &[f64],
     units: &[[f64; 3]],
     chunk: u64,
 ) -> Swept
-    requires { let p : Plan = planOf (now targets) (now suns) (now observers) config in
-        ⌜ PlanFacts p × (1 ≤ length (now rolls)) × (length (now rolls) ≤ mostSamples) × (now rolls ≡ evenRolls (length (now rolls)))
+    requires { let p : Plan = planOf (now targets) (now suns) (now observers) (now tolerances) configured (now panels) in
+        ⌜ PlanFacts p × (1 ≤ length (now rolls)) × (length (now rolls) ≤ mostSamples)
         × UnitsOf p (now units) × (chunk < chunks (rowsOf p * timesOf p)) ⌝ }
     ensures { λ r.
-        let s : Sweep = lentSweep (now (targets .entry)) (now (suns .entry)) (now (observers .entry)) config (length (now (rolls .entry))) in
+        let p : Plan = planOf (now (targets .entry)) (now (suns .entry)) (now (observers .entry)) (now (tolerances .entry)) configured (now (panels .entry)) in
+        let s : Sweep = sweepOf p (now (rolls .entry)) 0 in
         ⌜ r ≡ sweptOf s chunk ⌝ }
 {
     let times = suns.len() / 3;
     if 0 < units.len() {
-        return accepted(sweep_chunk(targets, times, units, config, rolls, chunk));
+        return accepted(sweep_chunk(
+            targets,
+            times,
+            units,
+            tolerances,
+            configured,
+            panels,
+            rolls,
+            chunk,
+        ));
     }
     let cells = cells_in((targets.len() / 3 * times) as u64, chunk) as usize;
     let own = chunk_units(suns, observers, 64 * chunk as usize, cells);
-    accepted(sweep_chunk(targets, times, &own, config, rolls, chunk))
+    accepted(sweep_chunk(
+        targets,
+        times,
+        &own,
+        tolerances,
+        configured,
+        panels,
+        rolls,
+        chunk,
+    ))
 }
 
 // Work refuses the chunk: it does not exist, it has a line, or there is no room for one.
@@ -114,54 +137,66 @@ fn is_refused(seen: &[u8], chunks: u64, free: usize, chunk: u64) -> bool
     free < LINE_LENGTH
 }
 
-// Appends the lines of from, from + 1, .., up to the first chunk that work refuses, or `to`. Gives the chunk at which it stopped.
+// Appends the lines of up to `limit` chunks from `from` on, stopping at the first that work refuses. Gives the chunk at which it stopped.
 fn append_swept(
     targets: &[f64],
     suns: &[f64],
     observers: &[f64],
-    config: SolarRollConfig,
+    tolerances: &[f64],
+    configured: ConfiguredRoll,
+    panels: &[f64],
     rolls: &[f64],
     units: &[[f64; 3]],
     from: u64,
-    to: u64,
+    limit: u64,
     journal: &mut [u8],
     used: u64,
     seen: &[u8],
 ) -> u64
-    requires { ⌜ (now rolls ≡ evenRolls (length (now rolls))) × UnitsOf (planOf (now targets) (now suns) (now observers) config) (now units)
-        × Ready (lentSweep (now targets) (now suns) (now observers) config (length (now rolls))) (now journal) used (now seen) ⌝ }
+    requires { let p : Plan = planOf (now targets) (now suns) (now observers) (now tolerances) configured (now panels) in
+        ⌜ UnitsOf p (now units) × ((masks : List ℕ) × Ready (sweepOf p (now rolls) 0) (now journal) used (now seen) masks) ⌝ }
     ensures { λ r.
-        let s : Sweep = lentSweep (now (targets .entry)) (now (suns .entry)) (now (observers .entry)) config (length (now (rolls .entry))) in
-        ⌜ ranTo (now (journal .exit)) (used + lineLength * (r - from)) r ≡ ran s (to - from) (ranTo (now (journal .entry)) used from) ⌝ }
+        let p : Plan = planOf (now (targets .entry)) (now (suns .entry)) (now (observers .entry)) (now (tolerances .entry)) configured (now (panels .entry)) in
+        let s : Sweep = sweepOf p (now (rolls .entry)) 0 in
+        ⌜ ranTo (now (journal .exit)) (used + lineLength * (r - from)) r ≡ ran s limit (ranTo (now (journal .entry)) used from) ⌝ }
 {
     let chunks = ((targets.len() / 3 * (suns.len() / 3) + 63) / 64) as u64;
     let mut at = used as usize;
     let mut chunk = from;
-    while chunk < to {
+    let mut left = limit;
+    while 0 < left {
         if is_refused(seen, chunks, journal.len() - at, chunk) {
             return chunk;
         }
-        let swept = sweep_even(targets, suns, observers, config, rolls, units, chunk);
+        let swept = sweep_rolls(
+            targets,
+            suns,
+            observers,
+            tolerances,
+            configured,
+            panels,
+            rolls,
+            units,
+            chunk,
+        );
         append_line(journal, at, chunk, swept.mask, swept.probes);
         at += LINE_LENGTH;
         chunk += 1;
+        left -= 1;
     }
     chunk
 }
 
 // Whether a table of the Sun's units of all times pays: it has room for them, and there are cells enough that use one again. 8 chunks pay for
 // blanking it.
-fn pays(times: usize, from: u64, to: u64) -> bool
+fn pays(times: usize, limit: u64) -> bool
     ensures { λ r. ⌜ (r ≡ true → times ≤ tableTimes) ⌝ }
 {
     if TABLE_TIMES < times {
         return false;
     }
-    if to <= from {
-        return false;
-    }
     let paid = times / 64 + 8;
-    (paid as u64) < to - from
+    (paid as u64) < limit
 }
 
 // The same, by such a table.
@@ -169,19 +204,22 @@ fn append_by_units(
     targets: &[f64],
     suns: &[f64],
     observers: &[f64],
-    config: SolarRollConfig,
+    tolerances: &[f64],
+    configured: ConfiguredRoll,
+    panels: &[f64],
     rolls: &[f64],
     from: u64,
-    to: u64,
+    limit: u64,
     journal: &mut [u8],
     used: u64,
     seen: &[u8],
 ) -> u64
-    requires { ⌜ (now rolls ≡ evenRolls (length (now rolls))) × (count (now suns) ≤ tableTimes)
-        × Ready (lentSweep (now targets) (now suns) (now observers) config (length (now rolls))) (now journal) used (now seen) ⌝ }
+    requires { let p : Plan = planOf (now targets) (now suns) (now observers) (now tolerances) configured (now panels) in
+        ⌜ (count (now suns) ≤ tableTimes) × ((masks : List ℕ) × Ready (sweepOf p (now rolls) 0) (now journal) used (now seen) masks) ⌝ }
     ensures { λ r.
-        let s : Sweep = lentSweep (now (targets .entry)) (now (suns .entry)) (now (observers .entry)) config (length (now (rolls .entry))) in
-        ⌜ ranTo (now (journal .exit)) (used + lineLength * (r - from)) r ≡ ran s (to - from) (ranTo (now (journal .entry)) used from) ⌝ }
+        let p : Plan = planOf (now (targets .entry)) (now (suns .entry)) (now (observers .entry)) (now (tolerances .entry)) configured (now (panels .entry)) in
+        let s : Sweep = sweepOf p (now (rolls .entry)) 0 in
+        ⌜ ranTo (now (journal .exit)) (used + lineLength * (r - from)) r ≡ ran s limit (ranTo (now (journal .entry)) used from) ⌝ }
 {
     let mut units = [[0.0; 3]; TABLE_TIMES];
     sun_units(suns, observers, 0, &mut units);
@@ -190,47 +228,52 @@ fn append_by_units(
         targets,
         suns,
         observers,
-        config,
+        tolerances,
+        configured,
+        panels,
         rolls,
         &units[..end],
         from,
-        to,
+        limit,
         journal,
         used,
         seen,
     )
 }
 
-// The same, at n even steps.
-pub(crate) fn append_lines(
+// The same, by one where it pays.
+fn append_lines(
     targets: &[f64],
     suns: &[f64],
     observers: &[f64],
-    config: SolarRollConfig,
-    n: u64,
+    tolerances: &[f64],
+    configured: ConfiguredRoll,
+    panels: &[f64],
+    rolls: &[f64],
     from: u64,
-    to: u64,
+    limit: u64,
     journal: &mut [u8],
     used: u64,
     seen: &[u8],
 ) -> u64
-    requires { ⌜ Ready (lentSweep (now targets) (now suns) (now observers) config n) (now journal) used (now seen) ⌝ }
+    requires { let p : Plan = planOf (now targets) (now suns) (now observers) (now tolerances) configured (now panels) in
+        ⌜ ((masks : List ℕ) × Ready (sweepOf p (now rolls) 0) (now journal) used (now seen) masks) ⌝ }
     ensures { λ r.
-        let s : Sweep = lentSweep (now (targets .entry)) (now (suns .entry)) (now (observers .entry)) config n in
-        ⌜ ranTo (now (journal .exit)) (used + lineLength * (r - from)) r ≡ ran s (to - from) (ranTo (now (journal .entry)) used from) ⌝ }
+        let p : Plan = planOf (now (targets .entry)) (now (suns .entry)) (now (observers .entry)) (now (tolerances .entry)) configured (now (panels .entry)) in
+        let s : Sweep = sweepOf p (now (rolls .entry)) 0 in
+        ⌜ ranTo (now (journal .exit)) (used + lineLength * (r - from)) r ≡ ran s limit (ranTo (now (journal .entry)) used from) ⌝ }
 {
-    let mut rolls = [0.0; MOST_SAMPLES];
-    even_rolls(n as u32, &mut rolls);
-    let end = n as usize;
-    if pays(suns.len() / 3, from, to) {
+    if pays(suns.len() / 3, limit) {
         return append_by_units(
             targets,
             suns,
             observers,
-            config,
-            &rolls[..end],
+            tolerances,
+            configured,
+            panels,
+            rolls,
             from,
-            to,
+            limit,
             journal,
             used,
             seen,
@@ -241,13 +284,129 @@ pub(crate) fn append_lines(
         targets,
         suns,
         observers,
-        config,
-        &rolls[..end],
+        tolerances,
+        configured,
+        panels,
+        rolls,
         &none,
         from,
-        to,
+        limit,
         journal,
         used,
         seen,
+    )
+}
+
+// What work of a range's first chunk is refused with, 0 for none; and the chunk at which the range stopped.
+pub struct Worked {
+    pub refusal: u64,
+    pub stopped: u64,
+}
+
+// Works of up to `limit` chunks from `from` on, of a plan that has passed, stopping at the first that work refuses.
+pub(crate) fn work_chunks(
+    targets: &[f64],
+    suns: &[f64],
+    observers: &[f64],
+    tolerances: &[f64],
+    configured: ConfiguredRoll,
+    panels: &[f64],
+    rolls: &[f64],
+    header: &[u8],
+    cells: u64,
+    from: u64,
+    limit: u64,
+    journal: &mut [u8],
+    used: u64,
+) -> Worked
+    requires { let p : Plan = planOf (now targets) (now suns) (now observers) (now tolerances) configured (now panels) in
+        ⌜ Passed (sweepOf p (now rolls) 0) cells (length (now rolls)) (now header) (length (now journal)) used ⌝ }
+    ensures { λ r.
+        let p : Plan = planOf (now (targets .entry)) (now (suns .entry)) (now (observers .entry)) (now (tolerances .entry)) configured (now (panels .entry)) in
+        let s : Sweep = sweepOf p (now (rolls .entry)) 0 in
+        let b : List ℕ = now (journal .entry) in
+        ⌜ (r .refusal ≡ workRefusal s from b used)
+        × (ranTo (now (journal .exit)) (used + lineLength * (r .stopped - from)) (r .stopped) ≡ ran s limit (ranTo b used from)) ⌝ }
+{
+    let mut seen = [0u8; MOST_CHUNKS];
+    let mut masks = [0u64; MOST_CHUNKS];
+    let refusal = work_refusal(
+        header,
+        cells,
+        rolls.len() as u64,
+        from,
+        journal,
+        used,
+        &mut seen,
+        &mut masks,
+    );
+    if refusal != 0 {
+        return Worked {
+            refusal: refusal,
+            stopped: from,
+        };
+    }
+    let stopped = append_lines(
+        targets,
+        suns,
+        observers,
+        tolerances,
+        configured,
+        panels,
+        rolls,
+        from,
+        limit,
+        journal,
+        used,
+        &seen,
+    );
+    Worked {
+        refusal: 0,
+        stopped: stopped,
+    }
+}
+
+// The same, over n even rolls.
+pub(crate) fn work_even(
+    targets: &[f64],
+    suns: &[f64],
+    observers: &[f64],
+    tolerances: &[f64],
+    configured: ConfiguredRoll,
+    panels: &[f64],
+    n: u64,
+    header: &[u8],
+    cells: u64,
+    from: u64,
+    limit: u64,
+    journal: &mut [u8],
+    used: u64,
+) -> Worked
+    requires { let p : Plan = planOf (now targets) (now suns) (now observers) (now tolerances) configured (now panels) in
+        ⌜ Passed (evenSweep p n) cells n (now header) (length (now journal)) used ⌝ }
+    ensures { λ r.
+        let p : Plan = planOf (now (targets .entry)) (now (suns .entry)) (now (observers .entry)) (now (tolerances .entry)) configured (now (panels .entry)) in
+        let s : Sweep = evenSweep p n in
+        let b : List ℕ = now (journal .entry) in
+        ⌜ (r .refusal ≡ workRefusal s from b used)
+        × (ranTo (now (journal .exit)) (used + lineLength * (r .stopped - from)) (r .stopped) ≡ ran s limit (ranTo b used from)) ⌝ }
+{
+    let mut rolls = [0.0; MOST_SAMPLES];
+    even_rolls(n as u32, &mut rolls);
+    let end = n as usize;
+    work_chunks(
+        targets,
+        suns,
+        observers,
+        tolerances,
+        configured,
+        panels,
+        &rolls[..end],
+        header,
+        cells,
+        from,
+        limit,
+        journal,
+        used,
     )
 }

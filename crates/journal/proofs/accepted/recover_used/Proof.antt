@@ -1,4 +1,5 @@
 -- `journal::accepted::recover_used` meets its contract. Assumes nothing.
+use mathlib.Core.Bool.{true, false}
 use mathlib.Core.Path.{sym, _∙_}
 use native.Mathlib.Omega.{arith}
 use borrow.Author.Needs.{needs}
@@ -7,6 +8,9 @@ use Rattle.journal.proofs.Chains.{wrong-of, recover-11, recover-0, reco
 use Rattle.journal.proofs.Scan.{told-wrong, told-right}
 use Rattle.journal.proofs.accepted.recover_used.Statement.{statement}
 use Rattle.journal.proofs.accepted.recover_used.Tie as tie
+
+abbrev Start-of : tie.After-check-journal → tie.Start
+Start-of c = c .before .before .before .before .before
 
 slice-aggregate-check-journal : tie.Need-slice-aggregate-check-journal
 slice-aggregate-check-journal c = search needs
@@ -28,20 +32,19 @@ enum-told-2 c = search needs
 
 returns : tie.Need-returns
 returns c =
-    let x = c .before .before .before .before .before .before .before .before .before .before in
-    let a = x .args in
+    let k = c .before .before .before .before .before in
+    let a = Start-of k .args in
     let b = a .journal .now in
-    let r = told-right _ _ _ (sym (c .before .before .before .before .before .check-journal .ensures .0) ∙ c .before .enum-told .given .1) in
-    let tables = c .before .before .before .before .before .check-journal .ensures .1 (r .0) in
-    λ s p. recover-accepted s b (a .used) _ (c .kept-length .ensures) (recover-0 s b (a .used) (p .plan) (wrong-of s (a .cells) (a .n) (a .header .now) b (a .used) _ p (r .0)))
+    let r = told-right _ _ _ (sym (k .check-journal .ensures .0) ∙ c .before .enum-told .given .1) in
+    λ s p. recover-accepted s b (a .used) _ (c .kept-length .ensures) (recover-0 s b (a .used) (p .plan) (wrong-of s (a .cells) (a .n) (a .header .now) b (a .used) true p (r .0)))
 
 returns-2 : tie.Need-returns-2
 returns-2 c =
-    let x = c .before .before .before .before .before .before .before .before .before in
-    let a = x .args in
+    let k = c .before .before .before .before in
+    let a = Start-of k .args in
     let b = a .journal .now in
     λ s p. recover-refused s b (a .used) 11 (sym (recover-11 s b (a .used) (p .plan)
-    (wrong-of s (a .cells) (a .n) (a .header .now) b (a .used) _ p (told-wrong _ _ (sym (c .before .before .before .before .check-journal .ensures .0) ∙ c .enum-told2 .given .1))))) (λ z. omega arith)
+    (wrong-of s (a .cells) (a .n) (a .header .now) b (a .used) false p (told-wrong _ _ (sym (k .check-journal .ensures .0) ∙ c .enum-told2 .given .1))))) (λ z. omega arith)
 
 pub recover-used-spec : {M : Type 1} → statement M
 recover-used-spec =

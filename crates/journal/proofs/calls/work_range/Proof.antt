@@ -1,136 +1,159 @@
 -- `journal::calls::work_range` meets its contract. Assumes nothing.
-use mathlib.Core.Path.{_≡_, refl, sym, _∙_, subst}
+use mathlib.Core.Path.{_≡_, sym, ap, _∙_, subst}
 use Prim.Native.Nat.{_+_, _-_, _*_, _≤_}
 use native.Mathlib.Omega.{arith}
+use lib.Dec.{ltb}
 use lib.ListN.{length}
 use borrow.Author.Needs.{needs}
+use Rattle.solar_roll.specs.Plan.{Plan, planOf}
 use Rattle.roll_sweep.specs.Sweep.{Sweep}
+use Rattle.roll_sweep.specs.Rolls.{evenRolls}
+use Rattle.roll_sweep.proofs.Even.{length-even}
 use Rattle.journal.specs.Lines.{lineLength}
-use Rattle.journal.specs.Calls.{workRefusal}
 use Rattle.journal.specs.Pass.{Passed}
-use Rattle.journal.specs.Plan.{lentSweep}
-use Rattle.journal.specs.Range.{rangeConditions, rangeRefusal}
-use Rattle.journal.proofs.Along.{Came, came, ready}
+use Rattle.journal.specs.Plan.{evenSweep}
+use Rattle.journal.specs.Range.{Ran, rangeConditions, rangeRefusal}
+use Rattle.journal.proofs.Along.{Came, came, ran-refused}
 use Rattle.journal.proofs.Chains.{plan-refused, range-9, range-work, range-refused, range-accepted}
+use Rattle.journal.proofs.Planned.{even-said}
 use Rattle.journal.proofs.calls.work_range.Statement.{statement}
 use Rattle.journal.proofs.calls.work_range.Tie as tie
 
 -- ---- what is known at the places of the code
 
-abbrev sweep : tie.Start → Sweep
-sweep x = lentSweep (x .args .targets .now) (x .args .suns .now) (x .args .observers .now) (x .args .config) (x .args .n)
+abbrev Start-of : tie.After-samples-refusal → tie.Start
+Start-of c = c .before .before .before .before .before .before .before
 
--- the plan has passed
+abbrev lent : tie.After-samples-refusal → Plan
+lent c = let a = Start-of c .args in planOf (a .targets .now) (a .suns .now) (a .observers .now) (a .tolerances .now) (a .configured) (a .panels .now)
+
+abbrev sweep : tie.After-samples-refusal → Sweep
+sweep c = evenSweep (lent c) (Start-of c .args .n)
+
+-- the plan's refusal, and what is known if it is none
+plan : (c : tie.After-lent-plan) →
+    let a = Start-of (c .before) .args in
+    let p = c .lent-plan .result in
+    (p .refusal ≡ (sweep (c .before)) .refusal (ltb (length (a .journal .now)) (a .used)))
+    × (p .refusal ≡ 0 → Passed (sweep (c .before)) (p .cells) (a .n) (p .header) (length (a .journal .now)) (a .used))
+plan c =
+    let k = c .before in
+    let a = Start-of k .args in
+    let p = c .lent-plan .result in
+    subst (λ (s : Sweep). (p .refusal ≡ s .refusal (ltb (length (a .journal .now)) (a .used))) × (p .refusal ≡ 0 → Passed s (p .cells) (a .n) (p .header) (length (a .journal .now)) (a .used)))
+    (even-said (lent k) (a .n) _ (k .samples-refusal .ensures)) (c .lent-plan .ensures (evenRolls (a .n)) (length-even (a .n)))
+
 passes : (c : tie.Else1) →
-    let x = c .before .before .before .before .before .before .before in
+    let k = c .before .before .before in
+    let a = Start-of k .args in
     let p = c .before .before .lent-plan .result in
-    Passed (sweep x) (p .cells) (x .args .n) (p .header) (length (x .args .journal .now)) (x .args .used)
-passes c = c .before .before .lent-plan .ensures .1 (c .if1 .left)
+    Passed (sweep k) (p .cells) (a .n) (p .header) (length (a .journal .now)) (a .used)
+passes c = plan (c .before .before) .1 (c .if1 .left)
 
--- what work of the first chunk is refused with, and so the range
-found : (c : tie.After-work-refusal) →
-    let x = c .before .before .before .before .before .before .before .before .before .before .before .before .before in
-    c .work-refusal .result ≡ workRefusal (sweep x) (x .args .from) (x .args .journal .now) (x .args .used)
-found c = c .work-refusal .ensures .0 _ (passes (c .before .before .before .before .before .before))
-
-refused-with : (c : tie.After-work-refusal) →
-    let x = c .before .before .before .before .before .before .before .before .before .before .before .before .before in
-    c .work-refusal .result ≡ rangeRefusal (sweep x) (x .args .from) (x .args .to) (x .args .journal .now) (x .args .used)
+-- what work of the first chunk is refused with, the range is
+refused-with : (c : tie.After-work-even) →
+    let k = c .before .before .before .before .before .before .before .before in
+    let a = Start-of k .args in
+    c .work-even .result .refusal ≡ rangeRefusal (sweep k) (a .from) (a .to) (a .journal .now) (a .used)
 refused-with c =
-    let k = c .before .before .before .before .before in
-    let a = k .before .before .before .before .before .before .before .before .args in
-    found c ∙ sym (range-work _ (a .from) (a .to) (a .journal .now) (a .used) (passes (k .before) .plan) (omega (arith, k .if2 .left)))
+    let o = c .before .before .before .before in
+    let k = o .before .before .before .before in
+    let a = Start-of k .args in
+    c .work-even .ensures .0 ∙ sym (range-work (sweep k) (a .from) (a .to) (a .journal .now) (a .used) (passes (o .before) .plan) (omega (arith, o .if2 .left)))
 
 -- where it stopped: no chunk before the first, and there was room for each line
-come : (c : tie.After-append-lines) →
-    let a = c .before .before .before .before .before .before .before .before .before .before .before .before .before .before .before .before .before .before .args in
-    (a .from ≤ c .append-lines .result) × (a .used + lineLength * (c .append-lines .result - a .from) ≤ length (a .journal .now))
+come : (c : tie.After-work-even) →
+    let a = Start-of (c .before .before .before .before .before .before .before .before) .args in
+    let next = c .work-even .result .stopped in
+    (a .from ≤ next) × (a .used + lineLength * (next - a .from) ≤ length (a .journal .now))
 come c =
-    let k = c .before .before .before .before .before .before .before .before .before .before .before in
-    let x = k .before .before .before .before .before .before .before in
-    let a = x .args in
-    let r = subst (Came (a .journal .now) (a .used) (a .from)) (sym (c .append-lines .ensures)) (came (sweep x) (a .to - a .from) (a .journal .now) (a .used) (a .from) (passes k .used)) in
+    let o = c .before .before .before .before .before in
+    let k = o .before .before .before in
+    let a = Start-of k .args in
+    let r = subst (Came (a .journal .now) (a .used) (a .from)) (sym (c .work-even .ensures .1)) (came (sweep k) (a .to - a .from) (a .journal .now) (a .used) (a .from) (passes o .used)) in
     (r .since, r .within)
 
+samples-refusal-requires : tie.Need-samples-refusal-requires
+samples-refusal-requires c κs = search needs
+
 lent-plan-requires : tie.Need-lent-plan-requires
-lent-plan-requires c κs = search needs
+lent-plan-requires c κs e = sym (c .samples-refusal .ensures) ∙ e
 
 returns : tie.Need-returns
 unfolding rangeRefusal
 returns c =
-    let x = c .before .before .before .before .before .before .before in
-    let a = x .args in
-    range-refused (sweep x) (a .from) (a .to) (a .journal .now) (a .used) (a .stopped .now) _
-    (plan-refused (sweep x) (a .journal .now) (a .used) (rangeConditions (sweep x) (a .from) (a .to) (a .journal .now) (a .used)) _ (c .before .before .lent-plan .ensures .0) (c .if1 .taken)) (c .if1 .taken)
+    let k = c .before .before .before in
+    let s = sweep k in
+    let a = Start-of k .args in
+    let b = a .journal .now in
+    range-refused s (a .from) (a .to) b (a .used) (a .stopped .now) _
+    (plan-refused s b (a .used) (rangeConditions s (a .from) (a .to) b (a .used)) _ (plan (c .before .before) .0) (c .if1 .taken)) (c .if1 .taken)
 
 returns-2 : tie.Need-returns-2
 returns-2 c =
-    let x = c .before .before .before .before .before .before .before .before in
-    let a = x .args in
-    range-refused (sweep x) (a .from) (a .to) (a .journal .now) (a .used) (a .stopped .now) 9
-    (sym (range-9 (sweep x) (a .from) (a .to) (a .journal .now) (a .used) (passes (c .before) .plan) (c .if2 .taken))) (λ z. omega arith)
+    let k = c .before .before .before .before in
+    let s = sweep k in
+    let a = Start-of k .args in
+    range-refused s (a .from) (a .to) (a .journal .now) (a .used) (a .stopped .now) 9
+    (sym (range-9 s (a .from) (a .to) (a .journal .now) (a .used) (passes (c .before) .plan) (c .if2 .taken))) (λ z. omega arith)
 
-slice-aggregate-work-refusal : tie.Need-slice-aggregate-work-refusal
-slice-aggregate-work-refusal c = search needs
+slice-aggregate-work-even : tie.Need-slice-aggregate-work-even
+slice-aggregate-work-even c = search needs
 
-slice-aggregate-work-refusal-2 : tie.Need-slice-aggregate-work-refusal-2
-slice-aggregate-work-refusal-2 c = search needs
+sub-work-even : tie.Need-sub-work-even
+sub-work-even c = search needs
 
-work-refusal-requires : tie.Need-work-refusal-requires
-work-refusal-requires c κs = let q = passes (c .before .before .before .before .before) in (q .size, q .few, q .most, q .used, refl)
+work-even-requires : tie.Need-work-even-requires
+work-even-requires c κs = passes (c .before .before .before .before)
 
 same-length : tie.Need-same-length
 same-length c = search needs
 
 returns-3 : tie.Need-returns-3
 returns-3 c =
-    let k = c .before .before in
-    let a = k .before .before .before .before .before .before .before .before .before .before .before .before .before .args in
-    range-refused _ (a .from) (a .to) (a .journal .now) (a .used) (a .stopped .now) _ (refused-with k) (c .if3 .taken)
+    let o = c .before .before .before .before in
+    let k = o .before .before .before .before .before .before .before .before in
+    let s = sweep k in
+    let a = Start-of k .args in
+    let b = a .journal .now in
+    let worked = o .work-even .ensures in
+    let q = range-refused s (a .from) (a .to) b (a .used) (a .stopped .now) _ (refused-with o) (c .if3 .taken) in
+    (q .0, ap (λ (r : Ran). r .bytes) (worked .1 ∙ ran-refused s b (a .used) (a .from) (a .to - a .from) _ (worked .0) (c .if3 .taken)) ∙ q .1, q .2)
 
-slice-aggregate-append-lines : tie.Need-slice-aggregate-append-lines
-slice-aggregate-append-lines c = search needs
+sub-lines : tie.Need-sub-lines
+sub-lines c = (come (c .before .before .before .before)) .0
 
-append-lines-requires : tie.Need-append-lines-requires
-append-lines-requires c κs =
-    let k = c .before .before in
-    ready _ _ _ _ _ (sym (found (k .before .before)) ∙ k .if3 .left) (k .before .before .work-refusal .ensures .1 (k .if3 .left))
+mul-end : tie.Need-mul-end
+mul-end c = omega (arith, come (c .before .before .before .before), Start-of (c .before .before .before .before .before .before .before .before .before .before .before .before) .good .1 .1 .1 .1 .1 .1 .1 .1 .1 .0 .0)
 
-sub-t30 : tie.Need-sub-t30
-sub-t30 c = (come (c .before .before)) .0
-
-mul-t31 : tie.Need-mul-t31
-mul-t31 c = omega (arith, come (c .before .before), c .before .before .before .before .before .before .before .before .before .before .before .before .before .before .before .before .before .before .before .before .good .1 .1 .1 .1 .1 .1 .1 .0 .0)
-
-add-t32 : tie.Need-add-t32
-add-t32 c = omega (arith, come (c .before .before), c .before .before .before .before .before .before .before .before .before .before .before .before .before .before .before .before .before .before .before .before .good .1 .1 .1 .1 .1 .1 .1 .0 .0)
+add-end : tie.Need-add-end
+add-end c = omega (arith, come (c .before .before .before .before), Start-of (c .before .before .before .before .before .before .before .before .before .before .before .before) .good .1 .1 .1 .1 .1 .1 .1 .1 .1 .0 .0)
 
 same-length-2 : tie.Need-same-length-2
 same-length-2 c = search needs
 
 returns-4 : tie.Need-returns-4
 returns-4 c =
-    let k = c .before .before .before .before .before in
-    let x = k .before .before .before .before .before .before .before .before .before .before .before .before .before .before .before in
-    let a = x .args in
-    range-accepted (sweep x) (a .from) (a .to) (a .journal .now) (a .used) (a .stopped .now) _ _ _ (c .before .before .append-lines .ensures) (sym (refused-with (k .before .before)) ∙ k .if3 .left)
+    let o = c .before .before .before .before in
+    let k = o .before .before .before .before .before .before .before .before in
+    let a = Start-of k .args in
+    range-accepted (sweep k) (a .from) (a .to) (a .journal .now) (a .used) (a .stopped .now) _ _ _ (o .work-even .ensures .1) (sym (refused-with o) ∙ c .if3 .left)
 
 pub work-range-spec : {M : Type 1} → statement M
 work-range-spec =
     tie.close
     (tie.spec
+    samples-refusal-requires
     lent-plan-requires
     returns
     returns-2
-    slice-aggregate-work-refusal
-    slice-aggregate-work-refusal-2
-    work-refusal-requires
+    slice-aggregate-work-even
+    sub-work-even
+    work-even-requires
     same-length
     returns-3
-    slice-aggregate-append-lines
-    append-lines-requires
-    sub-t30
-    mul-t31
-    add-t32
+    sub-lines
+    mul-end
+    add-end
     same-length-2
     returns-4)

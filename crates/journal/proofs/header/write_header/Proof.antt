@@ -6,6 +6,15 @@ use Rattle.journal.specs.Header.{headerText, settingsHeader}
 use Rattle.journal.proofs.header.write_header.Statement.{statement}
 use Rattle.journal.proofs.header.write_header.Tie as tie
 
+abbrev Start-of : tie.After-triple → tie.Start
+Start-of c = c .before .before .before .before
+
+triple-requires : tie.Need-triple-requires
+triple-requires c κs = search needs
+
+first-or-zero-requires : tie.Need-first-or-zero-requires
+first-or-zero-requires c κs = search needs
+
 bits-requires : tie.Need-bits-requires
 bits-requires c κs = search needs
 
@@ -42,7 +51,9 @@ same-length c = search needs
 returns : tie.Need-returns
 unfolding settingsHeader
 returns c =
-    let a = c .before .before .before .before .before .before .before .before .before .before .before .before .args in
+    let first = c .before .before .before .before .before .before .before .before .before .before in
+    let k = first .before in
+    let a = Start-of k .args in
     c .before .before .write-numbers .ensures
     ∙ (λ i. over
     (headerText (a .targets) (a .times) (a .n)
@@ -53,11 +64,14 @@ returns c =
     (c .before .before .before .before .before .bits3 .ensures i)
     (c .before .before .before .before .bits4 .ensures i))
     (a .out .now))
+    ∙ (λ i. over (settingsHeader (a .targets) (a .times) (a .n) (first .first-or-zero .ensures i) (a .configured) (k .triple .ensures i)) (a .out .now))
 
 pub write-header-spec : {M : Type 1} → statement M
 write-header-spec =
     tie.close
     (tie.spec
+    triple-requires
+    first-or-zero-requires
     bits-requires
     has-roll-requires
     roll-bits-requires

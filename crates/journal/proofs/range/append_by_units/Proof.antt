@@ -15,20 +15,22 @@ use Rattle.journal.specs.Plan.{tableTimes}
 use Rattle.journal.proofs.range.append_by_units.Statement.{statement}
 use Rattle.journal.proofs.range.append_by_units.Tie as tie
 
-abbrev plan : tie.Start → Plan
-plan x = let a = x .args in planOf (a .targets .now) (a .suns .now) (a .observers .now) (a .config)
+abbrev Start-of : tie.After-sun-units → tie.Start
+Start-of c = c .before .before .before .before .before .before .before .before .before .before
+
+abbrev plan : tie.After-sun-units → Plan
+plan c = let a = Start-of c .args in planOf (a .targets .now) (a .suns .now) (a .observers .now) (a .tolerances .now) (a .configured) (a .panels .now)
 
 -- the table's first places hold the units of all times
 table : (c : tie.After-sun-units) →
-    let p = plan (c .before .before .before .before .before .before .before .before) in
+    let p = plan c in
     take (timesOf p) (c .sun-units .last .1 .1 .1 .0) ≡ tab (timesOf p) (sunAt p)
 unfolding sunAt
 table c =
-    let x = c .before .before .before .before .before .before .before .before in
-    let p : Plan = plan x in
+    let p : Plan = plan c in
     let blank = replicate tableTimes (replicate 3 (ofBits binary64 0)) in
     let F : ℕ → Vector = λ t. sunAt p (0 + t) in
-    let all : min (length blank) (timesOf p - 0) ≡ timesOf p = omega (arith, length-replicate {A = Vector} tableTimes (replicate 3 (ofBits binary64 0)), x .pre .1) in
+    let all : min (length blank) (timesOf p - 0) ≡ timesOf p = omega (arith, length-replicate {A = Vector} tableTimes (replicate 3 (ofBits binary64 0)), Start-of c .pre .0) in
     ap (take (timesOf p)) (c .sun-units .ensures ∙ ap (λ (m : ℕ). filled m F blank) all)
     ∙ take-filled F (timesOf p) blank
     ∙ tab-ext (timesOf p) F (sunAt p) (λ t h. ap (sunAt p) (omega arith))
@@ -46,9 +48,7 @@ slice-aggregate-append-swept : tie.Need-slice-aggregate-append-swept
 slice-aggregate-append-swept c = sym (ap length (table (c .before .before)) ∙ length-tab _ _)
 
 append-swept-requires : tie.Need-append-swept-requires
-append-swept-requires c κs =
-    let x = c .before .before .before .before .before .before .before .before .before .before .before in
-    (x .pre .0, (λ h. table (c .before .before .before)), x .pre .2)
+append-swept-requires c κs = let k = c .before .before .before in (λ h. table k, Start-of k .pre .1)
 
 same-length : tie.Need-same-length
 same-length c = search needs

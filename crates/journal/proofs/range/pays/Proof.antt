@@ -12,17 +12,11 @@ returns c e =
     let o : _≡_ {A = ℕ} 0 1 = ap flag e in
     absurd (omega arith)
 
-returns-2 : tie.Need-returns-2
-returns-2 c = search needs
-
 add-paid : tie.Need-add-paid
 add-paid c = search needs
 
-sub-result : tie.Need-sub-result
-sub-result c = search needs
-
-returns-3 : tie.Need-returns-3
-returns-3 c = search needs
+returns-2 : tie.Need-returns-2
+returns-2 c = search needs
 
 pub pays-spec : {M : Type 1} → statement M
-pays-spec = tie.close (tie.spec returns returns-2 add-paid sub-result returns-3)
+pays-spec = tie.close (tie.spec returns add-paid returns-2)

@@ -1,24 +1,27 @@
--- `journal::range::sweep_even` meets its contract. Assumes nothing.
+-- `journal::range::sweep_rolls` meets its contract. Assumes nothing.
 use mathlib.Core.Path.{_∙_}
 use native.Mathlib.Omega.{arith}
-use lib.ListN.{length}
 use borrow.Author.Needs.{needs}
 use Rattle.solar_roll.specs.Plan.{Plan, planOf, rowsOf, timesOf, sunAt}
 use Rattle.roll_sweep.proofs.ChunkFacts.{Held}
 use Rattle.journal.proofs.Planned.{chunk-held, swept-by-times, swept-by-cells}
-use Rattle.journal.proofs.range.sweep_even.Statement.{statement}
-use Rattle.journal.proofs.range.sweep_even.Tie as tie
+use Rattle.journal.proofs.range.sweep_rolls.Statement.{statement}
+use Rattle.journal.proofs.range.sweep_rolls.Tie as tie
 
-abbrev plan : tie.Start → Plan
-plan x = let a = x .args in planOf (a .targets .now) (a .suns .now) (a .observers .now) (a .config)
+abbrev Start-of : tie.After-shared-slice-known6 → tie.Start
+Start-of c = c .before .before .before .before .before .before
+
+abbrev plan : tie.After-shared-slice-known6 → Plan
+plan c = let a = Start-of c .args in planOf (a .targets .now) (a .suns .now) (a .observers .now) (a .tolerances .now) (a .configured) (a .panels .now)
 
 -- the chunk's cells
 cells-held : (c : tie.After-cells-in) →
-    let x = c .before .before .before .before .before .before in
-    Held (rowsOf (plan x)) (timesOf (plan x)) (x .args .chunk) (c .cells-in .result)
+    let k = c .before .before in
+    Held (rowsOf (plan k)) (timesOf (plan k)) (Start-of k .args .chunk) (c .cells-in .result)
 cells-held c =
-    let x = c .before .before .before .before .before .before in
-    chunk-held (plan x) (length (x .args .rolls .now)) (x .args .chunk) (x .pre .0) (x .pre .1) (x .pre .2) (x .pre .5) _ (x .pre .3) _ (c .cells-in .ensures)
+    let k = c .before .before in
+    let x = Start-of k in
+    chunk-held (plan k) (x .args .rolls .now) 0 (x .args .chunk) (x .pre .0) (x .pre .1) (x .pre .2) (x .pre .4) _ (c .cells-in .ensures)
 
 sweep-chunk-requires : tie.Need-sweep-chunk-requires
 sweep-chunk-requires c κs = search needs
@@ -28,10 +31,11 @@ accepted-requires c κs = search needs
 
 returns : tie.Need-returns
 returns c =
-    let x = c .before .before .before .before .before .before .before in
+    let k = c .before .before .before in
+    let x = Start-of k in
     let some = c .before .before .if1 .taken in
     c .accepted .ensures _ (c .before .sweep-chunk .ensures
-    ∙ swept-by-times (plan x) (length (x .args .rolls .now)) (x .args .chunk) (x .pre .0) (x .pre .1) (x .pre .2) (x .pre .5) _ (x .pre .3) (x .args .units .now) some (x .pre .4 some))
+    ∙ swept-by-times (plan k) (x .args .rolls .now) 0 (x .args .chunk) (x .pre .0) (x .pre .1) (x .pre .2) (x .pre .4) (x .args .units .now) some (x .pre .3 some))
 
 mul-cells-in : tie.Need-mul-cells-in
 mul-cells-in c = search needs
@@ -59,14 +63,14 @@ accepted-requires-2 c κs = search needs
 returns-2 : tie.Need-returns-2
 unfolding sunAt
 returns-2 c =
-    let x = c .before .before .before .before .before .before .before .before .before .before in
+    let k = c .before .before .before .before .before .before in
+    let x = Start-of k in
     let units = c .before .before .before .chunk-units in
     c .accepted2 .ensures _ (c .before .sweep-chunk2 .ensures
-    ∙ swept-by-cells (plan x) (length (x .args .rolls .now)) (x .args .chunk) (x .pre .0) (x .pre .1) (x .pre .2) (x .pre .5) _ (x .pre .3)
-    (units .result) _ (c .before .before .before .before .cells-in .ensures) (omega arith) (units .ensures))
+    ∙ swept-by-cells (plan k) (x .args .rolls .now) 0 (x .args .chunk) (x .pre .0) (x .pre .1) (x .pre .2) (x .pre .4) (units .result) _ (c .before .before .before .before .cells-in .ensures) (omega arith) (units .ensures))
 
-pub sweep-even-spec : {M : Type 1} → statement M
-sweep-even-spec =
+pub sweep-rolls-spec : {M : Type 1} → statement M
+sweep-rolls-spec =
     tie.close
     (tie.spec
     sweep-chunk-requires
