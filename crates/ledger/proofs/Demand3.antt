@@ -78,7 +78,7 @@ module _ (p : Plan) (rolls : List Float) (said : ℕ) where
     unfolding sweepOf
     every-roll i j h =
         let m = marked-iff s (i * timesOf p + j) in
-        let at = λ (k : ℕ) (l : k < n). sample-roll p rolls said n roll told i j k h l in
+        let at : (k : ℕ) → k < n → s .violates (i * timesOf p + j) k ≡ violatesAt p i j (roll k) = λ k l. sample-roll p rolls said n roll told i j k h l in
         ((λ e k l. sym (at k l) ∙ m .0 e k (omega (arith, told .count))), (λ f. m .1 (λ k l. let l' : k < n = omega (arith, told .count) in at k l' ∙ f k l')))
 
     -- the samples tried of a cell, and of all cells, row by row
