@@ -1,7 +1,7 @@
 //! Plans: poles, zero vectors, the Sun on the boresight and close to it, the Sun at the observer, signed zeros, panels without y-z part,
 //! tolerances at exact distances, NaN and infinite tolerances and rolls.
 use crate::Seeded;
-use model::roll::{difference, optimal_roll, sun_unit};
+use model::roll::{difference, even_rolls, optimal_roll, sun_unit};
 use model::{arithmetic::remainder, Plan};
 
 type Vector = [f64; 3];
@@ -126,7 +126,7 @@ fn panel(s: &mut Seeded) -> Vector {
     }
 }
 
-/// Rows times columns, with the settings that `rolls` gives it.
+/// Rows times columns; `for_sweep` or `for_roll` gives it tolerances, and a sweep its rolls.
 pub fn plan(s: &mut Seeded, targets: Targets, rows: usize, times: usize) -> Plan {
     let (suns, observers): (Vec<Vector>, Vec<Vector>) = (0..times).map(|_| positions(s)).unzip();
     let targets: Vec<Vector> = (0..rows).map(|_| target(s, targets, &suns, &observers)).collect();
@@ -134,9 +134,10 @@ pub fn plan(s: &mut Seeded, targets: Targets, rows: usize, times: usize) -> Plan
         targets: targets.concat(),
         suns: suns.concat(),
         observers: observers.concat(),
-        tolerance_deg: 0.0,
+        tolerances: vec![0.0],
         roll_deg: None,
-        panel_normal: panel(s),
+        panels: panel(s).to_vec(),
+        rolls: Vec::new(),
     }
 }
 
@@ -146,7 +147,7 @@ fn some_roll(s: &mut Seeded, plan: &Plan) -> f64 {
         return 0.0;
     }
     let (i, j) = (s.index(plan.rows()), s.index(plan.times()));
-    optimal_roll(plan.target(i), sun_unit(plan.sun(j), plan.observer(j)), plan.panel_normal)
+    optimal_roll(plan.target(i), sun_unit(plan.sun(j), plan.observer(j)), plan.panel(i))
 }
 
 /// A roll as a caller may hand it over.
@@ -180,11 +181,12 @@ fn odd_tolerance(s: &mut Seeded) -> f64 {
 /// Settings for a sweep of n rolls: without a configured roll mostly a tolerance below 180 / n, as a larger one marks nothing.
 pub fn for_sweep(s: &mut Seeded, plan: &mut Plan, n: u64) {
     let half = 180.0 / n as f64;
+    plan.rolls = even_rolls(n);
     plan.roll_deg = s.once_in(5).then(|| roll(s, plan));
     if plan.roll_deg.is_some() {
         return for_roll(s, plan);
     }
-    plan.tolerance_deg = match s.below(16) {
+    let tolerance = match s.below(16) {
         0 => odd_tolerance(s),
         1 => s.between(half, 200.0),
         2 => half,
@@ -197,11 +199,12 @@ pub fn for_sweep(s: &mut Seeded, plan: &mut Plan, n: u64) {
         }
         _ => s.unit() * half,
     };
+    plan.tolerances = vec![tolerance];
 }
 
 /// Settings for marks at one roll: a tolerance between 0 and 180, the configured roll as it is.
 pub fn for_roll(s: &mut Seeded, plan: &mut Plan) {
-    plan.tolerance_deg = match s.below(12) {
+    let tolerance = match s.below(12) {
         0 => odd_tolerance(s),
         1 => -s.unit(),
         2 => {
@@ -210,6 +213,7 @@ pub fn for_roll(s: &mut Seeded, plan: &mut Plan) {
         }
         _ => s.between(0.0, 180.0),
     };
+    plan.tolerances = vec![tolerance];
 }
 
 /// How work over a range of so many chunks gets the Sun's units, as `pays` of crates/journal/src/range.rt decides: from a table of all times,

@@ -87,8 +87,9 @@ fn small(s: &mut Seeded, targets: Targets) -> Plan {
 fn given(f: &mut File, p: &Plan) -> Oracle {
     let (t, s) = (p.targets.len() as u64, p.suns.len() as u64);
     let roll = [p.roll_deg.is_some() as u64, bits(p.roll_deg.unwrap_or(0.0))];
-    let lists = floats(&[&p.panel_normal[..], &p.targets, &p.suns, &p.observers].concat());
-    let head = [t, s, 11 + t, 11 + t + s, bits(p.tolerance_deg)];
+    let (tolerance, panel) = p.settings();
+    let lists = floats(&[&panel[..], &p.targets, &p.suns, &p.observers].concat());
+    let head = [t, s, 11 + t, 11 + t + s, bits(tolerance)];
     f.given(&[&head, &roll, &lists]);
     Oracle::new(p, &(0..p.times() as i64).collect::<Vec<_>>())
 }
@@ -120,7 +121,7 @@ fn sweeps(f: &mut File, s: &mut Seeded, targets: Targets) {
     let mut p = small(s, targets);
     let n = samples(s);
     for_sweep(s, &mut p, n);
-    let (marks, tried) = given(f, &p).sweep(n);
+    let (marks, tried) = given(f, &p).sweep();
     f.asked(SWEEP, [n, 0], &[&[tried.iter().sum()], mask(&marks).as_slice()].concat());
 }
 
