@@ -6,7 +6,7 @@ use model::{arithmetic::remainder, Plan};
 
 type Vector = [f64; 3];
 
-/// Whether targets have length 1 (up to rounding).
+/// Whether all targets have length 1, as `is_unit` has it.
 #[derive(Clone, Copy, PartialEq, Debug)]
 pub enum Targets {
     Unit,
@@ -15,6 +15,11 @@ pub enum Targets {
 
 fn length(v: Vector) -> f64 {
     (v[0] * v[0] + v[1] * v[1] + v[2] * v[2]).sqrt()
+}
+
+/// Length 1 up to 1e-9 of its square, summed left to right.
+pub fn is_unit(v: Vector) -> bool {
+    (v[0] * v[0] + v[1] * v[1] + v[2] * v[2] - 1.0).abs() <= 1e-9
 }
 
 fn signed_zero(s: &mut Seeded) -> f64 {
@@ -49,6 +54,16 @@ fn clamped(v: Vector) -> Vector {
     v.map(|x| x.clamp(-1.0, 1.0))
 }
 
+/// v, made of length 1 if it is not. What is close enough stays as it is: such vectors meet the thresholds of 1e-12 from both sides.
+fn unit(v: Vector) -> Vector {
+    let n = length(v);
+    if is_unit(v) {
+        v
+    } else {
+        v.map(|x| x / n)
+    }
+}
+
 fn target(s: &mut Seeded, targets: Targets, suns: &[Vector], observers: &[Vector]) -> Vector {
     let kinds = if targets == Targets::Unit { 12 } else { 18 };
     let sun = match suns.len() {
@@ -65,13 +80,13 @@ fn target(s: &mut Seeded, targets: Targets, suns: &[Vector], observers: &[Vector
         8 => {
             let size = s.one_of(&[1e-13, 1e-12, 2e-12, 1e-7]);
             let pole = [0.0, 0.0, s.one_of(&[1.0, -1.0])];
-            clamped(close_to(s, pole, size))
+            unit(clamped(close_to(s, pole, size)))
         }
         9 => clamped(sun),
         10 => clamped(sun.map(|x| -x)),
         11 => {
             let size = s.one_of(&[1e-15, 1e-12, 3e-12, 2e-6]);
-            clamped(close_to(s, sun, size))
+            unit(clamped(close_to(s, sun, size)))
         }
         12 => [signed_zero(s), signed_zero(s), signed_zero(s)],
         13 => {
@@ -237,4 +252,20 @@ pub fn units(plan: &Plan, chunks: u64) -> Units {
 /// A range's length about where that decision turns.
 pub fn around_the_turn(s: &mut Seeded, plan: &Plan) -> u64 {
     plan.times() as u64 / 64 + s.within(1, 12)
+}
+
+#[cfg(test)]
+mod tests {
+    use super::*;
+
+    #[test]
+    fn unit_targets_have_length_1() {
+        let mut s = Seeded::new(1);
+        for k in 0..20_000 {
+            let p = plan(&mut s, Targets::Unit, 16, k % 4);
+            for i in 0..p.rows() {
+                assert!(is_unit(p.target(i)), "plan {k}, target {i}: {:?}", p.target(i));
+            }
+        }
+    }
 }

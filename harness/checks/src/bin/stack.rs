@@ -1,5 +1,6 @@
 //! How much stack each C name takes at its largest inputs, and that include/wilfnusk.h's promise holds: a thread with that much runs them all.
 //! `stack [KIB]` takes KIB for the promise: with too little, the thread overflows its stack, which ends the program.
+use cases::plans::{direction, is_unit};
 use checks::{lent, Lists};
 use model::roll::even_rolls;
 use std::hint::black_box;
@@ -44,9 +45,11 @@ const ROLLS: u64 = 3600;
 impl Inputs {
     fn new() -> Inputs {
         let mut s = cases::Seeded::new(6);
+        let targets: Vec<[f64; 3]> = (0..SAMPLES).map(|_| direction(&mut s)).collect();
+        assert!(targets.iter().all(|&v| is_unit(v)), "targets of length 1");
         let mut numbers = |count: usize, size: f64| (0..3 * count).map(|_| s.between(-size, size)).collect::<Vec<f64>>();
         Inputs {
-            targets: numbers(SAMPLES, 1.0),
+            targets: targets.concat(),
             suns: numbers(SAMPLES, 1.5e8),
             observers: numbers(SAMPLES, 7000.0),
             values: vec![0.0; CELLS],
