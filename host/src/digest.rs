@@ -15,26 +15,31 @@ use std::{
     path::{Path, PathBuf},
 };
 
-const TITLE: &str = "wilfnusk plan 1";
+/// The first line: this and the version.
+const TITLE: &str = "wilfnusk plan ";
+/// The version that is written. Older ones are read too, each by its own rule for the settings (see `settings`).
+const VERSION: u64 = 2;
 const PARTS: [&str; 3] = ["settings", "targets", "ephemeris"];
 
 /// Three digests: of the settings, of the targets' numbers, of the ephemeris' numbers; and the file of each.
 #[derive(Debug, Clone, PartialEq, Eq)]
 pub struct Digest {
+    version: u64,
     digests: [String; 3],
     files: [String; 3],
 }
 
 impl Digest {
     pub fn of(plan: &Plan) -> Digest {
-        let settings = hash(
-            [plan.rolls, plan.configured_roll.is_some() as u64].iter().copied(),
-            [plan.tolerance, plan.configured_roll.unwrap_or(0.0)].iter().chain(&plan.panel),
-        );
-        let targets = hash([].iter().copied(), plan.targets.iter());
-        let ephemeris = hash(plan.times.iter().map(|&t| t as u64), plan.suns.iter().chain(&plan.observers));
+        Digest::by(VERSION, plan)
+    }
+    /// The digest that a program of this version writes for the plan.
+    fn by(version: u64, plan: &Plan) -> Digest {
+        let targets = hash(plan.targets.iter().map(bits));
+        let ephemeris = hash(plan.times.iter().map(|&t| t as u64).chain(plan.suns.iter().chain(&plan.observers).map(bits)));
         let name = plan.path().file_name().unwrap_or_default().to_string_lossy();
-        Digest { digests: [settings, targets, ephemeris], files: [&name, &*plan.targets_file, &plan.ephemeris_file].map(one_line) }
+        let files = [&name, &*plan.targets_file, &plan.ephemeris_file].map(one_line);
+        Digest { version, digests: [settings(version, plan), targets, ephemeris], files }
     }
     /// Where the digest of a journal stands.
     pub fn path(journal: &Path) -> PathBuf {
@@ -44,7 +49,7 @@ impl Digest {
     }
     fn text(&self) -> String {
         let lines = (0..3).map(|i| format!("{} {} {}\n", PARTS[i], self.digests[i], self.files[i]));
-        format!("{}\n{}", TITLE, lines.collect::<String>())
+        format!("{}{}\n{}", TITLE, self.version, lines.collect::<String>())
     }
     /// The digest beside a journal, if there is one.
     pub fn beside(journal: &Path) -> Result<Option<Digest>, Fault> {
@@ -57,8 +62,19 @@ impl Digest {
     }
     fn parse(source: &Source) -> Result<Digest, Fault> {
         let mut lines = source.text.lines();
-        let mut digest = Digest { digests: Default::default(), files: Default::default() };
-        let mut good = lines.next() == Some(TITLE);
+        let version = lines.next().and_then(version).unwrap_or(0);
+        if version > VERSION {
+            return Err(source.fault(
+                0,
+                format!("a digest of version {}, which a newer wilfnusk wrote and this one cannot read", version),
+                &format!(
+                    "versions 1 to {}; use that program, or move the file away and work every line out again with check --recompute",
+                    VERSION
+                ),
+            ));
+        }
+        let mut digest = Digest { version, digests: Default::default(), files: Default::default() };
+        let mut good = version > 0;
         for i in 0..3 {
             let words: Vec<_> = lines.next().unwrap_or("").splitn(3, ' ').collect();
             good &= words.len() == 3 && words[0] == PARTS[i] && words[1].len() == 64;
@@ -97,6 +113,12 @@ impl Digest {
     }
 }
 
+/// The version that a first line names.
+fn version(line: &str) -> Option<u64> {
+    let version = line.strip_prefix(TITLE)?.parse().ok()?;
+    (line == format!("{}{}", TITLE, version)).then_some(version)
+}
+
 /// A file's name on one line of the digest.
 fn one_line(name: &str) -> String {
     name.chars().map(|c| if c.is_control() { c.escape_default().to_string() } else { c.to_string() }).collect()
@@ -108,7 +130,7 @@ pub fn is_known(plan: &Plan, journal: &Path) -> Result<bool, Fault> {
         Some(then) => then,
         None => return Ok(false),
     };
-    let now = Digest::of(plan);
+    let now = Digest::by(then.version, plan);
     let changed = now.changed(&then);
     if changed.is_empty() {
         return Ok(true);
@@ -136,15 +158,36 @@ pub fn same_plan(plan: &Plan, journal: &Path) -> Result<bool, Fault> {
     Ok(known)
 }
 
-fn hash<'a>(wholes: impl Iterator<Item = u64>, floats: impl Iterator<Item = &'a f64>) -> String {
-    let mut hash = Sha256::new();
-    for n in wholes {
-        hash.update(n.to_le_bytes());
+/// The settings' digest.
+///
+/// Version 1: n, whether a roll is configured, the tolerance, that roll or 0, the panel. It has room for one tolerance and one panel, and for
+/// even steps: of a plan with more of them it must never be taken for the digest.
+///
+/// Version 2: n, whether a roll is configured, that roll or 0; then lists, each after the count of its numbers: tolerances, panels (three numbers
+/// each), rolls. Even steps are said by n alone, and their list of rolls is empty. It stands last, so that a table of rolls moves nothing before it.
+fn settings(version: u64, plan: &Plan) -> String {
+    let (n, is_configured, roll) = (plan.rolls, plan.configured_roll.is_some() as u64, bits(&plan.configured_roll.unwrap_or(0.0)));
+    if version == 1 {
+        let [x, y, z] = plan.panel;
+        return hash([n, is_configured, bits(&plan.tolerance), roll, bits(&x), bits(&y), bits(&z)]);
     }
-    for x in floats {
-        // One NaN stands for all, as in the journal's header.
-        let bits = if x.is_nan() { 0x7ff8_0000_0000_0000 } else { x.to_bits() };
-        hash.update(bits.to_le_bytes());
+    let list = |numbers: &[f64]| std::iter::once(numbers.len() as u64).chain(numbers.iter().map(bits)).collect::<Vec<_>>();
+    hash([vec![n, is_configured, roll], list(&[plan.tolerance]), list(&plan.panel), list(&[])].concat())
+}
+
+/// A number's bits; one NaN stands for all, as in the journal's header.
+fn bits(x: &f64) -> u64 {
+    if x.is_nan() {
+        0x7ff8_0000_0000_0000
+    } else {
+        x.to_bits()
+    }
+}
+
+fn hash(words: impl IntoIterator<Item = u64>) -> String {
+    let mut hash = Sha256::new();
+    for word in words {
+        hash.update(word.to_le_bytes());
     }
     hash.finalize().iter().map(|b| format!("{:02x}", b)).collect()
 }
@@ -158,8 +201,60 @@ mod tests {
     const TARGETS: &str = "name,x,y,z\nA,1,0,0\nB,0,1,0\n";
     const EPHEMERIS: &str = "time,sun_x,sun_y,sun_z,observer_x,observer_y,observer_z\n2026-03-20T00:00:00Z,0,1,0,0,0,0\n";
 
+    /// What a program that knew version 1 alone wrote for these files.
+    const OLD: &str = "wilfnusk plan 1\n\
+        settings 5e754224acbd7ed75550e75c950b02210a9ba34f0e4b182532ee82cdf068f5b0 plan.toml\n\
+        targets e7c6bff0f84ed48b4f18ee4f3f45716a62d7b2c9d6000334483986fa86bbbe3d t.csv\n\
+        ephemeris 0aa904f16e78fce6fddc61f3eba8c681186152119d04de730795ef52040e3888 e.csv\n";
+
     fn digest(toml: &str, targets: &str, ephemeris: &str) -> Digest {
         Digest::of(&plan(toml, targets, ephemeris).unwrap())
+    }
+
+    /// The settings of version 2 as bytes put together by another program: 1, 0, 0; 1, 10.0; 3, 0.0, 1.0, 0.0; 0.
+    #[test]
+    fn each_version_has_its_own_rule() {
+        let plan = plan(TOML, TARGETS, EPHEMERIS).unwrap();
+        assert_eq!(Digest::by(1, &plan).text(), OLD);
+        let settings = "settings 839d7dfb8d119dcd36c4670a61e9227371d375e531cf4d9fdd4d100dffbd07c1 plan.toml\n";
+        assert_eq!(Digest::of(&plan).text(), format!("wilfnusk plan 2\n{}{}", settings, &OLD[OLD.find("targets").unwrap()..]));
+    }
+    #[test]
+    fn an_older_digest_is_read_and_a_newer_one_told() {
+        let folder = tempfile::tempdir().unwrap();
+        let journal = folder.path().join("j");
+        let path = Digest::path(&journal);
+        fs::write(&path, OLD).unwrap();
+        let same = plan(TOML, TARGETS, EPHEMERIS).unwrap();
+        assert!(is_known(&same, &journal).unwrap());
+        for (toml, targets, ephemeris, changed) in [
+            (TOML.replace("10", "11"), TARGETS.to_owned(), EPHEMERIS.to_owned(), "plan.toml: "),
+            (TOML.to_owned() + "panel = [0, 0, 1]", TARGETS.to_owned(), EPHEMERIS.to_owned(), "plan.toml: "),
+            (TOML.to_owned(), TARGETS.replace("0,1,0", "0,0,1"), EPHEMERIS.to_owned(), "t.csv: "),
+            (TOML.to_owned(), TARGETS.to_owned(), EPHEMERIS.replace("0,1,0", "0,0,1"), "e.csv: "),
+        ] {
+            let fault = is_known(&plan(toml, targets, ephemeris).unwrap(), &journal).unwrap_err();
+            assert!(fault.status() == 3 && fault.to_string().starts_with(changed), "{}", fault);
+        }
+        // Under the other version's title a digest is no longer this plan's.
+        let new = Digest::of(&same).text();
+        for (text, version) in [(OLD, "2"), (&new, "1")] {
+            fs::write(&path, format!("wilfnusk plan {}{}", version, &text[TITLE.len() + 1..])).unwrap();
+            let fault = is_known(&same, &journal).unwrap_err();
+            assert!(fault.to_string().starts_with("plan.toml: its numbers are not"), "{}", fault);
+        }
+        for (version, says) in
+            [("3", "a digest of version 3, which a newer"), ("10", "a digest of version 10"), ("0", "no digest of a plan")]
+        {
+            fs::write(&path, new.replace("plan 2", &format!("plan {}", version))).unwrap();
+            let fault = is_known(&same, &journal).unwrap_err();
+            assert!(fault.status() == 3 && fault.to_string().contains(says), "{}", fault);
+            assert!(Digest::of(&same).write(&journal).is_err() && Digest::remove(&journal).is_err());
+        }
+        for title in ["wilfnusk plan", "wilfnusk plan ", "wilfnusk plan 02", "wilfnusk plan +2", "wilfnusk plan 2 ", "wilfnusk plan two"] {
+            fs::write(&path, new.replace("wilfnusk plan 2", title)).unwrap();
+            assert!(Digest::beside(&journal).unwrap_err().to_string().contains("no digest of a plan"), "{}", title);
+        }
     }
 
     #[test]

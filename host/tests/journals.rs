@@ -1,5 +1,6 @@
 //! Whole commands on journals: merging, lines worked out again, digests, signals, what is no file.
 use fs2::FileExt;
+use sha2::{Digest, Sha256};
 use std::{
     fs::{self, File},
     io::Read,
@@ -76,6 +77,25 @@ impl Folder {
             assert!(ended.stderr.contains(word), "{}: not `{}` in {}", words, word, ended.stderr);
         }
     }
+    /// The numbers of a CSV file's columns, line by line.
+    fn numbers(&self, name: &str, columns: std::ops::Range<usize>) -> Vec<u64> {
+        let text = String::from_utf8(self.read(name)).unwrap();
+        let line = |line: &str| line.split(',').skip(columns.start).take(columns.len()).map(|x| bits(x.parse().unwrap())).collect();
+        text.lines().skip(1).flat_map(|l| -> Vec<u64> { line(l) }).collect()
+    }
+    /// J.plan of plan.toml with these settings and targets, put together here by the rules that docs/HOST.md has.
+    fn digest(&self, version: u64, settings: &[u64], targets: &str) -> String {
+        const START: u64 = 1_773_964_800;
+        let times = (0..100).map(|j| (START + 60 * j) * 1_000_000_000).collect();
+        let ephemeris = [times, self.numbers("ephemeris.csv", 1..4), self.numbers("ephemeris.csv", 4..7)].concat();
+        format!(
+            "wilfnusk plan {}\nsettings {} plan.toml\ntargets {} targets.csv\nephemeris {} ephemeris.csv\n",
+            version,
+            hash(settings),
+            hash(&self.numbers(targets, 1..4)),
+            hash(&ephemeris)
+        )
+    }
     /// Both halves of the sweep, part 2 from the other plan's targets.
     fn halves_of_two_plans(&self) {
         self.done("sweep plan.toml -q --journal part1.journal --part 1/2");
@@ -95,6 +115,20 @@ fn ended(mut child: Child) -> Ended {
     let Output { status, stdout, stderr } = child.wait_with_output().unwrap();
     let text = |bytes| String::from_utf8_lossy(bytes).into_owned();
     Ended { status: status.code(), stdout: text(&stdout), stderr: text(&stderr) }
+}
+
+fn bits(x: f64) -> u64 {
+    x.to_bits()
+}
+
+fn hash(words: &[u64]) -> String {
+    let bytes: Vec<u8> = words.iter().flat_map(|word| word.to_le_bytes()).collect();
+    Sha256::digest(bytes).iter().map(|b| format!("{:02x}", b)).collect()
+}
+
+/// The settings of 8 rolls with this tolerance, none configured, by the rule of version 1.
+fn old_settings(tolerance: f64) -> [u64; 7] {
+    [8, 0, bits(tolerance), bits(0.0), bits(0.0), bits(1.0), bits(0.0)]
 }
 
 /// The journal with another mask digit in the line with this number, from 0. The line is still right: as many cells are marked.
@@ -156,6 +190,93 @@ fn equal_digests_are_kept() {
     assert!(checked.stdout.contains("are those it was begun with"), "{}", checked.stdout);
     folder.done("sweep plan.toml -q");
     assert_eq!(folder.done("windows plan.toml --journal all.journal").stdout, folder.done("windows plan.toml").stdout);
+}
+
+#[test]
+fn a_digest_of_version_2_is_written() {
+    let folder = Folder::new();
+    folder.done("sweep plan.toml -q --part 1/2");
+    // Three words; the tolerances, the panels and the rolls, each after its length.
+    let settings = [8, 0, bits(0.0), 1, bits(15.0), 3, bits(0.0), bits(1.0), bits(0.0), 0];
+    let digest = folder.digest(2, &settings, "targets.csv");
+    assert_eq!(String::from_utf8(folder.read("plan.journal.plan")).unwrap(), digest);
+    // Beside a journal without a line nothing depends on it: there an older one makes way.
+    folder.done("sweep plan.toml -q --journal bare.journal --chunks 0..0");
+    folder.write("bare.journal.plan", folder.digest(1, &old_settings(15.0), "targets.csv"));
+    folder.done("sweep plan.toml -q --journal bare.journal --chunks 0..1");
+    assert_eq!(folder.read("bare.journal.plan"), digest.into_bytes());
+}
+
+#[test]
+fn a_journal_with_an_older_digest_is_known() {
+    let folder = Folder::new();
+    folder.done("sweep plan.toml -q --journal part1.journal --part 1/2");
+    let new = folder.read("part1.journal.plan");
+    let old = folder.digest(1, &old_settings(15.0), "targets.csv").into_bytes();
+    folder.write("part1.journal.plan", &old);
+    let checked = folder.done("check plan.toml --journal part1.journal");
+    assert!(checked.stderr.is_empty() && checked.stdout.contains("are those it was begun with"), "{} {}", checked.stdout, checked.stderr);
+    assert!(folder.run("status plan.toml --json --journal part1.journal").stdout.contains("\"origin_known\": true"));
+    // It is merged with a journal whose digest is new, and the result's is new.
+    folder.done("sweep plan.toml -q --journal part2.journal --part 2/2");
+    assert_eq!(folder.done("merge plan.toml part1.journal part2.journal -o all.journal").stderr, "");
+    assert_eq!(folder.read("all.journal.plan"), new);
+    // The sweep goes on, and what speaks for the lines before stays.
+    folder.done("sweep plan.toml -q --journal part1.journal");
+    assert_eq!(folder.read("part1.journal.plan"), old);
+    for words in ["windows", "mask", "check --recompute --write-digest"] {
+        let looked = folder.done(&format!("{} plan.toml --journal part1.journal", words));
+        assert_eq!(looked.stderr, "", "{}", words);
+    }
+    assert_eq!(folder.read("part1.journal.plan"), old);
+    assert_eq!(
+        folder.done("windows plan.toml --journal part1.journal").stdout,
+        folder.done("windows plan.toml --journal all.journal").stdout
+    );
+}
+
+#[test]
+fn an_older_digest_of_another_plan_is_refused() {
+    let folder = Folder::new();
+    folder.done("sweep plan.toml -q --part 1/2");
+    let journal = folder.read("plan.journal");
+    for (digest, file) in [
+        (folder.digest(1, &old_settings(15.0), "other.csv"), "targets.csv"),
+        (folder.digest(1, &old_settings(15.000000000000002), "targets.csv"), "plan.toml"),
+        // One version's rule under the other's title.
+        (folder.digest(2, &old_settings(15.0), "targets.csv"), "plan.toml"),
+    ] {
+        folder.write("plan.journal.plan", &digest);
+        let says = format!("{}: its numbers are not those that plan.journal was begun with", file);
+        for words in ["check", "status", "windows", "mask", "sweep", "check --recompute --write-digest"] {
+            folder.refused(3, &format!("{} plan.toml", words), &[&says]);
+        }
+        folder.refused(3, "merge plan.toml plan.journal -o all.journal", &[&says]);
+        assert_eq!(folder.read("plan.journal.plan"), digest.into_bytes());
+    }
+    assert!(folder.read("plan.journal") == journal && !folder.has("all.journal") && !folder.has("all.journal.plan"));
+}
+
+#[test]
+fn a_newer_digest_is_told() {
+    let folder = Folder::new();
+    folder.done("sweep plan.toml -q --part 1/2");
+    let journal = folder.read("plan.journal");
+    let newer = String::from_utf8(folder.read("plan.journal.plan")).unwrap().replace("wilfnusk plan 2", "wilfnusk plan 3") + "more\n";
+    folder.write("plan.journal.plan", &newer);
+    let says = "plan.journal.plan, line 1, column 1: a digest of version 3, which a newer wilfnusk wrote and this one cannot read; allowed: versions 1 to 2";
+    for words in ["check", "status", "windows", "mask", "sweep", "check --recompute --write-digest"] {
+        folder.refused(3, &format!("{} plan.toml", words), &[says, "check --recompute"]);
+    }
+    folder.refused(3, "merge plan.toml plan.journal -o all.journal", &[says]);
+    // Nor is it written over where a journal has no line, or where a merged one shall stand.
+    folder.write("plan.journal", &journal[..HEADER]);
+    folder.refused(3, "sweep plan.toml", &[says]);
+    folder.done("sweep plan.toml -q --journal part1.journal --part 1/2");
+    folder.write("all.journal.plan", &newer);
+    folder.refused(3, "merge plan.toml part1.journal -o all.journal", &["all.journal.plan, line 1, column 1: a digest of version 3"]);
+    assert!(folder.read("plan.journal.plan") == newer.as_bytes() && folder.read("all.journal.plan") == newer.as_bytes());
+    assert!(folder.read("plan.journal") == journal[..HEADER] && !folder.has("all.journal"));
 }
 
 #[test]

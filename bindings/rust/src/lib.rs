@@ -132,10 +132,13 @@ impl Plan<'_> {
     /// Sweeps the chunks of a range and appends their lines, up to its end or the first chunk that [`Plan::work`] refuses, with one check of the journal.
     /// The used length after them, and the chunk at which it stopped.
     pub fn work_range(&self, n: u64, chunks: Range<u64>, journal: &mut [u8], used: u64) -> Result<(u64, u64), Refusal> {
+        let mut stopped = chunks.start;
+        self.work_range_into(n, chunks, journal, used, &mut stopped).map(|used| (used, stopped))
+    }
+    /// [`Plan::work_range`] as the C name has it: the chunk at which it stopped is written to `stopped`, which a refused call leaves as it was.
+    pub fn work_range_into(&self, n: u64, chunks: Range<u64>, journal: &mut [u8], used: u64, stopped: &mut u64) -> Result<u64, Refusal> {
         let Range { start, end } = chunks;
-        let mut stopped = start;
-        with_plan!(self, WorkRange, wilfnusk_work_range, n, start, end, journal.as_mut_ptr(), journal.len(), used, &mut stopped)
-            .map(|used| (used, stopped))
+        with_plan!(self, WorkRange, wilfnusk_work_range, n, start, end, journal.as_mut_ptr(), journal.len(), used, stopped)
     }
     /// The used length without an incomplete header or line at the end. Shorten the file to it before the next write.
     pub fn recover(&self, n: u64, journal: &[u8], used: u64) -> Result<u64, Refusal> {

@@ -1,7 +1,7 @@
 //! Targets over the whole sky; a year of the Sun and of a satellite in low orbit.
 use cases::plans::direction;
 use cases::Seeded;
-use model::Plan;
+use model::{roll::even_rolls, Plan};
 use std::f64::consts::TAU;
 
 const YEAR_S: f64 = 31_558_150.0;
@@ -17,16 +17,17 @@ fn circle(radius: f64, tilt: f64, angle: f64) -> [f64; 3] {
     [radius * c, radius * s * tilt.cos(), radius * s * tilt.sin()]
 }
 
-pub fn plan(targets: usize, times: usize, tolerance_deg: f64) -> Plan {
+pub fn plan(targets: usize, times: usize, n: u64, tolerance_deg: f64) -> Plan {
     let mut s = Seeded::new(8);
     let at = |j: usize| YEAR_S * j as f64 / times as f64;
     Plan {
         targets: (0..targets).flat_map(|_| direction(&mut s)).collect(),
         suns: (0..times).flat_map(|j| circle(SUN_KM, OBLIQUITY, TAU * at(j) / YEAR_S)).collect(),
         observers: (0..times).flat_map(|j| circle(ORBIT_KM, INCLINATION, TAU * at(j) / ORBIT_S)).collect(),
-        tolerance_deg,
+        tolerances: vec![tolerance_deg],
         roll_deg: None,
-        panel_normal: [0.0, 1.0, 0.0],
+        panels: vec![0.0, 1.0, 0.0],
+        rolls: even_rolls(n),
     }
 }
 

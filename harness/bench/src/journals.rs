@@ -1,7 +1,7 @@
 //! Reading a whole journal: 1,024 targets and times, 16,384 lines, 540,779 bytes.
 use crate::case::{side, Case, Limit, Side};
 use crate::inputs;
-use crate::sweeps::{chunks, empty_journal, sweep};
+use crate::sweeps::{empty_journal, sweep};
 use cases::Seeded;
 use checks::lent;
 use model::Plan;
@@ -12,9 +12,9 @@ use wilfnusk::{HEADER_BYTES, LINE_BYTES};
 const N: u64 = 1;
 
 fn whole() -> (Rc<Plan>, Vec<u8>) {
-    let plan = inputs::plan(1024, 1024, 90.0);
+    let plan = inputs::plan(1024, 1024, N, 90.0);
     let mut journal = empty_journal(&plan);
-    sweep(&lent(&plan), N, chunks(&plan), &mut journal);
+    sweep(&plan, &mut journal);
     (Rc::new(plan), journal)
 }
 

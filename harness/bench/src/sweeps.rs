@@ -3,7 +3,7 @@ use crate::case::{side, Case, Limit, Side};
 use crate::inputs;
 use checks::lent;
 use model::{Plan, Roll};
-use oracle::{patch, Oracle};
+use oracle::{patch, Whole};
 use std::rc::Rc;
 use wilfnusk::{CHUNK_CELLS, HEADER_BYTES, LINE_BYTES};
 
@@ -11,9 +11,10 @@ const HEADER: usize = HEADER_BYTES as usize;
 const LINE: usize = LINE_BYTES as usize;
 
 /// A whole sweep, begin and then every chunk in order, into a journal of just the length.
-pub fn sweep(plan: &wilfnusk::Plan, n: u64, chunks: u64, journal: &mut [u8]) {
-    let used = plan.begin(n, journal, 0).unwrap();
-    let (end, stopped) = plan.work_range(n, 0..chunks, journal, used).unwrap();
+pub fn sweep(plan: &Plan, journal: &mut [u8]) {
+    let (lent, n, chunks) = (lent(plan), plan.n(), chunks(plan));
+    let used = lent.begin(n, journal, 0).unwrap();
+    let (end, stopped) = lent.work_range(n, 0..chunks, journal, used).unwrap();
     assert_eq!((end, stopped), (journal.len() as u64, chunks));
 }
 
@@ -26,37 +27,35 @@ pub fn empty_journal(plan: &Plan) -> Vec<u8> {
     vec![0; HEADER + LINE * chunks(plan) as usize]
 }
 
-fn oracle(plan: &Plan) -> Oracle {
-    Oracle::new(plan, &inputs::times(plan.times()))
+fn oracle(plan: &Plan) -> Whole {
+    Whole::new(plan, &inputs::times(plan.times()))
 }
 
 /// The library's sweep; a unit is a probe.
-fn port_sweep(plan: Rc<Plan>, n: u64) -> Box<dyn Side> {
+fn port_sweep(plan: Rc<Plan>) -> Box<dyn Side> {
     let (p, q) = (plan.clone(), plan.clone());
     let collected = move |journal: &Vec<u8>| {
         let mut mask = vec![0; plan.cells()];
-        let probes = lent(&plan).collect(n, journal, journal.len() as u64, &mut mask).unwrap();
+        let probes = lent(&plan).collect(plan.n(), journal, journal.len() as u64, &mut mask).unwrap();
         (mask, probes)
     };
     let again = collected.clone();
-    let run = move |journal: &mut Vec<u8>| {
-        sweep(&lent(&p), n, chunks(&p), journal);
-    };
+    let run = move |journal: &mut Vec<u8>| sweep(&p, journal);
     side(empty_journal(&q), run, move |journal| collected(journal).1, move |journal| again(journal).0)
 }
 
-fn original_sweep(plan: &Plan, n: u64) -> Box<dyn Side> {
+fn original_sweep(plan: &Plan) -> Box<dyn Side> {
     let o = oracle(plan);
     side(
         None,
-        move |swept| *swept = Some(o.swept_array(n)),
+        move |swept| *swept = Some(o.swept_array()),
         |swept| swept.as_ref().unwrap().1,
         |swept| swept.as_ref().unwrap().0.iter().map(|&b| b as u8).collect(),
     )
 }
 
 pub fn sweep_case(name: &'static str, (targets, times): (usize, usize), n: u64, tolerance_deg: f64, limit: Limit) -> Case {
-    let plan = Rc::new(inputs::plan(targets, times, tolerance_deg));
+    let plan = Rc::new(inputs::plan(targets, times, n, tolerance_deg));
     Case {
         name,
         title: format!("sweep, n = {n}, tolerance {tolerance_deg}"),
@@ -64,15 +63,14 @@ pub fn sweep_case(name: &'static str, (targets, times): (usize, usize), n: u64, 
         unit: if n == 1 || tolerance_deg >= 180.0 { "cell" } else { "probe" },
         limit,
         mask: true,
-        other: Some(original_sweep(&plan, n)),
-        port: port_sweep(plan, n),
+        other: Some(original_sweep(&plan)),
+        port: port_sweep(plan),
     }
 }
 
 /// The same sweep with more and more chunks: a unit is a chunk.
 pub fn chunks_case(name: &'static str, times: usize, limit: Limit) -> Case {
-    let n = 72;
-    let plan = Rc::new(inputs::plan(1024, times, 10.0));
+    let plan = Rc::new(inputs::plan(1024, times, 72, 10.0));
     let (p, count) = (plan.clone(), chunks(&plan));
     let o = oracle(&plan);
     Case {
@@ -81,8 +79,8 @@ pub fn chunks_case(name: &'static str, times: usize, limit: Limit) -> Case {
         unit: "chunk",
         limit,
         mask: false,
-        port: side(empty_journal(&plan), move |journal| sweep(&lent(&p), n, count, journal), move |_| count, |_| vec![]),
-        other: Some(side((), move |()| drop(o.swept_array(n)), move |_| count, |_| vec![])),
+        port: side(empty_journal(&plan), move |journal| sweep(&p, journal), move |_| count, |_| vec![]),
+        other: Some(side((), move |()| drop(o.swept_array()), move |_| count, |_| vec![])),
     }
 }
 
@@ -92,7 +90,7 @@ fn bytes(numbers: &[f64]) -> Vec<u8> {
 
 /// `patched`: with section 1's arctangent on both sides; else the original has the C library's, and the answers differ in the last bits.
 pub fn named_case(name: &'static str, (targets, times): (usize, usize), patched: bool, limit: Limit) -> Case {
-    let plan = inputs::plan(targets, times, 10.0);
+    let plan = inputs::plan(targets, times, 1, 10.0);
     let (o, cells) = (oracle(&plan), plan.cells() as u64);
     let original = move || if patched { o.named_array() } else { patch::without(&patch::ATAN2, || o.named_array()) };
     Case {
@@ -117,7 +115,7 @@ pub fn named_case(name: &'static str, (targets, times): (usize, usize), patched:
 }
 
 pub fn mask_case(name: &'static str, (targets, times): (usize, usize), tolerance_deg: f64, limit: Limit) -> Case {
-    let plan = inputs::plan(targets, times, tolerance_deg);
+    let plan = inputs::plan(targets, times, 1, tolerance_deg);
     let (o, cells) = (oracle(&plan), plan.cells() as u64);
     Case {
         name,

@@ -1,12 +1,12 @@
 //! Plans: poles, zero vectors, the Sun on the boresight and close to it, the Sun at the observer, signed zeros, panels without y-z part,
 //! tolerances at exact distances, NaN and infinite tolerances and rolls.
 use crate::Seeded;
-use model::roll::{difference, optimal_roll, sun_unit};
+use model::roll::{difference, even_rolls, optimal_roll, sun_unit};
 use model::{arithmetic::remainder, Plan};
 
 type Vector = [f64; 3];
 
-/// Whether targets have length 1 (up to rounding).
+/// Whether all targets have length 1, as `is_unit` has it.
 #[derive(Clone, Copy, PartialEq, Debug)]
 pub enum Targets {
     Unit,
@@ -15,6 +15,11 @@ pub enum Targets {
 
 fn length(v: Vector) -> f64 {
     (v[0] * v[0] + v[1] * v[1] + v[2] * v[2]).sqrt()
+}
+
+/// Length 1 up to 1e-9 of its square, summed left to right.
+pub fn is_unit(v: Vector) -> bool {
+    (v[0] * v[0] + v[1] * v[1] + v[2] * v[2] - 1.0).abs() <= 1e-9
 }
 
 fn signed_zero(s: &mut Seeded) -> f64 {
@@ -49,6 +54,16 @@ fn clamped(v: Vector) -> Vector {
     v.map(|x| x.clamp(-1.0, 1.0))
 }
 
+/// v, made of length 1 if it is not. What is close enough stays as it is: such vectors meet the thresholds of 1e-12 from both sides.
+fn unit(v: Vector) -> Vector {
+    let n = length(v);
+    if is_unit(v) {
+        v
+    } else {
+        v.map(|x| x / n)
+    }
+}
+
 fn target(s: &mut Seeded, targets: Targets, suns: &[Vector], observers: &[Vector]) -> Vector {
     let kinds = if targets == Targets::Unit { 12 } else { 18 };
     let sun = match suns.len() {
@@ -65,13 +80,13 @@ fn target(s: &mut Seeded, targets: Targets, suns: &[Vector], observers: &[Vector
         8 => {
             let size = s.one_of(&[1e-13, 1e-12, 2e-12, 1e-7]);
             let pole = [0.0, 0.0, s.one_of(&[1.0, -1.0])];
-            clamped(close_to(s, pole, size))
+            unit(clamped(close_to(s, pole, size)))
         }
         9 => clamped(sun),
         10 => clamped(sun.map(|x| -x)),
         11 => {
             let size = s.one_of(&[1e-15, 1e-12, 3e-12, 2e-6]);
-            clamped(close_to(s, sun, size))
+            unit(clamped(close_to(s, sun, size)))
         }
         12 => [signed_zero(s), signed_zero(s), signed_zero(s)],
         13 => {
@@ -126,7 +141,7 @@ fn panel(s: &mut Seeded) -> Vector {
     }
 }
 
-/// Rows times columns, with the settings that `rolls` gives it.
+/// Rows times columns; `for_sweep` or `for_roll` gives it tolerances, and a sweep its rolls.
 pub fn plan(s: &mut Seeded, targets: Targets, rows: usize, times: usize) -> Plan {
     let (suns, observers): (Vec<Vector>, Vec<Vector>) = (0..times).map(|_| positions(s)).unzip();
     let targets: Vec<Vector> = (0..rows).map(|_| target(s, targets, &suns, &observers)).collect();
@@ -134,9 +149,10 @@ pub fn plan(s: &mut Seeded, targets: Targets, rows: usize, times: usize) -> Plan
         targets: targets.concat(),
         suns: suns.concat(),
         observers: observers.concat(),
-        tolerance_deg: 0.0,
+        tolerances: vec![0.0],
         roll_deg: None,
-        panel_normal: panel(s),
+        panels: panel(s).to_vec(),
+        rolls: Vec::new(),
     }
 }
 
@@ -146,7 +162,7 @@ fn some_roll(s: &mut Seeded, plan: &Plan) -> f64 {
         return 0.0;
     }
     let (i, j) = (s.index(plan.rows()), s.index(plan.times()));
-    optimal_roll(plan.target(i), sun_unit(plan.sun(j), plan.observer(j)), plan.panel_normal)
+    optimal_roll(plan.target(i), sun_unit(plan.sun(j), plan.observer(j)), plan.panel(i))
 }
 
 /// A roll as a caller may hand it over.
@@ -180,11 +196,12 @@ fn odd_tolerance(s: &mut Seeded) -> f64 {
 /// Settings for a sweep of n rolls: without a configured roll mostly a tolerance below 180 / n, as a larger one marks nothing.
 pub fn for_sweep(s: &mut Seeded, plan: &mut Plan, n: u64) {
     let half = 180.0 / n as f64;
+    plan.rolls = even_rolls(n);
     plan.roll_deg = s.once_in(5).then(|| roll(s, plan));
     if plan.roll_deg.is_some() {
         return for_roll(s, plan);
     }
-    plan.tolerance_deg = match s.below(16) {
+    let tolerance = match s.below(16) {
         0 => odd_tolerance(s),
         1 => s.between(half, 200.0),
         2 => half,
@@ -197,11 +214,12 @@ pub fn for_sweep(s: &mut Seeded, plan: &mut Plan, n: u64) {
         }
         _ => s.unit() * half,
     };
+    plan.tolerances = vec![tolerance];
 }
 
 /// Settings for marks at one roll: a tolerance between 0 and 180, the configured roll as it is.
 pub fn for_roll(s: &mut Seeded, plan: &mut Plan) {
-    plan.tolerance_deg = match s.below(12) {
+    let tolerance = match s.below(12) {
         0 => odd_tolerance(s),
         1 => -s.unit(),
         2 => {
@@ -210,6 +228,7 @@ pub fn for_roll(s: &mut Seeded, plan: &mut Plan) {
         }
         _ => s.between(0.0, 180.0),
     };
+    plan.tolerances = vec![tolerance];
 }
 
 /// How work over a range of so many chunks gets the Sun's units, as `pays` of crates/journal/src/range.rt decides: from a table of all times,
@@ -233,4 +252,20 @@ pub fn units(plan: &Plan, chunks: u64) -> Units {
 /// A range's length about where that decision turns.
 pub fn around_the_turn(s: &mut Seeded, plan: &Plan) -> u64 {
     plan.times() as u64 / 64 + s.within(1, 12)
+}
+
+#[cfg(test)]
+mod tests {
+    use super::*;
+
+    #[test]
+    fn unit_targets_have_length_1() {
+        let mut s = Seeded::new(1);
+        for k in 0..20_000 {
+            let p = plan(&mut s, Targets::Unit, 16, k % 4);
+            for i in 0..p.rows() {
+                assert!(is_unit(p.target(i)), "plan {k}, target {i}: {:?}", p.target(i));
+            }
+        }
+    }
 }

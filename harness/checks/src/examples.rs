@@ -2,6 +2,7 @@
 //! what it rules out.
 use crate::Calls;
 use model::arithmetic::bits;
+use model::roll::even_rolls;
 use model::windows::Window;
 use model::{Answer, Optimal, Plan, Roll};
 use Asked::*;
@@ -80,19 +81,20 @@ pub const EXAMPLES: [(Asked, &str); 29] = [
     (Expansion((10, 20), &[20, 0, 10, 30, 10]), "10101"),
 ];
 
-/// The examples' target and panel, with a Sun a time, seen from 0.
+/// The examples' target and panel, with a Sun a time, seen from 0; n is 1.
 pub fn plan(suns: &[[f64; 3]], tolerance_deg: f64) -> Plan {
     Plan {
         targets: vec![1.0, 0.0, 0.0],
         suns: suns.concat(),
         observers: vec![0.0; 3 * suns.len()],
-        tolerance_deg,
+        tolerances: vec![tolerance_deg],
         roll_deg: None,
-        panel_normal: [0.0, 1.0, 0.0],
+        panels: vec![0.0, 1.0, 0.0],
+        rolls: even_rolls(1),
     }
 }
 
-/// The plan of the example's journal; its n is 1.
+/// The plan of the example's journal.
 pub fn journal_plan() -> Plan {
     plan(&[[0.0, 1.0, 0.0], [0.0, 0.0, 1.0]], 10.0)
 }
@@ -136,12 +138,12 @@ pub fn answer(calls: &dyn Calls, asked: Asked) -> Answer<String> {
             windows(&calls.visibility_windows(&mask, &times, [mask.len(); 6])?)
         }
         Expansion((first, last), times) => marks(&calls.expand(&[first], &[last], times, times.len())?),
-        Journal => String::from_utf8(calls.swept(&journal_plan(), 1, &[0])?.0).expect("text"),
+        Journal => String::from_utf8(calls.swept(&journal_plan(), &[0])?.0).expect("text"),
         Collected => {
-            let (_, mask, sum) = calls.swept(&journal_plan(), 1, &[0])?;
+            let (_, mask, sum) = calls.swept(&journal_plan(), &[0])?;
             format!("{} {sum}", marks(&mask))
         }
-        Recovered(used) => calls.recover(&journal_plan(), 1, &JOURNAL.as_bytes()[..used])?.to_string(),
+        Recovered(used) => calls.recover(&journal_plan(), &JOURNAL.as_bytes()[..used])?.to_string(),
     })
 }
 

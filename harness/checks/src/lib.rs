@@ -24,11 +24,11 @@ pub trait Calls {
     fn field_of_regard_violated_batch(&self, plan: &Plan, time: u64, n: u64, lent: usize) -> Answer<Vec<u8>>;
     fn field_of_regard_violated_at_roll(&self, plan: &Plan, time: u64, roll: f64, lent: usize) -> Answer<Vec<u8>>;
     /// Begin, work on the chunks in this order, and collect: the journal, the mask and the sum of probes.
-    fn swept(&self, plan: &Plan, n: u64, order: &[u64]) -> Answer<(Vec<u8>, Vec<u8>, u64)>;
+    fn swept(&self, plan: &Plan, order: &[u64]) -> Answer<(Vec<u8>, Vec<u8>, u64)>;
     /// The same by work over ranges of chunks, in this order.
-    fn ranged(&self, plan: &Plan, n: u64, ranges: &[Range<u64>]) -> Answer<(Vec<u8>, Vec<u8>, u64)>;
+    fn ranged(&self, plan: &Plan, ranges: &[Range<u64>]) -> Answer<(Vec<u8>, Vec<u8>, u64)>;
     /// The used length after it, of a journal all of whose bytes are used.
-    fn recover(&self, plan: &Plan, n: u64, journal: &[u8]) -> Answer<u64>;
+    fn recover(&self, plan: &Plan, journal: &[u8]) -> Answer<u64>;
     fn violation_windows(&self, mask: &[u8], times: &[i64], severities: &[f64], columns: [usize; 6]) -> Answer<Vec<Window>>;
     fn visibility_windows(&self, mask: &[u8], times: &[i64], columns: [usize; 6]) -> Answer<Vec<Window>>;
     fn violation_records(&self, mask: &[u8], times: &[i64], severities: &[f64], lent: usize) -> Answer<Vec<Window>>;
@@ -73,8 +73,8 @@ impl Calls for Model {
     fn field_of_regard_violated_at_roll(&self, plan: &Plan, time: u64, roll: f64, lent: usize) -> Answer<Vec<u8>> {
         plan.field_of_regard_violated_at_roll(time, roll, lent)
     }
-    fn swept(&self, plan: &Plan, n: u64, order: &[u64]) -> Answer<(Vec<u8>, Vec<u8>, u64)> {
-        let sweep = Sweep::new(plan.clone(), n)?;
+    fn swept(&self, plan: &Plan, order: &[u64]) -> Answer<(Vec<u8>, Vec<u8>, u64)> {
+        let sweep = Sweep::new(plan.clone())?;
         let mut journal = sweep.header.clone();
         for &c in order {
             journal.extend(&sweep.lines[c as usize]);
@@ -82,11 +82,11 @@ impl Calls for Model {
         let (mask, sum) = sweep.collect(&journal, journal.len() as u64, plan.cells())?;
         Ok((journal, mask, sum))
     }
-    fn ranged(&self, plan: &Plan, n: u64, ranges: &[Range<u64>]) -> Answer<(Vec<u8>, Vec<u8>, u64)> {
-        self.swept(plan, n, &ranges.iter().cloned().flatten().collect::<Vec<_>>())
+    fn ranged(&self, plan: &Plan, ranges: &[Range<u64>]) -> Answer<(Vec<u8>, Vec<u8>, u64)> {
+        self.swept(plan, &ranges.iter().cloned().flatten().collect::<Vec<_>>())
     }
-    fn recover(&self, plan: &Plan, n: u64, journal: &[u8]) -> Answer<u64> {
-        Sweep::new(plan.clone(), n)?.recover(journal, journal.len() as u64)
+    fn recover(&self, plan: &Plan, journal: &[u8]) -> Answer<u64> {
+        Sweep::new(plan.clone())?.recover(journal, journal.len() as u64)
     }
     fn violation_windows(&self, mask: &[u8], times: &[i64], severities: &[f64], columns: [usize; 6]) -> Answer<Vec<Window>> {
         model::windows::violation_windows(mask, times, severities, columns)

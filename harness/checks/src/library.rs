@@ -15,16 +15,10 @@ const TIME: i64 = -0x1234_5678_9abc;
 const RECORD: wilfnusk::Window =
     wilfnusk::Window { first: NUMBER, last: NUMBER, first_time: TIME, last_time: TIME, severity: FLOAT, is_last: NUMBER };
 
-/// The plan, borrowed as the wrapper takes it.
+/// The plan, borrowed as the wrapper takes it: the one place that makes it the C names' arguments. Calls with rolls take their number beside it.
 pub fn lent(p: &Plan) -> wilfnusk::Plan<'_> {
-    wilfnusk::Plan {
-        targets: &p.targets,
-        suns: &p.suns,
-        observers: &p.observers,
-        tolerance_deg: p.tolerance_deg,
-        roll_deg: p.roll_deg,
-        panel_normal: p.panel_normal,
-    }
+    let (tolerance_deg, panel_normal) = p.settings();
+    wilfnusk::Plan { targets: &p.targets, suns: &p.suns, observers: &p.observers, tolerance_deg, roll_deg: p.roll_deg, panel_normal }
 }
 
 /// Lends a list of `lent` patterns, and gives its first `written` places if the call is accepted.
@@ -118,46 +112,19 @@ fn records(lent: usize, call: impl FnOnce(&mut [wilfnusk::Window]) -> Result<u64
 
 /// Work over a range: the used length after it, and the chunk at which it stopped, which a refused call leaves as it was.
 pub fn work_range(plan: &Plan, n: u64, chunks: Range<u64>, journal: &mut [u8], used: u64) -> Answer<(u64, u64)> {
-    let (p, [x, y, z]) = (plan, plan.panel_normal);
-    let (has_roll, roll) = (p.roll_deg.is_some() as u64, p.roll_deg.unwrap_or(0.0));
-    let (targets, suns, observers) = (p.targets.as_ptr(), p.suns.as_ptr(), p.observers.as_ptr());
-    let (bytes, room, mut stopped) = (journal.as_mut_ptr(), journal.len(), NUMBER);
-    // The C name itself, as the wrapper keeps the lent number to itself.
-    let answer = unsafe {
-        wilfnusk::sys::wilfnusk_work_range(
-            targets,
-            p.targets.len(),
-            suns,
-            p.suns.len(),
-            observers,
-            p.observers.len(),
-            p.tolerance_deg,
-            has_roll,
-            roll,
-            x,
-            y,
-            z,
-            n,
-            chunks.start,
-            chunks.end,
-            bytes,
-            room,
-            used,
-            &mut stopped,
-        )
-    };
-    assert!(answer >= 0 || stopped == NUMBER, "{answer}, and a number that is not its to write has changed");
-    u64::try_from(answer).map(|used| (used, stopped)).map_err(|_| -answer as u8)
+    let mut stopped = NUMBER;
+    let answer = lent(plan).work_range_into(n, chunks, journal, used, &mut stopped);
+    assert!(answer.is_ok() || stopped == NUMBER, "{answer:?}, and a number that is not its to write has changed");
+    answer.map(|used| (used, stopped)).map_err(|r| r.number())
 }
 
 /// Begins a journal of so many lines, has them written, and collects.
 fn written(
     plan: &Plan,
-    n: u64,
     lines: u64,
     write: impl FnOnce(&wilfnusk::Plan, &mut [u8], u64) -> Result<u64, Refusal>,
 ) -> Answer<(Vec<u8>, Vec<u8>, u64)> {
-    let p = lent(plan);
+    let (p, n) = (lent(plan), plan.n());
     let room = wilfnusk::HEADER_BYTES + lines * wilfnusk::LINE_BYTES;
     let mut journal = vec![BYTE; room as usize + 2];
     let used = p.begin(n, &mut journal, 0).and_then(|used| write(&p, &mut journal, used)).map_err(|r| r.number())?;
@@ -235,27 +202,27 @@ impl Calls for Library {
     fn field_of_regard_violated_at_roll(&self, plan: &Plan, time: u64, roll: f64, room: usize) -> Answer<Vec<u8>> {
         output(room, BYTE, plan.rows(), |mask| lent(plan).field_of_regard_violated_at_roll(time, roll, mask))
     }
-    fn swept(&self, plan: &Plan, n: u64, order: &[u64]) -> Answer<(Vec<u8>, Vec<u8>, u64)> {
-        written(plan, n, order.len() as u64, |p, journal, mut used| {
+    fn swept(&self, plan: &Plan, order: &[u64]) -> Answer<(Vec<u8>, Vec<u8>, u64)> {
+        written(plan, order.len() as u64, |p, journal, mut used| {
             for &chunk in order {
-                used = p.work(n, chunk, journal, used)?;
+                used = p.work(plan.n(), chunk, journal, used)?;
             }
             Ok(used)
         })
     }
-    fn ranged(&self, plan: &Plan, n: u64, ranges: &[Range<u64>]) -> Answer<(Vec<u8>, Vec<u8>, u64)> {
+    fn ranged(&self, plan: &Plan, ranges: &[Range<u64>]) -> Answer<(Vec<u8>, Vec<u8>, u64)> {
         let lines = ranges.iter().map(|r| r.end - r.start).sum();
-        written(plan, n, lines, |p, journal, mut used| {
+        written(plan, lines, |p, journal, mut used| {
             for range in ranges {
-                let (after, stopped) = p.work_range(n, range.clone(), journal, used)?;
+                let (after, stopped) = p.work_range(plan.n(), range.clone(), journal, used)?;
                 assert_eq!((after, stopped), (used + (range.end - range.start) * wilfnusk::LINE_BYTES, range.end));
                 used = after;
             }
             Ok(used)
         })
     }
-    fn recover(&self, plan: &Plan, n: u64, journal: &[u8]) -> Answer<u64> {
-        lent(plan).recover(n, journal, journal.len() as u64).map_err(|r| r.number())
+    fn recover(&self, plan: &Plan, journal: &[u8]) -> Answer<u64> {
+        lent(plan).recover(plan.n(), journal, journal.len() as u64).map_err(|r| r.number())
     }
     fn violation_windows(&self, mask: &[u8], times: &[i64], severities: &[f64], room: [usize; 6]) -> Answer<Vec<Window>> {
         columns(room, |out| wilfnusk::violation_windows(mask, times, severities, out))

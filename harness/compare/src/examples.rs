@@ -23,11 +23,11 @@ fn answer(asked: Asked) -> Answer<String> {
         Expansion((first, last), times) => marks(&oracle::expand(&[first], &[last], times)),
         Journal => {
             let header = examples::answer(&Model, Journal)?[..107].to_string();
-            let lines = crate::plans::lines(&Oracle::new(&journal_plan(), &[0, 1]).sweep(1));
+            let lines = crate::plans::lines(&Oracle::new(&journal_plan(), &[0, 1]).sweep());
             header + &String::from_utf8(lines.concat()).expect("text")
         }
         Collected => {
-            let (mask, tried) = Oracle::new(&journal_plan(), &[0, 1]).sweep(1);
+            let (mask, tried) = Oracle::new(&journal_plan(), &[0, 1]).sweep();
             format!("{} {}", marks(&mask), tried.iter().sum::<u64>())
         }
         Root(_) | RootBits(_) | ArctangentBits(..) | Recovered(_) => return examples::answer(&Model, asked),

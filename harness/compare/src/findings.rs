@@ -3,12 +3,13 @@
 use crate::tally::Tally;
 use checks::Calls;
 use model::arithmetic::bits;
+use model::roll::even_rolls;
 use model::{Plan, Roll};
 use oracle::{patch, Oracle};
 
 fn plan(target: [f64; 3], sun: [f64; 3], tolerance_deg: f64, roll_deg: Option<f64>) -> Plan {
-    let panel_normal = [0.0, 1.0, 0.0];
-    Plan { targets: target.to_vec(), suns: sun.to_vec(), observers: vec![0.0; 3], tolerance_deg, roll_deg, panel_normal }
+    let (tolerances, panels, rolls) = (vec![tolerance_deg], vec![0.0, 1.0, 0.0], even_rolls(1));
+    Plan { targets: target.to_vec(), suns: sun.to_vec(), observers: vec![0.0; 3], tolerances, roll_deg, panels, rolls }
 }
 
 pub fn run(calls: &dyn Calls, t: &mut Tally) {
@@ -26,9 +27,9 @@ fn refused(calls: &dyn Calls, t: &mut Tally) {
     let theirs = Oracle::new(&p, &[0]).in_constraint_batch_at_roll(Roll::Sweep(0.0));
     t.known("1: a target of length 2", (ours, theirs), (Err(5), vec![1]));
 
-    let p = plan([1.0, 0.0, 0.0], [0.0, 0.0, 1.0], 10.0, None);
-    let ours = calls.swept(&p, 0, &[0]).map(|swept| swept.1);
-    t.known("1: a sweep of no rolls", (ours, Oracle::new(&p, &[0]).sweep(0).0), (Err(3), vec![1]));
+    let p = Plan { rolls: vec![], ..plan([1.0, 0.0, 0.0], [0.0, 0.0, 1.0], 10.0, None) };
+    let ours = calls.swept(&p, &[0]).map(|swept| swept.1);
+    t.known("1: a sweep of no rolls", (ours, Oracle::new(&p, &[0]).sweep().0), (Err(3), vec![1]));
 
     // A severity of difference - tolerance is +infinity where the tolerance is -infinity: 14 of the listing.
     let p = plan([1.0, 0.0, 0.0], [0.0, 0.0, 1.0], f64::NEG_INFINITY, Some(0.0));
@@ -72,8 +73,8 @@ fn every_roll(calls: &dyn Calls, t: &mut Tally) {
     let o = Oracle::new(&p, &[0]);
     let rolls: Vec<u64> = o.named_values().iter().map(|&r| bits(r)).collect();
     assert_eq!(rolls, [0xc05d_2429_cc69_8771]);
-    t.same("sweep where every roll differs", calls.swept(&p, 1, &[0]).map(|s| s.1), vec![1], &|| format!("{p:?}"));
+    t.same("sweep where every roll differs", calls.swept(&p, &[0]).map(|s| s.1), vec![1], &|| format!("{p:?}"));
     t.same("every roll where the sweep differs", calls.constrained_at_every_roll(&p, 1, 1), vec![0], &|| format!("{p:?}"));
-    t.same("sweep where every roll differs", Ok(o.sweep(1).0), vec![1], &|| "the original".to_string());
+    t.same("sweep where every roll differs", Ok(o.sweep().0), vec![1], &|| "the original".to_string());
     t.same("every roll where the sweep differs", Ok(o.constrained_at_every_roll(1)), vec![0], &|| "the original".to_string());
 }

@@ -51,17 +51,21 @@ fn one(calls: &dyn Calls, t: &mut Tally, s: &mut Seeded, (rows, times): (usize, 
     let cells = p.cells();
     let room = cells + s.index(3);
     t.cells += cells as u64;
+    // Mostly an evaluator a row; the large plans and some others as the original's users ask it, by one for all rows.
+    let whole = t.uncounted || s.once_in(4);
+    t.wholes += whole as u64;
+    let oracle = if whole { Oracle::whole } else { Oracle::new };
 
     for_sweep(s, &mut p, n);
     t.plans += 1;
-    t.telling += (p.roll_deg.is_some() || p.tolerance_deg < 180.0 / n as f64) as u64;
-    let o = Oracle::new(&p, &instants);
+    t.telling += (p.roll_deg.is_some() || (0..rows).any(|i| p.tolerance(i) < 180.0 / n as f64)) as u64;
+    let o = oracle(&p, &instants);
     let shown = || format!("n {n} {p:?}");
     rolls(calls, t, &p, &o, room);
-    let swept = o.sweep(n);
-    sweep(calls, t, s, &p, n, swept.clone());
+    let swept = o.sweep();
+    sweep(calls, t, s, &p, swept.clone());
     for _ in 0..if times > 8000 { 6 } else { 1 } {
-        ranges(calls, t, s, &p, n, &swept);
+        ranges(calls, t, s, &p, &swept);
     }
     t.mask("every roll", calls.constrained_at_every_roll(&p, n, room), o.constrained_at_every_roll(n), &shown);
     let j = s.index(times);
@@ -75,7 +79,7 @@ fn one(calls: &dyn Calls, t: &mut Tally, s: &mut Seeded, (rows, times): (usize, 
 
     p.roll_deg = if s.once_in(4) { None } else { Some(roll(s, &p)) };
     for_roll(s, &mut p);
-    let o = Oracle::new(&p, &instants);
+    let o = oracle(&p, &instants);
     let asked = roll(s, &p);
     let shown = || format!("roll {asked:e} {p:?}");
     for (kind, roll) in [("at a sweep's roll", Roll::Sweep(asked)), ("at a fixed roll", Roll::Fixed(asked))] {
@@ -102,7 +106,7 @@ fn rolls(calls: &dyn Calls, t: &mut Tally, p: &Plan, o: &Oracle, room: usize) {
         let times = p.times();
         for c in 0..p.cells() {
             let (i, j) = (c / times, c % times);
-            let cell = calls.cell(p.target(i), p.sun(j), p.observer(j), p.panel_normal).map(|optimal| match optimal {
+            let cell = calls.cell(p.target(i), p.sun(j), p.observer(j), p.panel(i)).map(|optimal| match optimal {
                 Optimal::Free => (0, 0),
                 Optimal::At(roll) => (1, model::arithmetic::bits(roll) as i64),
             });
@@ -129,13 +133,13 @@ fn shuffle<T>(s: &mut Seeded, list: &mut [T]) {
 }
 
 /// The chunks in a random order: each line, the mask, and the sum of probes.
-fn sweep(calls: &dyn Calls, t: &mut Tally, s: &mut Seeded, p: &Plan, n: u64, swept: (Vec<u8>, Vec<u64>)) {
+fn sweep(calls: &dyn Calls, t: &mut Tally, s: &mut Seeded, p: &Plan, swept: (Vec<u8>, Vec<u64>)) {
     let mut order: Vec<u64> = (0..p.cells().div_ceil(64) as u64).collect();
     shuffle(s, &mut order);
     let lines = lines(&swept);
     let (mask, tried) = swept;
-    let shown = || format!("n {n} order {order:?} {p:?}");
-    match calls.swept(p, n, &order) {
+    let shown = || format!("order {order:?} {p:?}");
+    match calls.swept(p, &order) {
         Ok((journal, ours, sum)) => {
             t.mask("sweep", Ok(ours), mask, &shown);
             t.same("probes", Ok(sum), tried.iter().sum(), &shown);
@@ -148,7 +152,7 @@ fn sweep(calls: &dyn Calls, t: &mut Tally, s: &mut Seeded, p: &Plan, n: u64, swe
 }
 
 /// All chunks by ranges in a random order: short ones, the whole, and ones about where the library changes how it works.
-fn ranges(calls: &dyn Calls, t: &mut Tally, s: &mut Seeded, p: &Plan, n: u64, swept: &(Vec<u8>, Vec<u64>)) {
+fn ranges(calls: &dyn Calls, t: &mut Tally, s: &mut Seeded, p: &Plan, swept: &(Vec<u8>, Vec<u64>)) {
     let chunks = p.cells().div_ceil(64) as u64;
     let mut list = Vec::new();
     let mut from = 0;
@@ -164,8 +168,8 @@ fn ranges(calls: &dyn Calls, t: &mut Tally, s: &mut Seeded, p: &Plan, n: u64, sw
     }
     shuffle(s, &mut list);
     let lines = lines(swept);
-    let shown = || format!("n {n} ranges {list:?} {p:?}");
-    let ours = calls.ranged(p, n, &list);
+    let shown = || format!("ranges {list:?} {p:?}");
+    let ours = calls.ranged(p, &list);
     let mut at = HEADER;
     for range in &list {
         let kind = RANGES[units(p, range.end - range.start) as usize];

@@ -20,6 +20,8 @@ pub struct Tally {
     pub cells: u64,
     pub masks: u64,
     pub plans: u64,
+    /// Plans that the Rust answered by one evaluator for all rows.
+    pub wholes: u64,
     /// Plans whose tolerance is below 180 / n or that have a configured roll.
     pub telling: u64,
     /// Marks are not counted: one large plan would outweigh all others.
@@ -121,8 +123,9 @@ impl Tally {
             }
         }
         println!(
-            "{} cells of {} plans ({} with a tolerance below 180 / n or a configured roll), {} masks of rows",
-            self.cells, self.plans, self.telling, self.masks
+            "{} cells of {} plans ({} with a tolerance below 180 / n or a configured roll; {} answered by one evaluator for all rows, the others by \
+             one a row), {} masks of rows",
+            self.cells, self.plans, self.telling, self.wholes, self.masks
         );
         if self.cells < 2_000_000 || self.masks < 1_000_000 {
             fail("fewer than 2,000,000 cells or 1,000,000 masks".to_string());

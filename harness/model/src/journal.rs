@@ -6,10 +6,9 @@ use crate::{first, Answer, Plan};
 pub const HEADER: usize = 107;
 pub const LINE: usize = 33;
 
-/// A plan with its n, and what section 3 says of it, worked out once.
+/// A plan, and what section 3 says of it, worked out once.
 pub struct Sweep {
     pub plan: Plan,
-    pub n: u64,
     pub header: Vec<u8>,
     /// The line of each chunk.
     pub lines: Vec<Vec<u8>>,
@@ -45,15 +44,16 @@ fn line(bytes: &[u8]) -> Option<Line> {
 }
 
 impl Sweep {
-    pub fn new(plan: Plan, n: u64) -> Answer<Sweep> {
-        plan.refusal(Rolls::Sampled(n), false)?;
-        let cells = plan.sweep(n);
-        let mut header = format!("{:08x}{:08x}{n:08x}{:016x}", plan.rows(), plan.times(), bits(plan.tolerance_deg));
+    pub fn new(plan: Plan) -> Answer<Sweep> {
+        plan.refusal(Rolls::Sampled(plan.n()), false)?;
+        let cells = plan.sweep();
+        let (tolerance, panel) = plan.settings();
+        let mut header = format!("{:08x}{:08x}{:08x}{:016x}", plan.rows(), plan.times(), plan.n(), bits(tolerance));
         header += &match plan.roll_deg {
             Some(roll) => format!("01{:016x}", bits(roll)),
             None => format!("00{:016x}", 0),
         };
-        for x in plan.panel_normal {
+        for x in panel {
             header += &format!("{:016x}", bits(x));
         }
         header.push('\n');
@@ -69,7 +69,6 @@ impl Sweep {
             probes: cells.iter().map(|cell| cell.1).sum(),
             header: header.into_bytes(),
             plan,
-            n,
         })
     }
     pub fn chunks(&self) -> usize {
@@ -88,7 +87,8 @@ impl Sweep {
         let cells = self.cells_of(l.chunk);
         let marked = l.mask.count_ones() as u64;
         let spare = cells < 64 && l.mask >> cells != 0;
-        !spare && cells - marked + self.n * marked <= l.probes && l.probes <= self.n * cells
+        let n = self.plan.n();
+        !spare && cells - marked + n * marked <= l.probes && l.probes <= n * cells
     }
     /// When the used bytes j are right.
     pub fn right(&self, j: &[u8]) -> bool {

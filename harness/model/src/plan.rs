@@ -1,15 +1,21 @@
 //! The plan, its cells, and refusals 1 to 6.
 use crate::{first, Answer};
 
+/// Its lists are asked by row through `target`, `tolerance` and `panel`, so that what a row has of them is said in one place.
 #[derive(Clone, Debug, Default)]
 pub struct Plan {
     /// Three numbers a direction or position.
     pub targets: Vec<f64>,
     pub suns: Vec<f64>,
     pub observers: Vec<f64>,
-    pub tolerance_deg: f64,
+    /// Degrees: one entry, for every row.
+    pub tolerances: Vec<f64>,
+    /// The configured roll.
     pub roll_deg: Option<f64>,
-    pub panel_normal: [f64; 3],
+    /// Three numbers a panel normal: one panel, for every row.
+    pub panels: Vec<f64>,
+    /// What a sweep tries, in this order: n even steps.
+    pub rolls: Vec<f64>,
 }
 
 /// Where refusal 3 is asked.
@@ -25,6 +31,10 @@ pub enum Rolls {
 
 fn too_large(x: f64) -> bool {
     !x.is_finite() || x.abs() > 1e100
+}
+
+fn triple(list: &[f64], k: usize) -> [f64; 3] {
+    [list[3 * k], list[3 * k + 1], list[3 * k + 2]]
 }
 
 pub fn bad_position(v: &[f64]) -> bool {
@@ -45,14 +55,29 @@ impl Plan {
     pub fn cells(&self) -> usize {
         self.rows() * self.times()
     }
-    pub fn target(&self, i: usize) -> [f64; 3] {
-        [self.targets[3 * i], self.targets[3 * i + 1], self.targets[3 * i + 2]]
+    /// How many rolls a sweep tries.
+    pub fn n(&self) -> u64 {
+        self.rolls.len() as u64
     }
-    pub fn sun(&self, j: usize) -> [f64; 3] {
-        [self.suns[3 * j], self.suns[3 * j + 1], self.suns[3 * j + 2]]
+    pub fn target(&self, row: usize) -> [f64; 3] {
+        triple(&self.targets, row)
     }
-    pub fn observer(&self, j: usize) -> [f64; 3] {
-        [self.observers[3 * j], self.observers[3 * j + 1], self.observers[3 * j + 2]]
+    pub fn tolerance(&self, _row: usize) -> f64 {
+        self.tolerances[0]
+    }
+    pub fn panel(&self, _row: usize) -> [f64; 3] {
+        triple(&self.panels, 0)
+    }
+    /// The one tolerance and the one panel, for what has room for no more: a header, a C name, a file. A plan without rows has them too.
+    pub fn settings(&self) -> (f64, [f64; 3]) {
+        assert!(self.tolerances.len() == 1 && self.panels.len() == 3, "one tolerance and one panel");
+        (self.tolerances[0], triple(&self.panels, 0))
+    }
+    pub fn sun(&self, time: usize) -> [f64; 3] {
+        triple(&self.suns, time)
+    }
+    pub fn observer(&self, time: usize) -> [f64; 3] {
+        triple(&self.observers, time)
     }
 
     /// *Plan*, before every call with positions. `beyond`: a used length is beyond its buffer.
@@ -69,7 +94,7 @@ impl Plan {
             (bad_n, 3),
             (bad_position(&self.suns) || bad_position(&self.observers), 4),
             (bad_direction(&self.targets), 5),
-            (bad_position(&self.panel_normal), 6),
+            (bad_position(&self.panels), 6),
         ])
     }
 }

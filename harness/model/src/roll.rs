@@ -71,6 +71,11 @@ pub fn difference(a: f64, b: f64) -> f64 {
     180.0 - (remainder(a - b, 360.0) - 180.0).abs()
 }
 
+/// The samples of a sweep: n even steps.
+pub fn even_rolls(n: u64) -> Vec<f64> {
+    (0..n).map(|k| k as f64 * (360.0 / n as f64)).collect()
+}
+
 /// *One cell*.
 pub fn cell(target: Vector, sun: Vector, observer: Vector, panel: Vector) -> Answer<Optimal> {
     first(&[(bad_position(&sun) || bad_position(&observer), 4), (bad_direction(&target), 5), (bad_position(&panel), 6)])?;
@@ -87,15 +92,15 @@ impl Plan {
         sun_unit(self.sun(j), self.observer(j))
     }
     pub fn optimal(&self, i: usize, j: usize) -> Optimal {
-        let (target, sun) = (self.target(i), self.sun_unit(j));
-        if is_free(target, sun, self.panel_normal) {
+        let (target, sun, panel) = (self.target(i), self.sun_unit(j), self.panel(i));
+        if is_free(target, sun, panel) {
             Optimal::Free
         } else {
-            Optimal::At(optimal_roll(target, sun, self.panel_normal))
+            Optimal::At(optimal_roll(target, sun, panel))
         }
     }
     fn violated(&self, i: usize, j: usize, roll: f64) -> bool {
-        matches!(self.optimal(i, j), Optimal::At(o) if difference(roll, o) > self.tolerance_deg)
+        matches!(self.optimal(i, j), Optimal::At(o) if difference(roll, o) > self.tolerance(i))
     }
     /// The roll in force: a configured one overrides Sweep, never Fixed.
     fn in_force(&self, roll: Roll) -> f64 {
@@ -116,7 +121,7 @@ impl Plan {
         let step = 360.0 / n as f64;
         let phase = remainder(o, step);
         let rest = step - phase;
-        (if phase < rest { phase } else { rest }) > self.tolerance_deg
+        (if phase < rest { phase } else { rest }) > self.tolerance(i)
     }
     fn mask(&self, rolls: Rolls, lent: usize, mark: impl Fn(usize, usize) -> bool) -> Answer<Vec<u8>> {
         self.refusal(rolls, false)?;
@@ -129,7 +134,8 @@ impl Plan {
         self.refusal(Rolls::NotTaken, false)?;
         first(&[room(self.cells(), lent)])?;
         let times = self.times();
-        Ok((0..self.cells()).map(|c| optimal_roll(self.target(c / times), self.sun_unit(c % times), self.panel_normal)).collect())
+        let value = |(i, j)| optimal_roll(self.target(i), self.sun_unit(j), self.panel(i));
+        Ok((0..self.cells()).map(|c| value((c / times, c % times))).collect())
     }
     pub fn in_constraint_batch(&self, lent: usize) -> Answer<Vec<u8>> {
         self.mask(Rolls::NotTaken, lent, |i, j| self.roll_deg.map_or(false, |r| self.violated(i, j, r)))
@@ -145,8 +151,9 @@ impl Plan {
         self.refusal(Rolls::NotTaken, false)?;
         first(&[(target >= self.rows() as u64, 9), room(self.times(), masks), room(self.times(), severities)])?;
         let Some(roll) = self.roll_deg else { return Ok((vec![0; self.times()], vec![0.0; self.times()])) };
-        let cell = |j| match self.optimal(target as usize, j) {
-            Optimal::At(o) if difference(roll, o) > self.tolerance_deg => (1, difference(roll, o) - self.tolerance_deg),
+        let (row, tolerance) = (target as usize, self.tolerance(target as usize));
+        let cell = |j| match self.optimal(row, j) {
+            Optimal::At(o) if difference(roll, o) > tolerance => (1, difference(roll, o) - tolerance),
             _ => (0, 0.0),
         };
         Ok((0..self.times()).map(cell).unzip())
@@ -164,17 +171,19 @@ impl Plan {
     }
 
     /// Section 3: each cell's mark, and how many samples are tried for it.
-    pub fn sweep(&self, n: u64) -> Vec<(bool, u64)> {
+    pub fn sweep(&self) -> Vec<(bool, u64)> {
         let times = self.times();
         let cell = |c: usize| {
-            let optimal = self.optimal(c / times, c % times);
-            for k in 0..n {
-                let roll = self.in_force(Roll::Sweep(k as f64 * (360.0 / n as f64)));
-                if !matches!(optimal, Optimal::At(o) if difference(roll, o) > self.tolerance_deg) {
-                    return (false, k + 1);
-                }
+            let (i, j) = (c / times, c % times);
+            let (optimal, tolerance) = (self.optimal(i, j), self.tolerance(i));
+            let clear = |&sample: &f64| {
+                let roll = self.in_force(Roll::Sweep(sample));
+                !matches!(optimal, Optimal::At(o) if difference(roll, o) > tolerance)
+            };
+            match self.rolls.iter().position(clear) {
+                Some(k) => (false, k as u64 + 1),
+                None => (true, self.n()),
             }
-            (true, n)
         };
         (0..self.cells()).map(cell).collect()
     }

@@ -15,6 +15,7 @@ use model::Plan;
 use ndarray::Array2;
 use pyo3::prelude::*;
 use std::cell::{Cell, RefCell};
+use std::ops::Range;
 use std::rc::Rc;
 
 struct Ephemeris(EphemerisData);
@@ -56,33 +57,103 @@ fn bytes<'a>(marks: impl IntoIterator<Item = &'a bool>) -> Vec<u8> {
     marks.into_iter().map(|&b| b as u8).collect()
 }
 
-/// A plan as the original holds it.
-pub struct Oracle {
-    ephemeris: Ephemeris,
+/// The Sun and the observer of a plan, as the original holds them: shared by every evaluator of it.
+fn ephemeris(plan: &Plan, times: &[i64]) -> Rc<Ephemeris> {
+    assert_eq!(times.len(), plan.times());
+    let mut data = EphemerisData::new();
+    data.times = Some(instants(times));
+    data.sun_gcrs = Some(array(&plan.suns));
+    data.gcrs = Some(array(&plan.observers));
+    Rc::new(Ephemeris(data))
+}
+
+/// A plan row by row: an evaluator a row, with that row's target, tolerance and panel; or one evaluator for all. Answers are joined in the order of
+/// the rows.
+pub struct Oracle(Vec<Whole>);
+
+impl Oracle {
+    pub fn new(plan: &Plan, times: &[i64]) -> Oracle {
+        let ephemeris = ephemeris(plan, times);
+        let row = |i| Whole::of(plan, i..i + 1, (plan.tolerance(i), plan.panel(i)), ephemeris.clone());
+        Oracle((0..plan.rows()).map(row).collect())
+    }
+    /// One evaluator for all rows, which goes through the original's own chunks of 65,536 cells.
+    pub fn whole(plan: &Plan, times: &[i64]) -> Oracle {
+        Oracle(vec![Whole::new(plan, times)])
+    }
+    /// The evaluator that has a row, and the row's number there.
+    fn at(&self, row: usize) -> (&Whole, usize) {
+        match &self.0[..] {
+            [whole] => (whole, row),
+            rows => (&rows[row], 0),
+        }
+    }
+    fn joined<T>(&self, answer: impl Fn(&Whole) -> Vec<T>) -> Vec<T> {
+        self.0.iter().flat_map(answer).collect()
+    }
+    pub fn named_values(&self) -> Vec<f64> {
+        self.joined(|row| row.named_array().iter().copied().collect())
+    }
+    pub fn not_free(&self) -> Vec<u8> {
+        self.joined(Whole::not_free)
+    }
+    pub fn in_constraint_batch(&self) -> Vec<u8> {
+        self.joined(Whole::in_constraint_batch)
+    }
+    pub fn in_constraint_batch_at_roll(&self, roll: model::Roll) -> Vec<u8> {
+        self.joined(|row| bytes(&row.array_at_roll(roll)))
+    }
+    pub fn constrained_at_every_roll(&self, n: u64) -> Vec<u8> {
+        self.joined(|row| row.constrained_at_every_roll(n))
+    }
+    pub fn field_of_regard_violated_batch(&self, time: usize, n: u64) -> Vec<u8> {
+        self.joined(|row| row.field_of_regard_violated_batch(time, n))
+    }
+    pub fn field_of_regard_violated_at_roll(&self, time: usize, roll: f64) -> Vec<u8> {
+        self.joined(|row| row.field_of_regard_violated_at_roll(time, roll))
+    }
+    pub fn sweep(&self) -> (Vec<u8>, Vec<u64>) {
+        let (masks, tried): (Vec<_>, Vec<_>) = self.0.iter().map(Whole::sweep).unzip();
+        (masks.concat(), tried.concat())
+    }
+    pub fn row(&self, row: usize) -> (Vec<u8>, Vec<f64>) {
+        let (part, k) = self.at(row);
+        part.row(k)
+    }
+    pub fn row_windows(&self, row: usize) -> Vec<(i64, i64, f64)> {
+        let (part, k) = self.at(row);
+        part.row_windows(k)
+    }
+}
+
+/// Rows of one tolerance and one panel under one evaluator, as a user of the original has them: what harness/bench times.
+pub struct Whole {
+    ephemeris: Rc<Ephemeris>,
     evaluator: Box<dyn ConstraintEvaluator>,
     config: SolarRollConfig,
     vectors: Vec<[f64; 3]>,
     ras: Vec<f64>,
     decs: Vec<f64>,
     times: usize,
+    n: u64,
 }
 
-impl Oracle {
-    pub fn new(plan: &Plan, times: &[i64]) -> Oracle {
-        assert_eq!(times.len(), plan.times());
-        let mut data = EphemerisData::new();
-        data.times = Some(instants(times));
-        data.sun_gcrs = Some(array(&plan.suns));
-        data.gcrs = Some(array(&plan.observers));
-        let config = SolarRollConfig { tolerance_deg: plan.tolerance_deg, roll_deg: plan.roll_deg, panel_normal: plan.panel_normal };
-        Oracle {
-            ephemeris: Ephemeris(data),
+impl Whole {
+    /// All rows of a plan that has one tolerance and one panel.
+    pub fn new(plan: &Plan, times: &[i64]) -> Whole {
+        Whole::of(plan, 0..plan.rows(), plan.settings(), ephemeris(plan, times))
+    }
+    fn of(plan: &Plan, rows: Range<usize>, (tolerance_deg, panel_normal): (f64, [f64; 3]), ephemeris: Rc<Ephemeris>) -> Whole {
+        let config = SolarRollConfig { tolerance_deg, roll_deg: plan.roll_deg, panel_normal };
+        Whole {
+            ephemeris,
             evaluator: config.to_evaluator(),
             config,
-            vectors: (0..plan.rows()).map(|i| plan.target(i)).collect(),
-            ras: (0..plan.rows()).map(|i| i as f64).collect(),
-            decs: vec![0.0; plan.rows()],
-            times: times.len(),
+            ras: (0..rows.len()).map(|k| k as f64).collect(),
+            decs: vec![0.0; rows.len()],
+            vectors: rows.map(|i| plan.target(i)).collect(),
+            times: plan.times(),
+            n: plan.n(),
         }
     }
     fn targets(&self) -> Array2<f64> {
@@ -91,7 +162,7 @@ impl Oracle {
     /// As the original hands it over, like the two below: harness/bench times these three.
     pub fn named_array(&self) -> Array2<f64> {
         patch::lend(&self.vectors);
-        let mut named = self.evaluator.compute_named_values(&self.ephemeris, &self.ras, &self.decs, None).unwrap();
+        let mut named = self.evaluator.compute_named_values(&*self.ephemeris, &self.ras, &self.decs, None).unwrap();
         named.remove("solar_optimal_roll_deg").unwrap()
     }
     pub fn array_at_roll(&self, roll: model::Roll) -> Array2<bool> {
@@ -100,61 +171,55 @@ impl Oracle {
             model::Roll::Sweep(r) => EvaluationRoll::Sweep(r),
             model::Roll::Fixed(r) => EvaluationRoll::Fixed(r),
         };
-        self.evaluator.in_constraint_batch_at_roll(&self.ephemeris, &self.ras, &self.decs, None, roll).unwrap()
+        self.evaluator.in_constraint_batch_at_roll(&*self.ephemeris, &self.ras, &self.decs, None, roll).unwrap()
     }
     /// `sweep_chunks` from a mask all true, and the cells tried, counted once a roll and prepared chunk.
-    pub fn swept_array(&self, n: u64) -> (Array2<bool>, u64) {
+    pub fn swept_array(&self) -> (Array2<bool>, u64) {
         patch::lend(&self.vectors);
         let mut mask = Array2::from_elem((self.vectors.len(), self.times), true);
         let tried = Rc::new(Cell::new(0));
         let prepare = |cells: &[roll_sweep::RollCell]| {
-            let inner = roll_sweep::prepare(&*self.evaluator, &self.ephemeris, &self.ras, &self.decs, None, cells)?;
+            let inner = roll_sweep::prepare(&*self.evaluator, &*self.ephemeris, &self.ras, &self.decs, None, cells)?;
             let tried = tried.clone();
             Ok(PreparedRollEvaluator::new(move |cells, roll| {
                 tried.set(tried.get() + cells.len() as u64);
                 inner.evaluate(cells, roll)
             }))
         };
-        roll_sweep::sweep_chunks(&mut mask, true, n as usize, prepare).unwrap();
+        roll_sweep::sweep_chunks(&mut mask, true, self.n as usize, prepare).unwrap();
         (mask, tried.get())
     }
-    pub fn named_values(&self) -> Vec<f64> {
-        self.named_array().iter().copied().collect()
-    }
     /// 1 where a cell is not Free: a tolerance below 0 violates every such cell.
-    pub fn not_free(&self) -> Vec<u8> {
+    fn not_free(&self) -> Vec<u8> {
         patch::lend(&self.vectors);
         let e = SolarRollConfig { tolerance_deg: -1.0, roll_deg: None, ..self.config.clone() }.to_evaluator();
-        bytes(&e.in_constraint_batch_at_roll(&self.ephemeris, &self.ras, &self.decs, None, EvaluationRoll::Fixed(0.0)).unwrap())
+        bytes(&e.in_constraint_batch_at_roll(&*self.ephemeris, &self.ras, &self.decs, None, EvaluationRoll::Fixed(0.0)).unwrap())
     }
-    pub fn in_constraint_batch(&self) -> Vec<u8> {
+    fn in_constraint_batch(&self) -> Vec<u8> {
         patch::lend(&self.vectors);
-        bytes(&self.evaluator.in_constraint_batch(&self.ephemeris, &self.ras, &self.decs, None).unwrap())
+        bytes(&self.evaluator.in_constraint_batch(&*self.ephemeris, &self.ras, &self.decs, None).unwrap())
     }
-    pub fn in_constraint_batch_at_roll(&self, roll: model::Roll) -> Vec<u8> {
-        bytes(&self.array_at_roll(roll))
-    }
-    pub fn constrained_at_every_roll(&self, n: u64) -> Vec<u8> {
+    fn constrained_at_every_roll(&self, n: u64) -> Vec<u8> {
         patch::lend(&self.vectors);
-        let mask = self.evaluator.in_constraint_batch_constrained_at_every_roll(&self.ephemeris, &self.ras, &self.decs, None, n as usize);
+        let mask = self.evaluator.in_constraint_batch_constrained_at_every_roll(&*self.ephemeris, &self.ras, &self.decs, None, n as usize);
         bytes(&mask.unwrap())
     }
-    pub fn field_of_regard_violated_batch(&self, time: usize, n: u64) -> Vec<u8> {
+    fn field_of_regard_violated_batch(&self, time: usize, n: u64) -> Vec<u8> {
         patch::lend_in_order(&self.vectors);
-        bytes(&self.evaluator.field_of_regard_violated_batch(&self.ephemeris, &self.targets(), time, n as usize).unwrap())
+        bytes(&self.evaluator.field_of_regard_violated_batch(&*self.ephemeris, &self.targets(), time, n as usize).unwrap())
     }
-    pub fn field_of_regard_violated_at_roll(&self, time: usize, roll: f64) -> Vec<u8> {
+    fn field_of_regard_violated_at_roll(&self, time: usize, roll: f64) -> Vec<u8> {
         patch::lend_in_order(&self.vectors);
-        bytes(&self.evaluator.field_of_regard_violated_at_roll(&self.ephemeris, &self.targets(), time, roll).unwrap())
+        bytes(&self.evaluator.field_of_regard_violated_at_roll(&*self.ephemeris, &self.targets(), time, roll).unwrap())
     }
     /// The mask of `sweep_chunks` from a mask all true, and how often each cell is tried: counted around the prepared evaluator.
-    pub fn sweep(&self, n: u64) -> (Vec<u8>, Vec<u64>) {
+    fn sweep(&self) -> (Vec<u8>, Vec<u64>) {
         patch::lend(&self.vectors);
         let times = self.times;
         let mut mask = Array2::from_elem((self.vectors.len(), times), true);
         let tried = Rc::new(RefCell::new(vec![0; mask.len()]));
         let prepare = |cells: &[roll_sweep::RollCell]| {
-            let inner = roll_sweep::prepare(&*self.evaluator, &self.ephemeris, &self.ras, &self.decs, None, cells)?;
+            let inner = roll_sweep::prepare(&*self.evaluator, &*self.ephemeris, &self.ras, &self.decs, None, cells)?;
             let tried = tried.clone();
             Ok(PreparedRollEvaluator::new(move |cells, roll| {
                 let mut tried = tried.borrow_mut();
@@ -164,23 +229,23 @@ impl Oracle {
                 inner.evaluate(cells, roll)
             }))
         };
-        roll_sweep::sweep_chunks(&mut mask, true, n as usize, prepare).unwrap();
+        roll_sweep::sweep_chunks(&mut mask, true, self.n as usize, prepare).unwrap();
         let tried = tried.take();
         (bytes(&mask), tried)
     }
     /// Mask and severities of `evaluate`: one sample at a time, as its result gives severities by window only.
-    pub fn row(&self, target: usize) -> (Vec<u8>, Vec<f64>) {
+    fn row(&self, row: usize) -> (Vec<u8>, Vec<f64>) {
         patch::lend(&self.vectors);
         let sample = |j: usize| {
-            let result = self.evaluator.evaluate(&self.ephemeris, target as f64, 0.0, Some(&[j])).unwrap();
+            let result = self.evaluator.evaluate(&*self.ephemeris, row as f64, 0.0, Some(&[j])).unwrap();
             result.violations.first().map_or((0, 0.0), |v| (1, v.max_severity))
         };
         (0..self.times).map(sample).unzip()
     }
     /// The windows of `evaluate` over the whole row: first and last time, severity.
-    pub fn row_windows(&self, target: usize) -> Vec<(i64, i64, f64)> {
+    fn row_windows(&self, row: usize) -> Vec<(i64, i64, f64)> {
         patch::lend(&self.vectors);
-        let result = self.evaluator.evaluate(&self.ephemeris, target as f64, 0.0, None).unwrap();
+        let result = self.evaluator.evaluate(&*self.ephemeris, row as f64, 0.0, None).unwrap();
         let window = |v: &ConstraintViolation| (nanoseconds(&v.start_time_internal), nanoseconds(&v.end_time_internal), v.max_severity);
         result.violations.iter().map(window).collect()
     }

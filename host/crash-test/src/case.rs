@@ -1,6 +1,6 @@
 //! Plans to sweep: their files for the program, and what document 01 says of them, worked out by the model.
 use cases::{plans::direction, Seeded};
-use model::{journal::Sweep, Plan};
+use model::{journal::Sweep, roll::even_rolls, Plan};
 use std::{fmt::Write, fs, path::Path};
 
 pub struct Case {
@@ -13,9 +13,9 @@ const FIRST_TIME: i64 = 1_774_000_000_000_000_000;
 const STEP: i64 = 60_000_000_000;
 
 impl Case {
-    fn new(name: &'static str, plan: Plan, n: u64) -> Case {
+    fn new(name: &'static str, plan: Plan) -> Case {
         let times = (0..plan.times() as i64).map(|j| FIRST_TIME + STEP * j).collect();
-        Case { name, sweep: Sweep::new(plan, n).expect("an accepted plan"), times }
+        Case { name, sweep: Sweep::new(plan).expect("an accepted plan"), times }
     }
     /// Document 01's example.
     pub fn example() -> Case {
@@ -23,16 +23,18 @@ impl Case {
             targets: vec![1.0, 0.0, 0.0],
             suns: vec![0.0, 1.0, 0.0, 0.0, 0.0, 1.0],
             observers: vec![0.0; 6],
-            tolerance_deg: 10.0,
+            tolerances: vec![10.0],
             roll_deg: None,
-            panel_normal: [0.0, 1.0, 0.0],
+            panels: vec![0.0, 1.0, 0.0],
+            rolls: even_rolls(1),
         };
-        Case::new("document 01's example", plan, 1)
+        Case::new("document 01's example", plan)
     }
     /// Random directions, and Suns that turn slowly, so that marks come in runs.
     pub fn drawn(name: &'static str, seed: u64, targets: usize, times: usize, n: u64, tolerance_deg: f64, roll_deg: Option<f64>) -> Case {
         let mut seeded = Seeded::new(seed);
-        let mut plan = Plan { tolerance_deg, roll_deg, panel_normal: [0.0, 1.0, 0.25], ..Plan::default() };
+        let (tolerances, panels, rolls) = (vec![tolerance_deg], vec![0.0, 1.0, 0.25], even_rolls(n));
+        let mut plan = Plan { tolerances, roll_deg, panels, rolls, ..Plan::default() };
         for _ in 0..targets {
             plan.targets.extend(direction(&mut seeded));
         }
@@ -41,7 +43,7 @@ impl Case {
             plan.suns.extend([1.5e8 * c, 1.4e8 * s, 0.6e8 * s]);
             plan.observers.extend(direction(&mut seeded).map(|x| 7000.0 * x));
         }
-        Case::new(name, plan, n)
+        Case::new(name, plan)
     }
     pub fn chunks(&self) -> usize {
         self.sweep.chunks()
@@ -50,8 +52,8 @@ impl Case {
     pub fn write(&self, folder: &Path) {
         let plan = &self.sweep.plan;
         let mut toml = String::from("targets = \"targets.csv\"\nephemeris = \"ephemeris.csv\"\n");
-        let _ = writeln!(toml, "rolls = {}\ntolerance = {}", self.sweep.n, toml_number(plan.tolerance_deg));
-        let _ = writeln!(toml, "panel = {:?}", plan.panel_normal);
+        let (tolerance, panel) = plan.settings();
+        let _ = writeln!(toml, "rolls = {}\ntolerance = {}\npanel = {:?}", plan.n(), toml_number(tolerance), panel);
         if let Some(roll) = plan.roll_deg {
             let _ = writeln!(toml, "configured_roll = {}", toml_number(roll));
         }

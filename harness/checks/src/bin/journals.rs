@@ -2,6 +2,7 @@
 //! its bytes.
 //! `journals [FACTOR]` multiplies the number of lists.
 use cases::{plans, Seeded};
+use checks::lent;
 use model::journal::{Sweep, HEADER, LINE};
 use model::ledger::{Entry, Ledger, Said};
 use model::Answer;
@@ -19,33 +20,21 @@ trait Machine {
 /// The library under its C names.
 struct Library;
 
-fn lent(sweep: &Sweep) -> wilfnusk::Plan<'_> {
-    let p = &sweep.plan;
-    wilfnusk::Plan {
-        targets: &p.targets,
-        suns: &p.suns,
-        observers: &p.observers,
-        tolerance_deg: p.tolerance_deg,
-        roll_deg: p.roll_deg,
-        panel_normal: p.panel_normal,
-    }
-}
-
 impl Machine for Library {
     fn begin(&self, sweep: &Sweep, journal: &mut [u8], used: u64) -> Answer<u64> {
-        lent(sweep).begin(sweep.n, journal, used).map_err(|r| r.number())
+        lent(&sweep.plan).begin(sweep.plan.n(), journal, used).map_err(|r| r.number())
     }
     fn work(&self, sweep: &Sweep, chunk: u64, journal: &mut [u8], used: u64) -> Answer<u64> {
-        lent(sweep).work(sweep.n, chunk, journal, used).map_err(|r| r.number())
+        lent(&sweep.plan).work(sweep.plan.n(), chunk, journal, used).map_err(|r| r.number())
     }
     fn work_range(&self, sweep: &Sweep, from: u64, to: u64, journal: &mut [u8], used: u64) -> Answer<(u64, u64)> {
-        lent(sweep).work_range(sweep.n, from..to, journal, used).map_err(|r| r.number())
+        lent(&sweep.plan).work_range(sweep.plan.n(), from..to, journal, used).map_err(|r| r.number())
     }
     fn recover(&self, sweep: &Sweep, journal: &[u8], used: u64) -> Answer<u64> {
-        lent(sweep).recover(sweep.n, journal, used).map_err(|r| r.number())
+        lent(&sweep.plan).recover(sweep.plan.n(), journal, used).map_err(|r| r.number())
     }
     fn collect(&self, sweep: &Sweep, journal: &[u8], used: u64, mask: &mut [u8]) -> Answer<u64> {
-        lent(sweep).collect(sweep.n, journal, used, mask).map_err(|r| r.number())
+        lent(&sweep.plan).collect(sweep.plan.n(), journal, used, mask).map_err(|r| r.number())
     }
 }
 
@@ -202,7 +191,7 @@ fn list(s: &mut Seeded, sweep: &Sweep, machine: &dyn Machine, t: &mut Tally) {
             Entry::Recover => machine.recover(sweep, &buffer, used),
             Entry::Collect { .. } => machine.collect(sweep, &buffer, used, &mut mask),
         };
-        let shown = || format!("{:?} n {} after {history:?}", sweep.plan, sweep.n);
+        let shown = || format!("{:?} after {history:?}", sweep.plan);
         t.same(&shown, answer.map(|_| ()), said.as_ref().map(|_| ()).map_err(|&e| e));
         if answer.is_ok() {
             t.accepted += 1;
@@ -287,7 +276,7 @@ fn on_damage(s: &mut Seeded, sweep: &Sweep, other: &Sweep, machine: &dyn Machine
     let used = if s.once_in(20) { s.one_of(&[buffer.len() as u64 + 1, u64::MAX, 1 << 32, 0]) } else { j.len() as u64 };
     let c = chunk(s, sweep);
     let to = end(s, sweep, c);
-    let shown = || format!("{:?} n {} chunk {c} to {to} used {used} of {:?}", sweep.plan, sweep.n, String::from_utf8_lossy(&buffer));
+    let shown = || format!("{:?} chunk {c} to {to} used {used} of {:?}", sweep.plan, String::from_utf8_lossy(&buffer));
     let mask_room = sweep.mask.len() + s.one_of(&[0, 1, 5]);
     let mut ours = (buffer.clone(), buffer.clone(), buffer.clone(), vec![FILL; mask_room]);
     let mut theirs = ours.clone();
@@ -312,7 +301,7 @@ fn sweeps(s: &mut Seeded, sizes: &[(usize, usize)], count: usize) -> Vec<Sweep> 
         let mut plan = plans::plan(s, targets, rows, times);
         let n = s.one_of(&[1, 1, 2, 3, 5, 8, 12]);
         plans::for_sweep(s, &mut plan, n);
-        Sweep::new(plan, n).expect("an accepted plan")
+        Sweep::new(plan).expect("an accepted plan")
     };
     sizes.iter().cycle().take(sizes.len() * count).map(one).collect()
 }

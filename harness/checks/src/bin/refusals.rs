@@ -62,7 +62,7 @@ fn spoil(s: &mut Seeded, list: &mut [f64], with: &[f64]) {
     }
 }
 
-/// A small plan with any of the faults that refusals 1 to 6 name.
+/// A small plan with any of the faults that refusals 1 to 6 name, and the number of rolls that is said for it: a bad one is never the plan's.
 fn faulty(s: &mut Seeded) -> (Plan, u64) {
     let (rows, times) = (s.index(6), s.index(9));
     let mut p = plans::plan(s, plans::Targets::Any, rows, times);
@@ -99,7 +99,7 @@ fn faulty(s: &mut Seeded) -> (Plan, u64) {
         spoil(s, &mut p.targets, &BAD_DIRECTION);
     }
     if s.once_in(8) {
-        spoil(s, &mut p.panel_normal, &BAD_POSITION);
+        spoil(s, &mut p.panels, &BAD_POSITION);
     }
     (p, n)
 }
@@ -154,7 +154,7 @@ fn of_plans(s: &mut Seeded, t: &mut Tally) {
 
 /// The calls of a journal, each on a journal as far along as chance has it.
 fn journal(s: &mut Seeded, t: &mut Tally, p: &Plan, n: u64, shown: &dyn Fn() -> String) {
-    let sweep = if p.cells() < 1000 { Sweep::new(p.clone(), n).ok() } else { None };
+    let sweep = if p.cells() < 1000 && n == p.n() { Sweep::new(p.clone()).ok() } else { None };
     let mut file = Vec::new();
     if let Some(sweep) = &sweep {
         if !s.once_in(4) {
@@ -230,7 +230,7 @@ fn journal(s: &mut Seeded, t: &mut Tally, p: &Plan, n: u64, shown: &dyn Fn() -> 
 
 fn of_cells(s: &mut Seeded, t: &mut Tally) {
     let p = plans::plan(s, plans::Targets::Any, 1, 1);
-    let (mut target, mut sun, mut observer, mut panel) = (p.target(0), p.sun(0), p.observer(0), p.panel_normal);
+    let (mut target, mut sun, mut observer, mut panel) = (p.target(0), p.sun(0), p.observer(0), p.panel(0));
     if s.once_in(4) {
         spoil(s, &mut target, &BAD_DIRECTION);
     }

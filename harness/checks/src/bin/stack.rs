@@ -1,6 +1,8 @@
 //! How much stack each C name takes at its largest inputs, and that include/wilfnusk.h's promise holds: a thread with that much runs them all.
 //! `stack [KIB]` takes KIB for the promise: with too little, the thread overflows its stack, which ends the program.
-use checks::Lists;
+use cases::plans::{direction, is_unit};
+use checks::{lent, Lists};
+use model::roll::even_rolls;
 use std::hint::black_box;
 use std::process::exit;
 use std::thread;
@@ -43,9 +45,11 @@ const ROLLS: u64 = 3600;
 impl Inputs {
     fn new() -> Inputs {
         let mut s = cases::Seeded::new(6);
+        let targets: Vec<[f64; 3]> = (0..SAMPLES).map(|_| direction(&mut s)).collect();
+        assert!(targets.iter().all(|&v| is_unit(v)), "targets of length 1");
         let mut numbers = |count: usize, size: f64| (0..3 * count).map(|_| s.between(-size, size)).collect::<Vec<f64>>();
         Inputs {
-            targets: numbers(SAMPLES, 1.0),
+            targets: targets.concat(),
             suns: numbers(SAMPLES, 1.5e8),
             observers: numbers(SAMPLES, 7000.0),
             values: vec![0.0; CELLS],
@@ -83,15 +87,16 @@ fn each(i: &mut Inputs, run: &mut dyn FnMut(&'static str, &mut dyn FnMut())) {
     });
     // The most targets, the most times, and the most times for which work_range holds the Sun's units in a table.
     for (rows, times, roll_deg) in [(65_536, 1, Some(33.0)), (16, 65_536, None), (119, 8784, None), (119, 8784, Some(33.0))] {
-        let plan = Plan {
-            targets: &i.targets[..3 * rows],
-            suns: &i.suns[..3 * times],
-            observers: &i.observers[..3 * times],
-            tolerance_deg: 170.0,
+        let plan = model::Plan {
+            targets: i.targets[..3 * rows].to_vec(),
+            suns: i.suns[..3 * times].to_vec(),
+            observers: i.observers[..3 * times].to_vec(),
+            tolerances: vec![170.0],
             roll_deg,
-            panel_normal: [0.1, 0.9, -0.3],
+            panels: vec![0.1, 0.9, -0.3],
+            rolls: even_rolls(ROLLS),
         };
-        of_plan(plan, (rows * times).div_ceil(64) as u64, &mut i.values, &mut i.mask, &mut i.journal, run);
+        of_plan(lent(&plan), plan.n(), plan.cells().div_ceil(64) as u64, &mut i.values, &mut i.mask, &mut i.journal, run);
     }
     // The most windows, and one as long as the row.
     for step in [2, SAMPLES] {
@@ -102,6 +107,7 @@ fn each(i: &mut Inputs, run: &mut dyn FnMut(&'static str, &mut dyn FnMut())) {
 
 fn of_plan(
     plan: Plan,
+    n: u64,
     chunks: u64,
     values: &mut [f64],
     mask: &mut [u8],
@@ -114,21 +120,21 @@ fn of_plan(
     for roll in [Roll::Sweep(77.0), Roll::Fixed(77.0)] {
         run("wilfnusk_in_constraint_batch_at_roll", &mut || plan.in_constraint_batch_at_roll(roll, mask).expect("accepted"));
     }
-    run("wilfnusk_constrained_at_every_roll", &mut || plan.constrained_at_every_roll(ROLLS, mask).expect("accepted"));
+    run("wilfnusk_constrained_at_every_roll", &mut || plan.constrained_at_every_roll(n, mask).expect("accepted"));
     run("wilfnusk_evaluate", &mut || plan.evaluate(0, mask, values).expect("accepted"));
-    run("wilfnusk_field_of_regard_violated_batch", &mut || plan.field_of_regard_violated_batch(0, ROLLS, mask).expect("accepted"));
+    run("wilfnusk_field_of_regard_violated_batch", &mut || plan.field_of_regard_violated_batch(0, n, mask).expect("accepted"));
     run("wilfnusk_field_of_regard_violated_at_roll", &mut || plan.field_of_regard_violated_at_roll(0, 77.0, mask).expect("accepted"));
     // A journal of all chunks but the last two in one range, those two by work and by a range of one, then all of it.
-    run("wilfnusk_begin", &mut || assert_eq!(plan.begin(ROLLS, journal, 0), Ok(line(0))));
+    run("wilfnusk_begin", &mut || assert_eq!(plan.begin(n, journal, 0), Ok(line(0))));
     run("wilfnusk_work_range", &mut || {
-        assert_eq!(plan.work_range(ROLLS, 0..chunks - 2, journal, line(0)), Ok((line(chunks - 2), chunks - 2)));
+        assert_eq!(plan.work_range(n, 0..chunks - 2, journal, line(0)), Ok((line(chunks - 2), chunks - 2)));
     });
-    run("wilfnusk_work", &mut || assert_eq!(plan.work(ROLLS, chunks - 2, journal, line(chunks - 2)), Ok(line(chunks - 1))));
+    run("wilfnusk_work", &mut || assert_eq!(plan.work(n, chunks - 2, journal, line(chunks - 2)), Ok(line(chunks - 1))));
     run("wilfnusk_work_range", &mut || {
-        assert_eq!(plan.work_range(ROLLS, chunks - 1..u64::MAX, journal, line(chunks - 1)), Ok((line(chunks), chunks)));
+        assert_eq!(plan.work_range(n, chunks - 1..u64::MAX, journal, line(chunks - 1)), Ok((line(chunks), chunks)));
     });
-    run("wilfnusk_recover", &mut || assert_eq!(plan.recover(ROLLS, journal, line(chunks)), Ok(line(chunks))));
-    run("wilfnusk_collect", &mut || assert!(plan.collect(ROLLS, journal, line(chunks), mask).is_ok()));
+    run("wilfnusk_recover", &mut || assert_eq!(plan.recover(n, journal, line(chunks)), Ok(line(chunks))));
+    run("wilfnusk_collect", &mut || assert!(plan.collect(n, journal, line(chunks), mask).is_ok()));
 }
 
 fn of_row(i: &mut Inputs, mask: &[u8], run: &mut dyn FnMut(&'static str, &mut dyn FnMut())) {

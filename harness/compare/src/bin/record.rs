@@ -7,7 +7,7 @@
 //! A line is words of hexadecimal digits, the first its kind. A line of kind 0 gives a plan or a row of samples. Each other line asks about
 //! what was given last: two words of what is asked (0 where nothing is), then the Rust's answer up to the line's end. A float is its bits (every
 //! NaN 7ff8000000000000), a time its 64 bits, a mask a word a sample.
-use cases::plans::{for_roll, for_sweep, plan, roll, samples, Targets};
+use cases::plans::{for_roll, for_sweep, is_unit, plan, roll, samples, Targets};
 use cases::{rows, Seeded};
 use model::arithmetic::bits;
 use model::windows::Window;
@@ -69,26 +69,19 @@ fn windows(list: &[Window]) -> Vec<u64> {
     std::iter::once(list.len() as u64).chain(list.iter().flat_map(window)).collect()
 }
 
-/// Length 1 up to 1e-9 of its square.
-fn is_unit(v: [f64; 3]) -> bool {
-    (v[0] * v[0] + v[1] * v[1] + v[2] * v[2] - 1.0).abs() <= 1e-9
-}
-
 fn small(s: &mut Seeded, targets: Targets) -> Plan {
-    loop {
-        let (rows, times) = s.one_of(&[(1, 1), (1, 5), (3, 4), (2, 7), (5, 3), (4, 20)]);
-        let p = plan(s, targets, rows, times);
-        if targets == Targets::Any || (0..rows).all(|i| is_unit(p.target(i))) {
-            return p;
-        }
-    }
+    let (rows, times) = s.one_of(&[(1, 1), (1, 5), (3, 4), (2, 7), (5, 3), (4, 20)]);
+    let p = plan(s, targets, rows, times);
+    assert!(targets == Targets::Any || (0..rows).all(|i| is_unit(p.target(i))), "targets of length 1");
+    p
 }
 
 fn given(f: &mut File, p: &Plan) -> Oracle {
     let (t, s) = (p.targets.len() as u64, p.suns.len() as u64);
     let roll = [p.roll_deg.is_some() as u64, bits(p.roll_deg.unwrap_or(0.0))];
-    let lists = floats(&[&p.panel_normal[..], &p.targets, &p.suns, &p.observers].concat());
-    let head = [t, s, 11 + t, 11 + t + s, bits(p.tolerance_deg)];
+    let (tolerance, panel) = p.settings();
+    let lists = floats(&[&panel[..], &p.targets, &p.suns, &p.observers].concat());
+    let head = [t, s, 11 + t, 11 + t + s, bits(tolerance)];
     f.given(&[&head, &roll, &lists]);
     Oracle::new(p, &(0..p.times() as i64).collect::<Vec<_>>())
 }
@@ -120,7 +113,7 @@ fn sweeps(f: &mut File, s: &mut Seeded, targets: Targets) {
     let mut p = small(s, targets);
     let n = samples(s);
     for_sweep(s, &mut p, n);
-    let (marks, tried) = given(f, &p).sweep(n);
+    let (marks, tried) = given(f, &p).sweep();
     f.asked(SWEEP, [n, 0], &[&[tried.iter().sum()], mask(&marks).as_slice()].concat());
 }
 
@@ -145,7 +138,7 @@ fn many(seed: u64, count: u64, targets: Targets, record: impl Fn(&mut File, &mut
 }
 
 fn section_2() -> File {
-    let mut f = many(12, 30, Targets::Unit, rolls);
+    let mut f = many(42, 30, Targets::Unit, rolls);
     let mut s = Seeded::new(12);
     let none = Plan::default();
     for _ in 0..100 {
