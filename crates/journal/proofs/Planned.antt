@@ -2,7 +2,7 @@
 use mathlib.Core.Path.{_≡_, refl, sym, ap, ap₂, _∙_}
 use mathlib.Core.Bool.{Bool}
 use mathlib.Core.List.{List, []}
-use Prim.Native.Nat.{ℕ, _+_, _*_, _/_, _%_, _≤_, _<_}
+use Prim.Native.Nat.{ℕ, _+_, _*_, _%_, _≤_, _<_}
 use native.Mathlib.Omega.{arith}
 use lib.Dec.{ltb, lit<}
 use lib.ListN.{length, getD, take, replicate, length-replicate}
@@ -20,7 +20,7 @@ use Rattle.solar_roll.specs.Plan.{Plan, rowsOf, timesOf, headTolerance, headPan
 use Rattle.solar_roll.proofs.PlanFacts.{plan-facts}
 use Rattle.roll_sweep.specs.Sweep.{chunks, cellsIn}
 use Rattle.roll_sweep.specs.Rolls.{evenRolls}
-use Rattle.roll_sweep.specs.Chunk.{violatesBy, sampleRoll, sweptBy, sweptOf, chunkRefusal, sweptReply}
+use Rattle.roll_sweep.specs.Chunk.{violatesBy, sampleRoll, sweptOf, chunkRefusal, sweptReply}
 use Rattle.roll_sweep.proofs.Even.{length-even}
 use Rattle.roll_sweep.proofs.ChunkFacts.{samples-within, Held, chunk-facts, held, chunk-accepted}
 use Rattle.roll_sweep.proofs.Swept.{swept-ext, swept-chunk}
