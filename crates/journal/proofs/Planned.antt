@@ -4,20 +4,19 @@ use mathlib.Core.Bool.{Bool}
 use mathlib.Core.List.{List, []}
 use Prim.Native.Nat.{ℕ, _+_, _*_, _%_, _≤_, _<_}
 use native.Mathlib.Omega.{arith}
-use lib.Dec.{ltb, lit<}
+use lib.Dec.{ltb}
 use lib.ListN.{length, getD, take, replicate, length-replicate}
 use lib.Ieee.{Float, binary64, toBits}
 use borrow.Author.Tests.{le-leb, le-ltb, ltb-false}
 use Rattle.buffers.specs.Ranges.{tab}
 use Rattle.buffers.specs.Refusal.{accepted}
-use Rattle.buffers.proofs.Refusal.{reply-none, first-clear, carried-clear}
+use Rattle.buffers.proofs.Refusal.{reply-none}
 use Rattle.buffers.specs.Lent.{over, put}
 use Rattle.buffers.proofs.Lent.{put-first, over-all}
-use Rattle.buffers.proofs.Tests.{or-right}
 use Rattle.solar_roll.specs.Vectors.{Vector, x, y, z}
 use Rattle.solar_roll.specs.declared.cell.ConfiguredRoll.{ConfiguredRoll}
-use Rattle.solar_roll.specs.Plan.{Plan, rowsOf, timesOf, headTolerance, headPanel, unlikeLengths, samplesRefusal, sizesRefusal, planRefusal, sunAt, mostSamples, PlanFacts}
-use Rattle.solar_roll.proofs.PlanFacts.{plan-facts}
+use Rattle.solar_roll.specs.Plan.{Plan, rowsOf, timesOf, headTolerance, headPanel, samplesRefusal, planRefusal, sunAt, mostSamples, PlanFacts}
+use Rattle.solar_roll.proofs.PlanFacts.{plan-facts, nothing-said, not-beyond}
 use Rattle.roll_sweep.specs.Sweep.{chunks, cellsIn}
 use Rattle.roll_sweep.specs.Rolls.{evenRolls}
 use Rattle.roll_sweep.specs.Chunk.{violatesBy, sampleRoll, sweptOf, chunkRefusal, sweptReply}
@@ -54,17 +53,12 @@ module _ (p : Plan) (rolls : List Float) (said : ℕ) where
   refusal-said k beyond e = e
 
   pub passed : (room u : ℕ) → sweepOf p rolls said .refusal (ltb room u) ≡ 0 → PlanPassed p said room u
-  unfolding sweepOf planRefusal sizesRefusal
-  passed room u h =
-      let unlike : Bool = unlikeLengths (length (p .targets)) (length (p .suns)) (length (p .observers)) in
-      let c1 = carried-clear _ _ h in
-      let c2 = carried-clear _ _ (c1 .1) in
-      let c3 = first-clear _ _ _ (lit< tt) (c1 .0) in
-      record {
-        facts = plan-facts p said (ltb room u) h;
-        none-said = c2 .0;
-        used = ltb-false room u (or-right unlike (ltb room u) (c3 .0));
-      }
+  unfolding sweepOf
+  passed room u h = record {
+    facts = plan-facts p said (ltb room u) h;
+    none-said = nothing-said p said (ltb room u) h;
+    used = ltb-false room u (not-beyond p said (ltb room u) h);
+  }
 
   -- the header has 107 bytes
   pub length-header-of : length (sweepOf p rolls said .header) ≡ headerLength
@@ -117,13 +111,9 @@ module _ (p : Plan) (rolls : List Float) (said : ℕ) where
           used = f .used;
         }
 
--- over even rolls, by the number that was said of n
-pub even-said : (p : Plan) (n said : ℕ) → said ≡ samplesRefusal n → sweepOf p (evenRolls n) said ≡ evenSweep p n
-even-said p n said e = ap (sweepOf p (evenRolls n)) e
-
--- over even rolls that have passed, n is not told
-pub even-sweep : (p : Plan) (n : ℕ) (rolls : List Float) → rolls ≡ evenRolls n → samplesRefusal n ≡ 0 → sweepOf p rolls 0 ≡ evenSweep p n
-even-sweep p n rolls e z = ap₂ (sweepOf p) e (sym z)
+-- over rolls that are the even ones, by the number that was said of n
+pub even-sweep : (p : Plan) (n : ℕ) (rolls : List Float) (said : ℕ) → rolls ≡ evenRolls n → said ≡ samplesRefusal n → sweepOf p rolls said ≡ evenSweep p n
+even-sweep p n rolls said e z = ap₂ (sweepOf p) e z
 
 -- the even rolls are as many as was said
 pub even-says : (n : ℕ) → Says (samplesRefusal n) (length (evenRolls n))

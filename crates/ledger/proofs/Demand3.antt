@@ -23,8 +23,8 @@ use Rattle.roll_sweep.specs.Rolls.{evenRoll, evenRolls}
 use Rattle.roll_sweep.proofs.Chunks.{marked-iff}
 use Rattle.roll_sweep.proofs.Tried.{tried-ext}
 use Rattle.roll_sweep.proofs.Rows.{row-part}
-use Rattle.roll_sweep.proofs.Even.{length-even}
 use Rattle.journal.specs.Plan.{sweepOf, evenSweep}
+use Rattle.journal.proofs.Planned.{even-says}
 use Rattle.journal.proofs.Written.{SweepFacts}
 use Rattle.windows.specs.Windows.{Columns, violationWindows, visibilityWindows}
 use Rattle.windows.specs.Refusal.{badMark, badSeverity}
@@ -181,7 +181,7 @@ module _ (p : Plan) (rolls : List Float) (said : ℕ) (plan : planRefusal p said
 
 module _ (p : Plan) (n : ℕ) (plan : planRefusal p (samplesRefusal n) false ≡ 0) where
   even : samplesRefusal (length (evenRolls n)) ≡ 0
-  even = ap samplesRefusal (length-even n) ∙ nothing-said p (samplesRefusal n) false plan
+  even = even-says n (nothing-said p (samplesRefusal n) false plan)
 
   pub range-cut : (l : Ledger) → Start (evenSweep p n) l → (es : List Entry) (from to : ℕ) (x : List ℕ) → RangeKept (evenSweep p n) l es from to x
   range-cut = range-cut-over p (evenRolls n) (samplesRefusal n) plan even

@@ -216,7 +216,7 @@ triple-within limit j w xs i h l = record {
   at-z = w _ (any-getD (tooLarge limit) xs nan (3 * i + 2) h l);
 }
 
-module _ (p : Plan) (facts : PlanFacts p) (three : length (p .panels) ≡ 3) (r j : ℕ) (in-rows : r < rowsOf p) (in-times : j < timesOf p) where
+module _ (p : Plan) (facts : PlanFacts p) (three : 3 ≤ length (p .panels)) (r j : ℕ) (in-rows : r < rowsOf p) (in-times : j < timesOf p) where
   direction-vec : Vec 0 (directionOf p r)
   unfolding rowDirection badDirection
   direction-vec = triple-within one 0 direction-within (p .targets) r (facts .targets-small) (omega (arith, facts .targets-length))

@@ -6,6 +6,7 @@ use Prim.Native.Nat.{ℕ, _*_, _/_, _%_, _≤_}
 use native.Mathlib.Omega.{arith}
 use lib.Dec.{eqb, ltb, lit<}
 use lib.Ieee.{Float}
+use lib.ListN.{length}
 use borrow.Author.Tests.{not-false, eqb-true, ltb-false}
 use Rattle.buffers.proofs.Refusal.{first-clear, carried-clear}
 use Rattle.buffers.proofs.Tests.{or-left, or-right}
@@ -88,6 +89,13 @@ plan-facts p said beyond h =
       targets-small = n .targets-small;
       panels-small = n .panels-small;
     }
+
+-- no used length lies beyond its buffer
+pub not-beyond : (p : Plan) (said : ℕ) (beyond : Bool) → planRefusal p said beyond ≡ 0 → beyond ≡ false
+unfolding planRefusal sizesRefusal
+not-beyond p said beyond h =
+    let c1 = carried-clear _ _ h in
+    or-right (unlikeLengths (length (p .targets)) (length (p .suns)) (length (p .observers))) beyond (first-clear _ _ _ (lit< tt) (c1 .0) .0)
 
 -- nothing was said in the place of 3
 pub nothing-said : (p : Plan) (said : ℕ) (beyond : Bool) → planRefusal p said beyond ≡ 0 → said ≡ 0

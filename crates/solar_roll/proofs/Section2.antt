@@ -2,7 +2,7 @@
 use mathlib.Core.Path.{_≡_, refl, ap, _∙_}
 use mathlib.Core.Logic.{_⊎_, inl, inr, ⊎-elim, _↔_}
 use mathlib.Core.Bool.{Bool, true, false, cond, _||_, false≢true}
-use Prim.Native.Nat.{ℕ, _<_}
+use Prim.Native.Nat.{ℕ, _≤_, _<_}
 use lib.Dec.{lit≤}
 use lib.ListN.{length}
 use lib.Ieee.{Float, nan, inf, fin, lt, ofBits}
@@ -70,7 +70,7 @@ clear false optimal roll tolerance h = h
 
 -- ---- the sentences; the calls lend one panel, of three numbers
 
-module _ (p : Plan) (said : ℕ) (beyond : Bool) (accepted : planRefusal p said beyond ≡ 0) (three : length (p .panels) ≡ 3)
+module _ (p : Plan) (said : ℕ) (beyond : Bool) (accepted : planRefusal p said beyond ≡ 0) (three : 3 ≤ length (p .panels))
     (i j : ℕ) (in-rows : i < rowsOf p) (in-times : j < timesOf p) where
   abbrev optimal : Float
   optimal = optimalAt p i j

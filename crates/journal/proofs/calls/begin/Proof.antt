@@ -1,12 +1,12 @@
 -- `journal::calls::begin` meets its contract. Assumes nothing.
-use mathlib.Core.Path.{ap, _∙_}
+use mathlib.Core.Path.{refl, ap, _∙_}
 use borrow.Author.Needs.{needs}
 use Rattle.solar_roll.specs.Plan.{planOf}
 use Rattle.roll_sweep.specs.Sweep.{Sweep}
 use Rattle.roll_sweep.specs.Rolls.{evenRolls}
 use Rattle.roll_sweep.proofs.Even.{length-even}
 use Rattle.journal.specs.Calls.{beginReply, beginBytes}
-use Rattle.journal.proofs.Planned.{even-said}
+use Rattle.journal.proofs.Planned.{even-sweep}
 use Rattle.journal.proofs.calls.begin.Statement.{statement}
 use Rattle.journal.proofs.calls.begin.Tie as tie
 
@@ -27,7 +27,7 @@ returns c =
     let k = c .before .before .before .before in
     let a = Start-of k .args in
     let b = a .journal .now in
-    let even = even-said (planOf (a .targets .now) (a .suns .now) (a .observers .now) (a .tolerances .now) (a .configured) (a .panels .now)) (a .n) _ (k .samples-refusal .ensures) in
+    let even = even-sweep (planOf (a .targets .now) (a .suns .now) (a .observers .now) (a .tolerances .now) (a .configured) (a .panels .now)) (a .n) _ _ refl (k .samples-refusal .ensures) in
     let r = c .before .before .begin-samples .ensures (evenRolls (a .n)) (length-even (a .n)) in
     (r .0 ∙ ap (λ (s : Sweep). beginReply s b (a .used)) even, r .1 ∙ ap (λ (s : Sweep). beginBytes s b (a .used)) even)
 

@@ -1,5 +1,5 @@
 -- `journal::calls::work_range` meets its contract. Assumes nothing.
-use mathlib.Core.Path.{_≡_, sym, ap, _∙_, subst}
+use mathlib.Core.Path.{_≡_, refl, sym, ap, _∙_, subst}
 use Prim.Native.Nat.{_+_, _-_, _*_, _≤_}
 use native.Mathlib.Omega.{arith}
 use lib.Dec.{ltb}
@@ -15,7 +15,7 @@ use Rattle.journal.specs.Plan.{evenSweep}
 use Rattle.journal.specs.Range.{Ran, rangeConditions, rangeRefusal}
 use Rattle.journal.proofs.Along.{Came, came, ran-refused}
 use Rattle.journal.proofs.Chains.{plan-refused, range-9, range-work, range-refused, range-accepted}
-use Rattle.journal.proofs.Planned.{even-said}
+use Rattle.journal.proofs.Planned.{even-sweep}
 use Rattle.journal.proofs.calls.work_range.Statement.{statement}
 use Rattle.journal.proofs.calls.work_range.Tie as tie
 
@@ -41,7 +41,7 @@ plan c =
     let a = Start-of k .args in
     let p = c .lent-plan .result in
     subst (λ (s : Sweep). (p .refusal ≡ s .refusal (ltb (length (a .journal .now)) (a .used))) × (p .refusal ≡ 0 → Passed s (p .cells) (a .n) (p .header) (length (a .journal .now)) (a .used)))
-    (even-said (lent k) (a .n) _ (k .samples-refusal .ensures)) (c .lent-plan .ensures (evenRolls (a .n)) (length-even (a .n)))
+    (even-sweep (lent k) (a .n) _ _ refl (k .samples-refusal .ensures)) (c .lent-plan .ensures (evenRolls (a .n)) (length-even (a .n)))
 
 passes : (c : tie.Else1) →
     let k = c .before .before .before in

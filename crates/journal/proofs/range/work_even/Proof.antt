@@ -42,7 +42,7 @@ same-sweep c =
     let k = c .before .before in
     let x = Start-of k in
     let n = x .args .n in
-    even-sweep (plan k) n _ (even c) (passed (plan k) (evenRolls n) (samplesRefusal n) (length (x .args .journal .now)) (x .args .used) (x .pre .plan) .none-said)
+    even-sweep (plan k) n _ _ (even c) (sym (passed (plan k) (evenRolls n) (samplesRefusal n) (length (x .args .journal .now)) (x .args .used) (x .pre .plan) .none-said))
 
 cast-even-rolls : tie.Need-cast-even-rolls
 cast-even-rolls c = omega (arith, Start-of c .pre .most)

@@ -1,6 +1,6 @@
 use Rattle.buffers.specs.Refusal.{first, carried}
 use Rattle.solar_roll.specs.Cell.{numbersRefusal}
-use borrow.Author.Tests.{eq-eqb, ne-eqb}
+use borrow.Author.Tests.{ne-eqb}
 use mathlib.Core.Path.{sym, _∙_}
 use borrow.Author.Needs.{needs}
 use Rattle.solar_roll.proofs.cell.numbers_refusal.Statement.{statement}

@@ -1,7 +1,7 @@
 use Rattle.buffers.specs.Refusal.{first, carried}
 use Rattle.buffers.proofs.Refusal.{carried-skip, carried-last}
 use Rattle.solar_roll.specs.Plan.{planRefusal}
-use borrow.Author.Tests.{eq-eqb, ne-eqb}
+use borrow.Author.Tests.{ne-eqb}
 use mathlib.Core.Path.{sym, _∙_}
 use borrow.Author.Needs.{needs}
 use Rattle.solar_roll.proofs.plan.plan_refusal.Statement.{statement}
