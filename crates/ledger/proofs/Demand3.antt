@@ -1,6 +1,7 @@
 -- Demand 3, for every accepted plan: `demand3`, from an empty journal; `demand3-from`, from every start; `demand3-split`, from the journal of a sweep
--- that was split; `range-cut`, of work over a range. They are instances, for n even rolls, of `demand3-over`, .., which hold for every list of 1 to 3,600
--- rolls. Then that the window listings accept each row of a collected mask, so that its windows are there to be read. Assumes nothing.
+-- that was split; `range-cut`, of work over a range. They are for n even rolls, and `demand3-over`, .. for every list of 1 to 3,600 rolls: instances of one
+-- proof, over n samples and the roll of each. Then that the window listings accept each row of a collected mask, so that its windows are there to be read.
+-- Assumes nothing.
 use mathlib.Core.Path.{_≡_, sym, ap, _∙_, subst}
 use mathlib.Core.Logic.{_↔_}
 use mathlib.Core.Bool.{Bool, true, false}

@@ -79,8 +79,8 @@ pub record Collected (p : Plan) (n : ℕ) (roll : ℕ → Float) (times : List �
   -- "Each row's violation windows .. Its visibility windows ..": in Windows, clause by clause
   pub windows : (i : ℕ) → i < rowsOf p → RowWindows times (rowPart (timesOf p) i m)
 
--- The clauses, for the sweep s of the plan and its n samples, from the state of the ledger l, where that is a start: "For every list of begin, work, cut, recover and
--- collect .., refused calls included, each on the journal that the one before left, and whichever byte the power fails at:"
+-- The clauses, for the sweep s of the plan and its n samples, from the state of the ledger l, where that is a start: "For every list of begin, work, cut,
+-- recover and collect .., refused calls included, each on the journal that the one before left, and whichever byte the power fails at:"
 pub record Demand3Of (s : Sweep) (p : Plan) (n : ℕ) (roll : ℕ → Float) (times : List ℤ) (l : Ledger) (es : List Entry) : Type 0 where
   -- "the journal's bytes and each answer equal those of document 01's ledger": after every entry
   pub same : trace s es (machineAt s l) ≡ ledgerTrace s (events s es (machineAt s l)) l

@@ -15,9 +15,9 @@ use Rattle.solar_masks.specs.Row.{severity, severityAt}
 use Rattle.solar_masks.specs.declared.mask.MarkRule.{MarkRule}
 
 module _ (p : Plan) (r j : ℕ) (axes : Axes) (unit : Vector) (panel : Panel)
-    (row : axes ≡ bodyAxes (directionOf p r)) (time : unit ≡ sunAt p j) (turned : panel ≡ panelOf (rowPanel (p .panels) r)) where
+    (row : axes ≡ bodyAxes (directionOf p r)) (time : unit ≡ sunAt p j) (panel-is : panel ≡ panelOf (rowPanel (p .panels) r)) where
   same : rollIn axes unit panel ≡ cellOf p r j
-  same = cell-shared p r j axes unit panel row time turned
+  same = cell-shared p r j axes unit panel row time panel-is
 
   pub mark-shared : (rule : MarkRule) (tolerance : Float) → tolerance ≡ configOf p r .«tolerance_deg» →
       flag (markedBy (rollIn axes unit panel) rule tolerance) ≡ markAt p rule r j
@@ -31,4 +31,4 @@ module _ (p : Plan) (r j : ℕ) (axes : Axes) (unit : Vector) (panel : Panel)
 
   pub value-shared : rollDegIn axes unit (panel .angle) ≡ optimalAt p r j
   unfolding optimalAt solarOptimalRollDeg rollDegIn bodyAxes panelOf rowConfig
-  value-shared = simp (row, time, turned)
+  value-shared = simp (row, time, panel-is)

@@ -44,6 +44,7 @@ fn mark_column(
         let p : Plan = planOf (now (targets .entry)) (now (suns .entry)) (now (observers .entry)) (now (tolerances .entry)) configured (now (panels .entry)) in
         ⌜ now (mask .exit) ≡ filled (rowsOf p) (λ r. markAt p rule r time) (now (mask .entry)) ⌝ }
 {
+    // The rows share their panel: it is worked out once.
     let panel = panel_at(panels, 0);
     let unit = sun_unit(triple(suns, time), triple(observers, time));
     let rows = targets.len() / 3;

@@ -268,6 +268,7 @@ fn mark(
         ⌜ now (mask .exit) ≡ filled (cellsOf p) (cellMark p rule) (now (mask .entry)) ⌝ }
 {
     let times = suns.len() / 3;
+    // The rows share their panel: it is worked out once.
     let panel = panel_at(panels, 0);
     let mut units = [[0.0; 3]; 2048];
     let mut from = 0;

@@ -87,6 +87,7 @@ fn write_values(
         ⌜ now (values .exit) ≡ filled (cellsOf p) (cellValue p) (now (values .entry)) ⌝ }
 {
     let times = suns.len() / 3;
+    // The rows share their panel: it is worked out once.
     let panel = panel_at(panels, 0);
     let angle = panel.angle;
     let mut units = [[0.0; 3]; 2048];

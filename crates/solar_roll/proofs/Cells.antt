@@ -49,7 +49,7 @@ one-panel panels q r = refl
 -- ---- what a row (its axes and its panel) and a time (the Sun's unit) share makes the cells of a plan
 
 module _ (p : Plan) (r j : ℕ) (axes : Axes) (unit : Vector) (panel : Panel)
-    (row : axes ≡ bodyAxes (directionOf p r)) (time : unit ≡ sunAt p j) (turned : panel ≡ panelOf (rowPanel (p .panels) r)) where
+    (row : axes ≡ bodyAxes (directionOf p r)) (time : unit ≡ sunAt p j) (panel-is : panel ≡ panelOf (rowPanel (p .panels) r)) where
   pub cell-shared : rollIn axes unit panel ≡ cellOf p r j
   unfolding cellOf rowConfig
-  cell-shared = simp (row, time, turned, roll-shared)
+  cell-shared = simp (row, time, panel-is, roll-shared)

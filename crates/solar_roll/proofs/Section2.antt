@@ -68,7 +68,7 @@ unfolding violates
 clear true optimal roll tolerance h = refl
 clear false optimal roll tolerance h = h
 
--- ---- the sentences; the calls lend one panel, of three numbers
+-- ---- the sentences; a panel, three numbers, is there
 
 module _ (p : Plan) (said : ℕ) (beyond : Bool) (accepted : planRefusal p said beyond ≡ 0) (three : 3 ≤ length (p .panels))
     (i j : ℕ) (in-rows : i < rowsOf p) (in-times : j < timesOf p) where

@@ -1,7 +1,7 @@
 -- A plan as its calls lend it, and *Plan*, the refusals that come before every call with positions. A plan has rows and times. A row is a target;
 -- a cell, document 01's word, is a row at a time. Everything above these definitions speaks of rows: a row's direction and settings are
--- `directionOf` and `configOf`, whose one door to a plan's tolerances and panels is `rowConfig`; the configured roll is the whole plan's.
--- Definitions only. Assumes nothing.
+-- `directionOf` and `configOf`. A row's tolerance and panel are chosen from the plan's lists by `rowConfig` alone, which has the panel of
+-- `rowPanel`; the configured roll is the whole plan's. Definitions only. Assumes nothing.
 use mathlib.Core.Path.{_≡_}
 use mathlib.Core.Bool.{Bool, false, cond, not, _||_, _&&_}
 use mathlib.Core.List.{List, [], _∷_}

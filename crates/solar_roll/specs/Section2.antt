@@ -1,5 +1,5 @@
 -- Section 2's sentences on a cell: each clause stands under document 01's words. The theorem `section2` (proofs/Section2) gives the record for each cell,
--- row i at time j, of every plan that is accepted (`planRefusal .. ≡ 0`) and lent one panel, of three numbers. Definitions only. Assumes nothing.
+-- row i at time j, of every plan that is accepted (`planRefusal .. ≡ 0`) and has a panel. Definitions only. Assumes nothing.
 use mathlib.Core.Path.{_≡_}
 use mathlib.Core.Logic.{_⊎_, _↔_}
 use mathlib.Core.Bool.{true, false}

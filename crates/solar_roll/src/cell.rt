@@ -11,7 +11,8 @@ ghost use mathlib.Core.Path.{_≡_};
 ghost use Rattle.buffers.specs.Ranges.{any};
 ghost use Rattle.buffers.specs.Refusal.{reply};
 ghost use Rattle.solar_roll.specs.Roll.{sunUnit};
-ghost use Rattle.solar_roll.specs.Cell.{optimalRoll, freeOrAt, rollIn, cellReply, violates, inForce, tooLarge, badPosition, badDirection, directionRefusal, numbersRefusal};
+ghost use Rattle.solar_roll.specs.Cell.{optimalRoll, freeOrAt, rollIn, cellReply, violates, inForce};
+ghost use Rattle.solar_roll.specs.Cell.{tooLarge, badPosition, badDirection, directionRefusal, numbersRefusal};
 
 // The largest size of a position's or a panel's number.
 const LIMIT: f64 = 1.0e100;

@@ -7,7 +7,8 @@ ghost use mathlib.Core.Path.{_≡_};
 ghost use lib.ListN.{getD};
 ghost use lib.Ieee.{nan};
 ghost use Rattle.solar_roll.specs.Roll.{panelOf};
-ghost use Rattle.solar_roll.specs.Plan.{Plan, planOf, triple, rowDirection, rowPanel, rowConfig, unlikeLengths, tooMany, samplesRefusal, samplesOrNoneRefusal, sizesRefusal, planRefusal};
+ghost use Rattle.solar_roll.specs.Plan.{Plan, planOf, triple, rowDirection, rowPanel, rowConfig};
+ghost use Rattle.solar_roll.specs.Plan.{unlikeLengths, tooMany, samplesRefusal, samplesOrNoneRefusal, sizesRefusal, planRefusal};
 
 // The most rows, times and cells of a plan.
 pub const MOST_ROWS: usize = 65_536;

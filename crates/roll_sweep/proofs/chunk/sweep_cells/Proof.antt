@@ -68,11 +68,11 @@ stepped c =
     let start : ℕ = (a .first + at .k) % length (a .units .now) in
     let z : at .k + m - at .k ≡ m = omega arith in
     let row : ℕ = (a .first + at .k) / a .times in
-    let turned : c .before .before .before .before .before .before .before .before .before .panel-at .result ≡ panelOf (rowPanel (a .panels .now) row) =
+    let panel-is : c .before .before .before .before .before .before .before .before .before .panel-at .result ≡ panelOf (rowPanel (a .panels .now) row) =
     c .before .before .before .before .before .before .before .before .before .panel-at .ensures ∙ ap panelOf (one-panel (a .panels .now) (a .first / a .times) row) in
     upto-part _ _ (at .k + m) (c .sweep-row .result) (at .inv .1) (omega arith) (h .few)
     (c .sweep-row .ensures
-    ∙ rw (c .before .before .before .body-axes .ensures, c .before .before .before .before .direction .ensures, c .before .before .row-config .ensures, turned)
+    ∙ rw (c .before .before .before .body-axes .ensures, c .before .before .before .before .direction .ensures, c .before .before .row-config .ensures, panel-is)
     (row-swept (a .targets .now) (a .tolerances .now) (a .configured) (a .panels .now) (a .rolls .now) (a .units .now) (a .times) (a .first) (at .k) m (start + m - start) (omega arith) (h .in-row) (h .in-table))
     ∙ ap (λ (w : ℕ). sweptBy w (length (a .rolls .now)) (λ j. nth-violated (a .targets .now) (a .times) (a .units .now) (a .tolerances .now) (a .configured) (a .panels .now) (a .rolls .now) (a .first) (at .k + j))) (sym z))
 
