@@ -10,16 +10,18 @@ use lib.Seq.{take-take, take-at, length-take-le}
 use borrow.Author.Tests.{ltb-true, ltb-false, leb-true, leb-false, le-ltb, ne-eqb, eqb-true, eqb-false, not-true, not-false}
 use Rattle.buffers.specs.Lent.{put}
 use Rattle.buffers.specs.Ranges.{flag}
+use Rattle.buffers.specs.Refusal.{replyOf}
+use Rattle.buffers.specs.declared.Answer.{Answer}
 use Rattle.buffers.proofs.Lent.{length-put}
 use Rattle.buffers.proofs.Refusal.{written-none, written-some}
 use Rattle.buffers.proofs.Tests.{or-left, or-right}
 use Rattle.roll_sweep.specs.Sweep.{Sweep, cells, chunks}
 use Rattle.journal.specs.Lines.{lineLength, lineOf, hasChunk}
 use Rattle.journal.specs.Right.{wholeLines, torn, right}
-use Rattle.journal.specs.Calls.{wrong, workRefusal, workBytes}
+use Rattle.journal.specs.Calls.{wrong, workRefusal, workReply, workBytes}
 use Rattle.journal.specs.Pass.{mostChunks, Tables, Passed, Ready}
-use Rattle.journal.specs.Range.{Ran, ranTo, oneMore, ran}
-use Rattle.journal.proofs.Chains.{work-9, work-10, work-7, work-0, work-clear}
+use Rattle.journal.specs.Range.{Ran, ranTo, oneMore, ran, Ranged}
+use Rattle.journal.proofs.Chains.{work-9, work-10, work-7, work-0, work-clear, work-refused, work-accepted, range-refused, range-accepted, range-one-refusal}
 use Rattle.journal.proofs.Scan.{chunks-le, flag-zero, flag-some}
 use Rattle.journal.proofs.Written.{SweepFacts, length-line}
 use Rattle.journal.proofs.Appended.{torn-more, length-more, has-more, right-more}
@@ -37,11 +39,6 @@ module _ (s : Sweep) (b : List ℕ) (u c : ℕ) where
   unfolding ran
   ran-stop zero h = refl
   ran-stop (suc m) h = written-some (workRefusal s c b u) (ran s m (oneMore s (ranTo b u c))) (ranTo b u c) h
-
-  -- by the number that work's refusal is
-  pub ran-refused : (m k : ℕ) → k ≡ workRefusal s c b u → (k ≡ 0 → ⊥) → ran s m (ranTo b u c) ≡ ranTo b u c
-  ran-refused m zero e h = absurd (h refl)
-  ran-refused m (suc k) e h = ran-stop m (omega (arith, e))
 
 -- the bytes before a text that was put
 take-before : (i : ℕ) (t b : List ℕ) → i ≤ length b → take i (put i t b) ≡ take i b
@@ -96,10 +93,26 @@ ran-keeps s (suc m) b u c h = go (workRefusal s c b u) refl (λ g. ran-keeps s m
         ∙ take-before u (lineOf s c) b h
     go (suc k) e more = ap (λ (x : Ran). take u (x .bytes)) (ran-stop s b u c (suc m) (omega arith))
 
--- a range of one chunk is its work
-pub ran-one : (s : Sweep) (b : List ℕ) (u c : ℕ) → workRefusal s c b u ≡ 0 → ran s 1 (ranTo b u c) ≡ ranTo (workBytes s c b u) (u + lineLength) (c + 1)
+-- a range of one chunk comes to what its work leaves
+ran-one : (s : Sweep) (b : List ℕ) (u c : ℕ) → workRefusal s c b u ≡ 0 → ran s 1 (ranTo b u c) ≡ ranTo (workBytes s c b u) (u + lineLength) (c + 1)
 unfolding ran oneMore
 ran-one s b u c e = written-none (workRefusal s c b u) (oneMore s (ranTo b u c)) (ranTo b u c) e
+
+-- so it answers and leaves as work does
+pub range-one : (s : Sweep) (c : ℕ) (b : List ℕ) (u old : ℕ) (r : Answer) (o : List ℕ) (d : ℕ) → Ranged s c (c + 1) b u old r o d → (replyOf r ≡ workReply s c b u) × (o ≡ workBytes s c b u)
+range-one s c b u old r o d q = go (workRefusal s c b u) refl
+  where
+    one : c + 1 - c ≡ 1
+    one = omega arith
+
+    go : (k : ℕ) → k ≡ workRefusal s c b u → (replyOf r ≡ workReply s c b u) × (o ≡ workBytes s c b u)
+    go zero e =
+        let x = range-accepted s c (c + 1) b u old _ _ _ (sym (ap (λ (m : ℕ). ran s m (ranTo b u c)) one ∙ ran-one s b u c (sym e))) (range-one-refusal s c b u ∙ sym e) in
+        (q .0 ∙ sym (x .0) ∙ work-accepted s b u c (sym e), q .1 ∙ sym (x .1))
+    go (suc k) e =
+        let x = range-refused s c (c + 1) b u old (suc k) (e ∙ sym (range-one-refusal s c b u)) (λ z. omega arith) in
+        let y = work-refused s b u c (suc k) e (λ z. omega arith) in
+        (q .0 ∙ sym (x .0) ∙ y .0, q .1 ∙ sym (x .1) ∙ y .1)
 
 -- ---- what the loop keeps: after the chunks from `from` to c, of a journal b₀ with u₀ bytes used, b is left with u, and of m chunks `left` are to come
 

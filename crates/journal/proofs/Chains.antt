@@ -9,6 +9,7 @@ use lib.ListN.{length}
 use borrow.Author.Tests.{lt-ltb, le-ltb, le-leb, lt-leb, eq-eqb, ne-eqb, leb-false, ltb-false}
 use Rattle.buffers.specs.Lent.{filled, put}
 use Rattle.buffers.specs.Refusal.{Conditions, first, carried, replyOf}
+use Rattle.buffers.specs.declared.Answer.{Answer}
 use Rattle.buffers.specs.declared.Answer.the-variants.{Accepted, Refused}
 use Rattle.buffers.proofs.Refusal.{first-here, first-skip, first-clear, first-clears, carried-here, carried-skip, carried-clear, carried-last, written-none, accepted-with, refused-leaves, accepted-leaves}
 use Rattle.roll_sweep.specs.Sweep.{Sweep, cells, chunks}
@@ -16,7 +17,7 @@ use Rattle.journal.specs.Lines.{headerLength, lineLength, lineOf, hasChu
 use Rattle.journal.specs.Right.{wholeLines, torn, right}
 use Rattle.journal.specs.Pass.{Passed}
 use Rattle.journal.specs.Calls.{afterPlan, wrong, beginShort, beginRefusal, beginReply, beginBytes, workConditions, workRefusal, workReply, workBytes, kept, recoverRefusal, recoverReply, collectRefusal, collectReply, heldBit, collectMask}
-use Rattle.journal.specs.Range.{Ran, ranTo, ran, rangeConditions, rangeRefusal, rangeRan, rangeReply, rangeBytes, rangeStopped}
+use Rattle.journal.specs.Range.{Ran, ranTo, ran, rangeConditions, rangeRefusal, rangeRan, rangeReply, rangeBytes, rangeStopped, Ranged}
 
 -- ---- the plan's refusal, before a call's own conditions
 
@@ -204,19 +205,39 @@ module _ (s : Sweep) (from to : ℕ) (b : List ℕ) (u : ℕ) where
 
   -- what the call answers and leaves, with the lent number
   module _ (old : ℕ) where
-    pub range-refused : (k : ℕ) → k ≡ rangeRefusal s from to b u → (k ≡ 0 → ⊥)
-        → (replyOf (Refused k) ≡ rangeReply s from to b u) × (b ≡ rangeBytes s from to b u) × (old ≡ rangeStopped s from to b u old)
+    pub range-refused : (k : ℕ) → k ≡ rangeRefusal s from to b u → (k ≡ 0 → ⊥) → Ranged s from to b u old (Refused k) b old
     unfolding rangeReply rangeBytes rangeStopped
     range-refused k e h =
         let r : Ran = rangeRan s from to b u in
         let q = refused-leaves k _ (r .used) (r .bytes) b e h in
         (q .0, q .1, refused-leaves k _ 0 (r .next) old e h .1)
 
-    pub range-accepted : (o : List ℕ) (v c : ℕ) → ranTo o v c ≡ ran s (to - from) (ranTo b u from) → rangeRefusal s from to b u ≡ 0
-        → (replyOf (Accepted v) ≡ rangeReply s from to b u) × (o ≡ rangeBytes s from to b u) × (c ≡ rangeStopped s from to b u old)
+    -- the plan is refused
+    pub range-plan : (k : ℕ) → k ≡ s .refusal (ltb (length b) u) → (k ≡ 0 → ⊥) → Ranged s from to b u old (Refused k) b old
+    unfolding rangeRefusal
+    range-plan k e h = range-refused k (plan-refused s b u (rangeConditions s from to b u) k e h) h
+
+    pub range-accepted : (o : List ℕ) (v c : ℕ) → ranTo o v c ≡ ran s (to - from) (ranTo b u from) → rangeRefusal s from to b u ≡ 0 → Ranged s from to b u old (Accepted v) o c
     unfolding rangeReply rangeBytes rangeStopped rangeRan
     range-accepted o v c f e = (
       accepted-with v _ _ e (ap (λ (x : Ran). x .used) f),
       ap (λ (x : Ran). x .bytes) f ∙ sym (written-none _ _ b e),
       ap (λ (x : Ran). x .next) f ∙ sym (written-none _ _ old e),
     )
+
+-- where the plan is refused, a range is refused alike over whatever rolls
+pub range-alike : (s t : Sweep) (from to : ℕ) (b : List ℕ) (u old : ℕ) (r : Answer) (o : List ℕ) (c k : ℕ)
+    → k ≡ s .refusal (ltb (length b) u) → k ≡ t .refusal (ltb (length b) u) → (k ≡ 0 → ⊥) → Ranged s from to b u old r o c → Ranged t from to b u old r o c
+range-alike s t from to b u old r o c k e f h q =
+    let x = range-plan s from to b u old k e h in
+    let y = range-plan t from to b u old k f h in
+    (q .0 ∙ sym (x .0) ∙ y .0, q .1 ∙ sym (x .1) ∙ y .1, q .2 ∙ sym (x .2) ∙ y .2)
+
+-- a range of one chunk is refused as its work
+pub range-one-refusal : (s : Sweep) (c : ℕ) (b : List ℕ) (u : ℕ) → rangeRefusal s c (c + 1) b u ≡ workRefusal s c b u
+unfolding rangeRefusal workRefusal
+range-one-refusal s c b u = go (s .refusal (ltb (length b) u)) refl
+  where
+    go : (k : ℕ) → k ≡ s .refusal (ltb (length b) u) → rangeRefusal s c (c + 1) b u ≡ workRefusal s c b u
+    go zero e = range-work s c (c + 1) b u (sym e) (omega arith)
+    go (suc k) e = sym (plan-refused s b u (rangeConditions s c (c + 1) b u) (suc k) e (λ z. omega arith)) ∙ plan-refused s b u (workConditions s c b u) (suc k) e (λ z. omega arith)

@@ -1,8 +1,8 @@
 -- What the calls ask of the plan's sweep, over any rolls: its refusals, its samples and its header, and what is known once the plan has passed. Assumes nothing.
-use mathlib.Core.Path.{_≡_, refl, sym, ap, ap₂, _∙_}
+use mathlib.Core.Path.{_≡_, refl, sym, ap, ap₂, _∙_, subst}
 use mathlib.Core.Bool.{Bool}
 use mathlib.Core.List.{List, []}
-use Prim.Native.Nat.{ℕ, _+_, _*_, _%_, _≤_, _<_}
+use Prim.Native.Nat.{ℕ, zero, suc, _+_, _*_, _%_, _≤_, _<_}
 use native.Mathlib.Omega.{arith}
 use lib.Dec.{ltb}
 use lib.ListN.{length, getD, take, replicate, length-replicate}
@@ -10,6 +10,7 @@ use lib.Ieee.{Float, binary64, toBits}
 use borrow.Author.Tests.{le-leb, le-ltb, ltb-false}
 use Rattle.buffers.specs.Ranges.{tab}
 use Rattle.buffers.specs.Refusal.{accepted}
+use Rattle.buffers.specs.declared.Answer.{Answer}
 use Rattle.buffers.proofs.Refusal.{reply-none}
 use Rattle.buffers.specs.Lent.{over, put}
 use Rattle.buffers.proofs.Lent.{put-first, over-all}
@@ -17,7 +18,7 @@ use Rattle.solar_roll.specs.Vectors.{Vector, x, y, z}
 use Rattle.solar_roll.specs.declared.cell.ConfiguredRoll.{ConfiguredRoll}
 use Rattle.solar_roll.specs.Plan.{Plan, rowsOf, timesOf, headTolerance, headPanel, samplesRefusal, planRefusal, sunAt, mostSamples, PlanFacts}
 use Rattle.solar_roll.proofs.PlanFacts.{plan-facts, nothing-said, not-beyond}
-use Rattle.roll_sweep.specs.Sweep.{chunks, cellsIn}
+use Rattle.roll_sweep.specs.Sweep.{Sweep, chunks, cellsIn}
 use Rattle.roll_sweep.specs.Rolls.{evenRolls}
 use Rattle.roll_sweep.specs.Chunk.{violatesBy, sampleRoll, sweptOf, chunkRefusal, sweptReply}
 use Rattle.roll_sweep.proofs.Even.{length-even}
@@ -28,6 +29,8 @@ use Rattle.journal.specs.Header.{hasRoll, rollBits, settingsHeader, head
 use Rattle.journal.specs.Pass.{Passed}
 use Rattle.journal.specs.Plan.{sweepOf, evenSweep, Says}
 use Rattle.journal.specs.Lines.{headerLength}
+use Rattle.journal.specs.Range.{Ranged}
+use Rattle.journal.proofs.Chains.{range-alike}
 use Rattle.journal.proofs.Write.{length-header}
 use Rattle.journal.proofs.Written.{SweepFacts}
 
@@ -114,6 +117,15 @@ module _ (p : Plan) (rolls : List Float) (said : ℕ) where
 -- over rolls that are the even ones, by the number that was said of n
 pub even-sweep : (p : Plan) (n : ℕ) (rolls : List Float) (said : ℕ) → rolls ≡ evenRolls n → said ≡ samplesRefusal n → sweepOf p rolls said ≡ evenSweep p n
 even-sweep p n rolls said e z = ap₂ (sweepOf p) e z
+
+-- or where that number refuses the plan, over whatever rolls
+pub even-or-refused : (p : Plan) (n : ℕ) (rolls : List Float) (said : ℕ) → said ≡ samplesRefusal n → (said ≡ 0 → rolls ≡ evenRolls n)
+    → (from to : ℕ) (b : List ℕ) (u old : ℕ) (r : Answer) (o : List ℕ) (c : ℕ) → Ranged (sweepOf p rolls said) from to b u old r o c → Ranged (evenSweep p n) from to b u old r o c
+unfolding sweepOf
+even-or-refused p n rolls zero z e from to b u old r o c = subst (λ (s : Sweep). Ranged s from to b u old r o c) (even-sweep p n rolls 0 (e refl) z)
+even-or-refused p n rolls (suc k) z e from to b u old r o c =
+    range-alike (sweepOf p rolls (suc k)) (evenSweep p n) from to b u old r o c (planRefusal p (suc k) (ltb (length b) u)) refl (ap (λ (said : ℕ). planRefusal p said (ltb (length b) u)) z)
+    (λ h. omega (arith, nothing-said p (suc k) (ltb (length b) u) h))
 
 -- the even rolls are as many as was said
 pub even-says : (n : ℕ) → Says (samplesRefusal n) (length (evenRolls n))

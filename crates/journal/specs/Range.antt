@@ -1,9 +1,11 @@
 -- Work over a range of chunks, with one check at the start: what works of from, from + 1, .. answer and leave, each on what the one before left. Said
 -- by work's own definitions. Definitions only. Assumes nothing.
+use mathlib.Core.Path.{_≡_}
 use mathlib.Core.List.{List, [], _∷_}
 use Prim.Native.Nat.{ℕ, zero, suc, _+_, _-_}
 use lib.Dec.{leb}
-use Rattle.buffers.specs.Refusal.{Conditions, first, carried, Reply, reply, unlessRefused}
+use Rattle.buffers.specs.Refusal.{Conditions, first, carried, Reply, reply, unlessRefused, replyOf}
+use Rattle.buffers.specs.declared.Answer.{Answer}
 use Rattle.roll_sweep.specs.Sweep.{Sweep}
 use Rattle.journal.specs.Lines.{lineLength}
 use Rattle.journal.specs.Calls.{afterPlan, workRefusal, workBytes}
@@ -58,3 +60,9 @@ rangeBytes s from to b u = unlessRefused (rangeRefusal s from to b u) ((rangeRan
 unfoldable pub rangeStopped : Sweep → ℕ → ℕ → List ℕ → ℕ → ℕ → ℕ
 unfolding rangeRefusal unlessRefused rangeRan
 rangeStopped s from to b u old = unlessRefused (rangeRefusal s from to b u) ((rangeRan s from to b u) .next) old
+
+-- ---- for the contracts of private functions
+
+-- the answer r, the bytes o and the lent number c are the range's
+abbrev pub Ranged : Sweep → ℕ → ℕ → List ℕ → ℕ → ℕ → Answer → List ℕ → ℕ → Type 0
+Ranged s from to b u old r o c = (replyOf r ≡ rangeReply s from to b u) × (o ≡ rangeBytes s from to b u) × (c ≡ rangeStopped s from to b u old)

@@ -13,7 +13,6 @@ use crate::accepted::collect_lines;
 use crate::accepted::recover_used;
 use crate::header::HEADER_LENGTH;
 use crate::header::write_header;
-use crate::line::LINE_LENGTH;
 use crate::plan::lent_plan;
 use crate::range::work_even;
 use buffers::Answer;
@@ -123,25 +122,8 @@ pub fn work(
         ⌜ (replyOf r ≡ workReply s chunk (now (journal .entry)) used)
         × (now (journal .exit) ≡ workBytes s chunk (now (journal .entry)) used) ⌝ }
 {
-    let room = journal.len() as u64;
-    let said = samples_refusal(n);
-    let plan = lent_plan(
-        targets,
-        suns,
-        observers,
-        tolerances,
-        configured,
-        panels,
-        said,
-        n,
-        room,
-        used,
-    );
-    if plan.refusal != 0 {
-        return Answer::Refused(plan.refusal);
-    }
-    let header = plan.header;
-    let worked = work_even(
+    let mut stopped = chunk;
+    work_even(
         targets,
         suns,
         observers,
@@ -149,18 +131,12 @@ pub fn work(
         configured,
         panels,
         n,
-        &header,
-        plan.cells,
         chunk,
         1,
         journal,
         used,
-    );
-    if worked.refusal != 0 {
-        return Answer::Refused(worked.refusal);
-    }
-    let end = used + LINE_LENGTH as u64;
-    Answer::Accepted(end)
+        &mut stopped,
+    )
 }
 
 // Works of the chunks from, from + 1, .., up to the first that work refuses, or `to`, with one check of the journal at the start. Gives the used
@@ -186,28 +162,8 @@ pub fn work_range(
         × (now (journal .exit) ≡ rangeBytes s from to (now (journal .entry)) used)
         × (now (stopped .exit) ≡ rangeStopped s from to (now (journal .entry)) used (now (stopped .entry))) ⌝ }
 {
-    let room = journal.len() as u64;
-    let said = samples_refusal(n);
-    let plan = lent_plan(
-        targets,
-        suns,
-        observers,
-        tolerances,
-        configured,
-        panels,
-        said,
-        n,
-        room,
-        used,
-    );
-    if plan.refusal != 0 {
-        return Answer::Refused(plan.refusal);
-    }
-    if to <= from {
-        return Answer::Refused(9);
-    }
-    let header = plan.header;
-    let worked = work_even(
+    let limit = if from < to { to - from } else { 0 };
+    work_even(
         targets,
         suns,
         observers,
@@ -215,21 +171,12 @@ pub fn work_range(
         configured,
         panels,
         n,
-        &header,
-        plan.cells,
         from,
-        to - from,
+        limit,
         journal,
         used,
-    );
-    if worked.refusal != 0 {
-        return Answer::Refused(worked.refusal);
-    }
-    let next = worked.stopped;
-    *stopped = next;
-    let lines = next - from;
-    let end = used + LINE_LENGTH as u64 * lines;
-    Answer::Accepted(end)
+        stopped,
+    )
 }
 
 // Recover, over any rolls of this number, of which `said` is said in the place of 3.

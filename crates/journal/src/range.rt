@@ -1,5 +1,4 @@
-// Work over a range of chunks, once the plan has passed. The journal is checked once; the rolls are a table that is filled once, and so are the Sun's
-// units where that pays.
+// Work over a range of chunks. The journal is checked once; the even rolls are a table that is filled once, and so are the Sun's units where that pays.
 ghost use mathlib.Core.Path.{_≡_};
 ghost use mathlib.Core.Bool.{true, not, _||_};
 ghost use mathlib.Core.List.{List};
@@ -15,20 +14,22 @@ ghost use Rattle.roll_sweep.specs.Chunk.{sweptOf, chunkReply};
 ghost use Rattle.roll_sweep.specs.declared.chunk.Swept.{Swept};
 ghost use Rattle.buffers.specs.Refusal.{accepted};
 ghost use Rattle.journal.specs.Lines.{lineLength};
-ghost use Rattle.journal.specs.Calls.{workRefusal};
-ghost use Rattle.journal.specs.Pass.{mostChunks, Passed, Ready};
-ghost use Rattle.journal.specs.Plan.{sweepOf, evenSweep, UnitsOf, tableTimes};
-ghost use Rattle.journal.specs.Range.{ranTo, ran};
+ghost use Rattle.journal.specs.Pass.{mostChunks, Ready};
+ghost use Rattle.journal.specs.Plan.{sweepOf, evenSweep, Says, UnitsOf, tableTimes};
+ghost use Rattle.journal.specs.Range.{ranTo, ran, Ranged};
 use crate::accepted::work_refusal;
 use crate::line::LINE_LENGTH;
 use crate::line::append_line;
 use crate::pass::MOST_CHUNKS;
+use crate::plan::lent_plan;
+use buffers::Answer;
 use roll_sweep::ChunkAnswer;
 use roll_sweep::Swept;
 use roll_sweep::cells_in;
 use roll_sweep::even_rolls;
 use roll_sweep::sweep_chunk;
 use solar_roll::ConfiguredRoll;
+use solar_roll::samples_refusal;
 use solar_roll::sun_unit;
 use solar_roll::sun_units;
 use solar_roll::triple;
@@ -297,14 +298,9 @@ fn append_lines(
     )
 }
 
-// What work of a range's first chunk is refused with, 0 for none; and the chunk at which the range stopped.
-pub struct Worked {
-    pub refusal: u64,
-    pub stopped: u64,
-}
-
-// Works of up to `limit` chunks from `from` on, of a plan that has passed, stopping at the first that work refuses.
-pub(crate) fn work_chunks(
+// Work over the range of `limit` chunks from `from` on, over rolls of which `said` is said in the place of 3. By its length, for a range of one
+// chunk may end at 2^64.
+pub(crate) fn work_over(
     targets: &[f64],
     suns: &[f64],
     observers: &[f64],
@@ -312,28 +308,47 @@ pub(crate) fn work_chunks(
     configured: ConfiguredRoll,
     panels: &[f64],
     rolls: &[f64],
-    header: &[u8],
-    cells: u64,
+    said: u64,
     from: u64,
     limit: u64,
     journal: &mut [u8],
     used: u64,
-) -> Worked
-    requires { let p : Plan = planOf (now targets) (now suns) (now observers) (now tolerances) configured (now panels) in
-        ⌜ Passed (sweepOf p (now rolls) 0) cells (length (now rolls)) (now header) (length (now journal)) used ⌝ }
+    stopped: &mut u64,
+) -> Answer
+    requires { ⌜ Says said (length (now rolls)) ⌝ }
     ensures { λ r.
         let p : Plan = planOf (now (targets .entry)) (now (suns .entry)) (now (observers .entry)) (now (tolerances .entry)) configured (now (panels .entry)) in
-        let s : Sweep = sweepOf p (now (rolls .entry)) 0 in
-        let b : List ℕ = now (journal .entry) in
-        ⌜ (r .refusal ≡ workRefusal s from b used)
-        × (ranTo (now (journal .exit)) (used + lineLength * (r .stopped - from)) (r .stopped) ≡ ran s limit (ranTo b used from)) ⌝ }
+        let s : Sweep = sweepOf p (now (rolls .entry)) said in
+        ⌜ ((to : ℕ) → to - from ≡ limit
+        → Ranged s from to (now (journal .entry)) used (now (stopped .entry)) r (now (journal .exit)) (now (stopped .exit))) ⌝ }
 {
+    let room = journal.len() as u64;
+    let samples = rolls.len() as u64;
+    let plan = lent_plan(
+        targets,
+        suns,
+        observers,
+        tolerances,
+        configured,
+        panels,
+        said,
+        samples,
+        room,
+        used,
+    );
+    if plan.refusal != 0 {
+        return Answer::Refused(plan.refusal);
+    }
+    if limit == 0 {
+        return Answer::Refused(9);
+    }
+    let header = plan.header;
     let mut seen = [0u8; MOST_CHUNKS];
     let mut masks = [0u64; MOST_CHUNKS];
     let refusal = work_refusal(
-        header,
-        cells,
-        rolls.len() as u64,
+        &header,
+        plan.cells,
+        samples,
         from,
         journal,
         used,
@@ -341,12 +356,9 @@ pub(crate) fn work_chunks(
         &mut masks,
     );
     if refusal != 0 {
-        return Worked {
-            refusal: refusal,
-            stopped: from,
-        };
+        return Answer::Refused(refusal);
     }
-    let stopped = append_lines(
+    let next = append_lines(
         targets,
         suns,
         observers,
@@ -360,13 +372,13 @@ pub(crate) fn work_chunks(
         used,
         &seen,
     );
-    Worked {
-        refusal: 0,
-        stopped: stopped,
-    }
+    *stopped = next;
+    let lines = next - from;
+    let end = used + LINE_LENGTH as u64 * lines;
+    Answer::Accepted(end)
 }
 
-// The same, over n even rolls.
+// The same, over n even rolls: over none where n is refused, for then the plan is, and no roll is looked at.
 pub(crate) fn work_even(
     targets: &[f64],
     suns: &[f64],
@@ -375,26 +387,23 @@ pub(crate) fn work_even(
     configured: ConfiguredRoll,
     panels: &[f64],
     n: u64,
-    header: &[u8],
-    cells: u64,
     from: u64,
     limit: u64,
     journal: &mut [u8],
     used: u64,
-) -> Worked
-    requires { let p : Plan = planOf (now targets) (now suns) (now observers) (now tolerances) configured (now panels) in
-        ⌜ Passed (evenSweep p n) cells n (now header) (length (now journal)) used ⌝ }
+    stopped: &mut u64,
+) -> Answer
     ensures { λ r.
         let p : Plan = planOf (now (targets .entry)) (now (suns .entry)) (now (observers .entry)) (now (tolerances .entry)) configured (now (panels .entry)) in
         let s : Sweep = evenSweep p n in
-        let b : List ℕ = now (journal .entry) in
-        ⌜ (r .refusal ≡ workRefusal s from b used)
-        × (ranTo (now (journal .exit)) (used + lineLength * (r .stopped - from)) (r .stopped) ≡ ran s limit (ranTo b used from)) ⌝ }
+        ⌜ ((to : ℕ) → to - from ≡ limit
+        → Ranged s from to (now (journal .entry)) used (now (stopped .entry)) r (now (journal .exit)) (now (stopped .exit))) ⌝ }
 {
+    let said = samples_refusal(n);
+    let end = if said == 0 { n as usize } else { 0 };
     let mut rolls = [0.0; MOST_SAMPLES];
-    even_rolls(n as u32, &mut rolls);
-    let end = n as usize;
-    work_chunks(
+    even_rolls(end as u32, &mut rolls);
+    work_over(
         targets,
         suns,
         observers,
@@ -402,11 +411,11 @@ pub(crate) fn work_even(
         configured,
         panels,
         &rolls[..end],
-        header,
-        cells,
+        said,
         from,
         limit,
         journal,
         used,
+        stopped,
     )
 }
