@@ -54,10 +54,11 @@ fn clamped(v: Vector) -> Vector {
     v.map(|x| x.clamp(-1.0, 1.0))
 }
 
-/// v, made of length 1 if it is not. What is close enough stays as it is: such vectors meet the thresholds of 1e-12 from both sides.
-fn unit(v: Vector) -> Vector {
+/// A vector close to length 1, made of length 1 where all targets are. What is close enough stays as it is: such vectors meet the thresholds of
+/// 1e-12 from both sides.
+fn of_claimed_length(targets: Targets, v: Vector) -> Vector {
     let n = length(v);
-    if is_unit(v) {
+    if targets == Targets::Any || is_unit(v) {
         v
     } else {
         v.map(|x| x / n)
@@ -80,13 +81,13 @@ fn target(s: &mut Seeded, targets: Targets, suns: &[Vector], observers: &[Vector
         8 => {
             let size = s.one_of(&[1e-13, 1e-12, 2e-12, 1e-7]);
             let pole = [0.0, 0.0, s.one_of(&[1.0, -1.0])];
-            unit(clamped(close_to(s, pole, size)))
+            of_claimed_length(targets, clamped(close_to(s, pole, size)))
         }
         9 => clamped(sun),
         10 => clamped(sun.map(|x| -x)),
         11 => {
             let size = s.one_of(&[1e-15, 1e-12, 3e-12, 2e-6]);
-            unit(clamped(close_to(s, sun, size)))
+            of_claimed_length(targets, clamped(close_to(s, sun, size)))
         }
         12 => [signed_zero(s), signed_zero(s), signed_zero(s)],
         13 => {
