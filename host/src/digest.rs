@@ -51,39 +51,37 @@ impl Digest {
         let lines = (0..3).map(|i| format!("{} {} {}\n", PARTS[i], self.digests[i], self.files[i]));
         format!("{}{}\n{}", TITLE, self.version, lines.collect::<String>())
     }
-    /// The digest beside a journal, if there is one.
-    pub fn beside(journal: &Path) -> Result<Option<Digest>, Fault> {
+    /// The digest beside a journal, if there is one. `rests`: lines rest on it, so that without it they would have to be worked out again.
+    fn beside(journal: &Path, rests: bool) -> Result<Option<Digest>, Fault> {
         let path = Digest::path(journal);
         match opened(&path) {
-            Ok(file) => Digest::parse(&Source::of(&path, read(&path, &file)?)?).map(Some),
+            Ok(file) => Digest::parse(&Source::of(&path, read(&path, &file)?)?, rests).map(Some),
             Err(e) if e.kind() == io::ErrorKind::NotFound => Ok(None),
             Err(e) => Err(files::fault(&path, &e)),
         }
     }
-    fn parse(source: &Source) -> Result<Digest, Fault> {
+    fn parse(source: &Source, rests: bool) -> Result<Digest, Fault> {
         let mut lines = source.text.lines();
         let version = lines.next().and_then(version).unwrap_or(0);
         if version > VERSION {
+            let again = if rests { " and work every line out again with check --recompute --write-digest" } else { "" };
             return Err(source.fault(
                 0,
                 format!("a digest of version {}, which a newer wilfnusk wrote and this one cannot read", version),
-                &format!(
-                    "versions 1 to {}; use that program, or move the file away and work every line out again with check --recompute",
-                    VERSION
-                ),
+                &format!("versions 1 to {}; use that program, or move the file away{}", VERSION, again),
             ));
         }
         let mut digest = Digest { version, digests: Default::default(), files: Default::default() };
         let mut good = version > 0;
         for i in 0..3 {
             let words: Vec<_> = lines.next().unwrap_or("").splitn(3, ' ').collect();
-            good &= words.len() == 3 && words[0] == PARTS[i] && words[1].len() == 64;
+            good &= words.len() == 3 && words[0] == PARTS[i] && words[1].len() == 64 && !words[2].is_empty();
             if good {
                 digest.digests[i] = words[1].to_owned();
                 digest.files[i] = words[2].to_owned();
             }
         }
-        if good {
+        if good && lines.next().is_none() {
             Ok(digest)
         } else {
             Err(source.fault(0, "no digest of a plan", "what `wilfnusk sweep` writes; without the file the check is left out"))
@@ -95,7 +93,7 @@ impl Digest {
     }
     /// Writes it beside a journal, whole or not at all. Only a digest is overwritten: another file of that name is a fault.
     pub fn write(&self, journal: &Path) -> Result<(), Fault> {
-        match Digest::beside(journal)? {
+        match Digest::beside(journal, false)? {
             Some(there) if there == *self => Ok(()),
             _ => write_whole(&Digest::path(journal), self.text().as_bytes()),
         }
@@ -103,7 +101,7 @@ impl Digest {
     /// Takes away the digest of a journal that is gone, which would speak for lines that it does not know. Whether there was one.
     pub fn remove(journal: &Path) -> Result<bool, Fault> {
         let path = Digest::path(journal);
-        match Digest::beside(journal)? {
+        match Digest::beside(journal, false)? {
             None => Ok(false),
             Some(_) => {
                 let removed = fs::remove_file(&path).and_then(|()| sync_folder(&path));
@@ -126,7 +124,7 @@ fn one_line(name: &str) -> String {
 
 /// Holds the plan against the digest beside a journal. Whether there is one.
 pub fn is_known(plan: &Plan, journal: &Path) -> Result<bool, Fault> {
-    let then = match Digest::beside(journal)? {
+    let then = match Digest::beside(journal, true)? {
         Some(then) => then,
         None => return Ok(false),
     };
@@ -164,7 +162,9 @@ pub fn same_plan(plan: &Plan, journal: &Path) -> Result<bool, Fault> {
 /// even steps: of a plan with more of them it must never be taken for the digest.
 ///
 /// Version 2: n, whether a roll is configured, that roll or 0; then lists, each after the count of its numbers: tolerances, panels (three numbers
-/// each), rolls. Even steps are said by n alone, and their list of rolls is empty. It stands last, so that a table of rolls moves nothing before it.
+/// each), rolls. The tolerances are one number where it is the same for all targets, as today in every plan, else one a target: a plan of one
+/// tolerance keeps its digest when they may vary. Even steps are said by n alone, and their list of rolls is empty. It stands last, so that a table
+/// of rolls moves nothing before it.
 fn settings(version: u64, plan: &Plan) -> String {
     let (n, is_configured, roll) = (plan.rolls, plan.configured_roll.is_some() as u64, bits(&plan.configured_roll.unwrap_or(0.0)));
     if version == 1 {
@@ -253,7 +253,7 @@ mod tests {
         }
         for title in ["wilfnusk plan", "wilfnusk plan ", "wilfnusk plan 02", "wilfnusk plan +2", "wilfnusk plan 2 ", "wilfnusk plan two"] {
             fs::write(&path, new.replace("wilfnusk plan 2", title)).unwrap();
-            assert!(Digest::beside(&journal).unwrap_err().to_string().contains("no digest of a plan"), "{}", title);
+            assert!(Digest::beside(&journal, true).unwrap_err().to_string().contains("no digest of a plan"), "{}", title);
         }
     }
 
@@ -276,15 +276,36 @@ mod tests {
     fn written_and_read_again() {
         let folder = tempfile::tempdir().unwrap();
         let journal = folder.path().join("j");
-        assert_eq!(Digest::beside(&journal).unwrap(), None);
+        assert_eq!(Digest::beside(&journal, true).unwrap(), None);
         let d = digest(TOML, TARGETS, EPHEMERIS);
         d.write(&journal).unwrap();
-        assert_eq!(Digest::beside(&journal).unwrap(), Some(d));
+        assert_eq!(Digest::beside(&journal, true).unwrap(), Some(d));
         let path = Digest::path(&journal);
         let text = fs::read_to_string(&path).unwrap();
         for cut in 0..text.len() - TARGETS.len() {
             fs::write(&path, &text[..cut]).unwrap();
-            assert!(Digest::beside(&journal).is_err());
+            assert!(Digest::beside(&journal, true).is_err());
+        }
+    }
+    #[test]
+    fn four_lines_and_no_more() {
+        let folder = tempfile::tempdir().unwrap();
+        let journal = folder.path().join("j");
+        let d = digest(TOML, TARGETS, EPHEMERIS);
+        let text = d.text();
+        for same in [text.clone(), text.replace('\n', "\r\n"), text.trim_end().to_owned()] {
+            fs::write(Digest::path(&journal), same).unwrap();
+            assert_eq!(Digest::beside(&journal, true).unwrap(), Some(d.clone()));
+        }
+        let nameless = PARTS.map(|part| {
+            let at = text.find(part).unwrap() + part.len() + 66;
+            format!("{}{}", &text[..at], &text[at + text[at..].find('\n').unwrap()..])
+        });
+        let more = ["\n", "\r\n", " ", "x", "settings", &text].map(|more| text.clone() + more);
+        for other in nameless.iter().chain(&more) {
+            fs::write(Digest::path(&journal), other).unwrap();
+            let said = Digest::beside(&journal, true).map_err(|e| e.to_string());
+            assert!(matches!(&said, Err(e) if e.contains("no digest of a plan")), "{:?} of {}", said, other);
         }
     }
     #[test]
@@ -294,7 +315,7 @@ mod tests {
         let mut d = digest(TOML, TARGETS, EPHEMERIS);
         d.files = ["a\nb", " c\r", "\u{85}\té"].map(one_line);
         d.write(&journal).unwrap();
-        assert_eq!(Digest::beside(&journal).unwrap(), Some(d));
+        assert_eq!(Digest::beside(&journal, true).unwrap(), Some(d));
         assert_eq!(fs::read_to_string(Digest::path(&journal)).unwrap().lines().count(), 4);
     }
     #[test]
@@ -304,7 +325,7 @@ mod tests {
         let (d, other) = (digest(TOML, TARGETS, EPHEMERIS), digest(&TOML.replace("10", "11"), TARGETS, EPHEMERIS));
         other.write(&journal).unwrap();
         d.write(&journal).unwrap();
-        assert_eq!(Digest::beside(&journal).unwrap(), Some(d.clone()));
+        assert_eq!(Digest::beside(&journal, true).unwrap(), Some(d.clone()));
         assert!(Digest::remove(&journal).unwrap() && !Digest::remove(&journal).unwrap());
         let path = Digest::path(&journal);
         fs::write(&path, TOML).unwrap();

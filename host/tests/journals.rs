@@ -265,18 +265,32 @@ fn a_newer_digest_is_told() {
     let newer = String::from_utf8(folder.read("plan.journal.plan")).unwrap().replace("wilfnusk plan 2", "wilfnusk plan 3") + "more\n";
     folder.write("plan.journal.plan", &newer);
     let says = "plan.journal.plan, line 1, column 1: a digest of version 3, which a newer wilfnusk wrote and this one cannot read; allowed: versions 1 to 2";
+    let again = "move the file away and work every line out again with check --recompute --write-digest\n";
     for words in ["check", "status", "windows", "mask", "sweep", "check --recompute --write-digest"] {
-        folder.refused(3, &format!("{} plan.toml", words), &[says, "check --recompute"]);
+        folder.refused(3, &format!("{} plan.toml", words), &[says, again]);
     }
-    folder.refused(3, "merge plan.toml plan.journal -o all.journal", &[says]);
-    // Nor is it written over where a journal has no line, or where a merged one shall stand.
+    folder.refused(3, "merge plan.toml plan.journal -o all.journal", &[says, again]);
+    // Nor is it written over where a journal has no line, or where a merged one shall stand, whether with a digest or without: there is no
+    // line to work out again.
+    let away = "versions 1 to 2; use that program, or move the file away\n";
     folder.write("plan.journal", &journal[..HEADER]);
-    folder.refused(3, "sweep plan.toml", &[says]);
+    folder.refused(3, "sweep plan.toml", &[says, away]);
     folder.done("sweep plan.toml -q --journal part1.journal --part 1/2");
     folder.write("all.journal.plan", &newer);
-    folder.refused(3, "merge plan.toml part1.journal -o all.journal", &["all.journal.plan, line 1, column 1: a digest of version 3"]);
+    for known in [true, false] {
+        if !known {
+            folder.remove("part1.journal.plan");
+        }
+        let says = "all.journal.plan, line 1, column 1: a digest of version 3";
+        folder.refused(3, "merge plan.toml part1.journal -o all.journal", &[says, away]);
+    }
     assert!(folder.read("plan.journal.plan") == newer.as_bytes() && folder.read("all.journal.plan") == newer.as_bytes());
     assert!(folder.read("plan.journal") == journal[..HEADER] && !folder.has("all.journal"));
+    // What the sentence says to do does it.
+    folder.write("plan.journal", &journal);
+    folder.remove("plan.journal.plan");
+    folder.done("check plan.toml --recompute --write-digest");
+    assert!(folder.done("check plan.toml").stdout.contains("are those it was begun with"));
 }
 
 #[test]

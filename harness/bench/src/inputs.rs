@@ -1,7 +1,7 @@
 //! Targets over the whole sky; a year of the Sun and of a satellite in low orbit.
 use cases::plans::direction;
 use cases::Seeded;
-use model::{roll::even_rolls, Plan};
+use model::{plan::Rolls, Plan};
 use std::f64::consts::TAU;
 
 const YEAR_S: f64 = 31_558_150.0;
@@ -27,7 +27,7 @@ pub fn plan(targets: usize, times: usize, n: u64, tolerance_deg: f64) -> Plan {
         tolerances: vec![tolerance_deg],
         roll_deg: None,
         panels: vec![0.0, 1.0, 0.0],
-        rolls: even_rolls(n),
+        rolls: Rolls::Even(n),
     }
 }
 

@@ -12,7 +12,7 @@ const LINE: usize = LINE_BYTES as usize;
 
 /// A whole sweep, begin and then every chunk in order, into a journal of just the length.
 pub fn sweep(plan: &Plan, journal: &mut [u8]) {
-    let (lent, n, chunks) = (lent(plan), plan.n(), chunks(plan));
+    let (lent, n, chunks) = (lent(plan), plan.even_n(), chunks(plan));
     let used = lent.begin(n, journal, 0).unwrap();
     let (end, stopped) = lent.work_range(n, 0..chunks, journal, used).unwrap();
     assert_eq!((end, stopped), (journal.len() as u64, chunks));
@@ -36,7 +36,7 @@ fn port_sweep(plan: Rc<Plan>) -> Box<dyn Side> {
     let (p, q) = (plan.clone(), plan.clone());
     let collected = move |journal: &Vec<u8>| {
         let mut mask = vec![0; plan.cells()];
-        let probes = lent(&plan).collect(plan.n(), journal, journal.len() as u64, &mut mask).unwrap();
+        let probes = lent(&plan).collect(plan.even_n(), journal, journal.len() as u64, &mut mask).unwrap();
         (mask, probes)
     };
     let again = collected.clone();

@@ -1,7 +1,8 @@
 //! Plans: poles, zero vectors, the Sun on the boresight and close to it, the Sun at the observer, signed zeros, panels without y-z part,
 //! tolerances at exact distances, NaN and infinite tolerances and rolls.
 use crate::Seeded;
-use model::roll::{difference, even_rolls, optimal_roll, sun_unit};
+use model::plan::{is_unit, Rolls};
+use model::roll::{difference, optimal_roll, sun_unit};
 use model::{arithmetic::remainder, Plan};
 
 type Vector = [f64; 3];
@@ -15,11 +16,6 @@ pub enum Targets {
 
 fn length(v: Vector) -> f64 {
     (v[0] * v[0] + v[1] * v[1] + v[2] * v[2]).sqrt()
-}
-
-/// Length 1 up to 1e-9 of its square, summed left to right.
-pub fn is_unit(v: Vector) -> bool {
-    (v[0] * v[0] + v[1] * v[1] + v[2] * v[2] - 1.0).abs() <= 1e-9
 }
 
 fn signed_zero(s: &mut Seeded) -> f64 {
@@ -54,10 +50,11 @@ fn clamped(v: Vector) -> Vector {
     v.map(|x| x.clamp(-1.0, 1.0))
 }
 
-/// v, made of length 1 if it is not. What is close enough stays as it is: such vectors meet the thresholds of 1e-12 from both sides.
-fn unit(v: Vector) -> Vector {
+/// A vector close to length 1, made of length 1 where all targets are. What is close enough stays as it is: such vectors meet the thresholds of
+/// 1e-12 from both sides.
+fn of_claimed_length(targets: Targets, v: Vector) -> Vector {
     let n = length(v);
-    if is_unit(v) {
+    if targets == Targets::Any || is_unit(v) {
         v
     } else {
         v.map(|x| x / n)
@@ -80,13 +77,13 @@ fn target(s: &mut Seeded, targets: Targets, suns: &[Vector], observers: &[Vector
         8 => {
             let size = s.one_of(&[1e-13, 1e-12, 2e-12, 1e-7]);
             let pole = [0.0, 0.0, s.one_of(&[1.0, -1.0])];
-            unit(clamped(close_to(s, pole, size)))
+            of_claimed_length(targets, clamped(close_to(s, pole, size)))
         }
         9 => clamped(sun),
         10 => clamped(sun.map(|x| -x)),
         11 => {
             let size = s.one_of(&[1e-15, 1e-12, 3e-12, 2e-6]);
-            unit(clamped(close_to(s, sun, size)))
+            of_claimed_length(targets, clamped(close_to(s, sun, size)))
         }
         12 => [signed_zero(s), signed_zero(s), signed_zero(s)],
         13 => {
@@ -152,7 +149,7 @@ pub fn plan(s: &mut Seeded, targets: Targets, rows: usize, times: usize) -> Plan
         tolerances: vec![0.0],
         roll_deg: None,
         panels: panel(s).to_vec(),
-        rolls: Vec::new(),
+        rolls: Rolls::default(),
     }
 }
 
@@ -196,7 +193,7 @@ fn odd_tolerance(s: &mut Seeded) -> f64 {
 /// Settings for a sweep of n rolls: without a configured roll mostly a tolerance below 180 / n, as a larger one marks nothing.
 pub fn for_sweep(s: &mut Seeded, plan: &mut Plan, n: u64) {
     let half = 180.0 / n as f64;
-    plan.rolls = even_rolls(n);
+    plan.rolls = Rolls::Even(n);
     plan.roll_deg = s.once_in(5).then(|| roll(s, plan));
     if plan.roll_deg.is_some() {
         return for_roll(s, plan);
@@ -207,7 +204,7 @@ pub fn for_sweep(s: &mut Seeded, plan: &mut Plan, n: u64) {
         2 => half,
         3 => -s.unit(),
         // The distance of some cell to a sample, or to the nearest one: not beyond it.
-        4 => difference(s.below(n) as f64 * (360.0 / n as f64), some_roll(s, plan)),
+        4 => difference(plan.roll(s.below(n)), some_roll(s, plan)),
         5 | 6 => {
             let phase = remainder(some_roll(s, plan), 2.0 * half);
             phase.min(2.0 * half - phase)
@@ -257,6 +254,7 @@ pub fn around_the_turn(s: &mut Seeded, plan: &Plan) -> u64 {
 #[cfg(test)]
 mod tests {
     use super::*;
+    use model::journal::Sweep;
 
     #[test]
     fn unit_targets_have_length_1() {
@@ -266,6 +264,21 @@ mod tests {
             for i in 0..p.rows() {
                 assert!(is_unit(p.target(i)), "plan {k}, target {i}: {:?}", p.target(i));
             }
+        }
+    }
+
+    #[test]
+    fn even_steps_lent_as_a_table_give_the_same_journal() {
+        let mut s = Seeded::new(2);
+        for k in 0..300 {
+            let mut p = plan(&mut s, Targets::Any, 3, 30);
+            let n = samples(&mut s);
+            for_sweep(&mut s, &mut p, n);
+            let even = Sweep::new(p.clone()).expect("accepted");
+            p.rolls = Rolls::Table((0..n).map(|k| p.roll(k)).collect());
+            let table = Sweep::new(p).expect("accepted");
+            let [even, table] = [even, table].map(|sweep| (sweep.header, sweep.lines, sweep.mask, sweep.probes));
+            assert!(even == table, "plan {k}, n {n}");
         }
     }
 }

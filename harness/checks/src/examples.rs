@@ -2,7 +2,7 @@
 //! what it rules out.
 use crate::Calls;
 use model::arithmetic::bits;
-use model::roll::even_rolls;
+use model::plan::Rolls;
 use model::windows::Window;
 use model::{Answer, Optimal, Plan, Roll};
 use Asked::*;
@@ -90,7 +90,7 @@ pub fn plan(suns: &[[f64; 3]], tolerance_deg: f64) -> Plan {
         tolerances: vec![tolerance_deg],
         roll_deg: None,
         panels: vec![0.0, 1.0, 0.0],
-        rolls: even_rolls(1),
+        rolls: Rolls::Even(1),
     }
 }
 

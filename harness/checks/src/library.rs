@@ -17,8 +17,14 @@ const RECORD: wilfnusk::Window =
 
 /// The plan, borrowed as the wrapper takes it: the one place that makes it the C names' arguments. Calls with rolls take their number beside it.
 pub fn lent(p: &Plan) -> wilfnusk::Plan<'_> {
-    let (tolerance_deg, panel_normal) = p.settings();
-    wilfnusk::Plan { targets: &p.targets, suns: &p.suns, observers: &p.observers, tolerance_deg, roll_deg: p.roll_deg, panel_normal }
+    wilfnusk::Plan {
+        targets: &p.targets,
+        suns: &p.suns,
+        observers: &p.observers,
+        tolerance_deg: p.head_tolerance(),
+        roll_deg: p.roll_deg,
+        panel_normal: p.head_panel(),
+    }
 }
 
 /// Lends a list of `lent` patterns, and gives its first `written` places if the call is accepted.
@@ -111,9 +117,9 @@ fn records(lent: usize, call: impl FnOnce(&mut [wilfnusk::Window]) -> Result<u64
 }
 
 /// Work over a range: the used length after it, and the chunk at which it stopped, which a refused call leaves as it was.
-pub fn work_range(plan: &Plan, n: u64, chunks: Range<u64>, journal: &mut [u8], used: u64) -> Answer<(u64, u64)> {
+pub fn work_range(plan: &Plan, chunks: Range<u64>, journal: &mut [u8], used: u64) -> Answer<(u64, u64)> {
     let mut stopped = NUMBER;
-    let answer = lent(plan).work_range_into(n, chunks, journal, used, &mut stopped);
+    let answer = lent(plan).work_range_into(plan.even_n(), chunks, journal, used, &mut stopped);
     assert!(answer.is_ok() || stopped == NUMBER, "{answer:?}, and a number that is not its to write has changed");
     answer.map(|used| (used, stopped)).map_err(|r| r.number())
 }
@@ -124,7 +130,7 @@ fn written(
     lines: u64,
     write: impl FnOnce(&wilfnusk::Plan, &mut [u8], u64) -> Result<u64, Refusal>,
 ) -> Answer<(Vec<u8>, Vec<u8>, u64)> {
-    let (p, n) = (lent(plan), plan.n());
+    let (p, n) = (lent(plan), plan.even_n());
     let room = wilfnusk::HEADER_BYTES + lines * wilfnusk::LINE_BYTES;
     let mut journal = vec![BYTE; room as usize + 2];
     let used = p.begin(n, &mut journal, 0).and_then(|used| write(&p, &mut journal, used)).map_err(|r| r.number())?;
@@ -205,7 +211,7 @@ impl Calls for Library {
     fn swept(&self, plan: &Plan, order: &[u64]) -> Answer<(Vec<u8>, Vec<u8>, u64)> {
         written(plan, order.len() as u64, |p, journal, mut used| {
             for &chunk in order {
-                used = p.work(plan.n(), chunk, journal, used)?;
+                used = p.work(plan.even_n(), chunk, journal, used)?;
             }
             Ok(used)
         })
@@ -214,7 +220,7 @@ impl Calls for Library {
         let lines = ranges.iter().map(|r| r.end - r.start).sum();
         written(plan, lines, |p, journal, mut used| {
             for range in ranges {
-                let (after, stopped) = p.work_range(plan.n(), range.clone(), journal, used)?;
+                let (after, stopped) = p.work_range(plan.even_n(), range.clone(), journal, used)?;
                 assert_eq!((after, stopped), (used + (range.end - range.start) * wilfnusk::LINE_BYTES, range.end));
                 used = after;
             }
@@ -222,7 +228,7 @@ impl Calls for Library {
         })
     }
     fn recover(&self, plan: &Plan, journal: &[u8]) -> Answer<u64> {
-        lent(plan).recover(plan.n(), journal, journal.len() as u64).map_err(|r| r.number())
+        lent(plan).recover(plan.even_n(), journal, journal.len() as u64).map_err(|r| r.number())
     }
     fn violation_windows(&self, mask: &[u8], times: &[i64], severities: &[f64], room: [usize; 6]) -> Answer<Vec<Window>> {
         columns(room, |out| wilfnusk::violation_windows(mask, times, severities, out))

@@ -3,12 +3,12 @@
 use crate::tally::Tally;
 use checks::Calls;
 use model::arithmetic::bits;
-use model::roll::even_rolls;
+use model::plan::Rolls;
 use model::{Plan, Roll};
 use oracle::{patch, Oracle};
 
 fn plan(target: [f64; 3], sun: [f64; 3], tolerance_deg: f64, roll_deg: Option<f64>) -> Plan {
-    let (tolerances, panels, rolls) = (vec![tolerance_deg], vec![0.0, 1.0, 0.0], even_rolls(1));
+    let (tolerances, panels, rolls) = (vec![tolerance_deg], vec![0.0, 1.0, 0.0], Rolls::Even(1));
     Plan { targets: target.to_vec(), suns: sun.to_vec(), observers: vec![0.0; 3], tolerances, roll_deg, panels, rolls }
 }
 
@@ -27,7 +27,7 @@ fn refused(calls: &dyn Calls, t: &mut Tally) {
     let theirs = Oracle::new(&p, &[0]).in_constraint_batch_at_roll(Roll::Sweep(0.0));
     t.known("1: a target of length 2", (ours, theirs), (Err(5), vec![1]));
 
-    let p = Plan { rolls: vec![], ..plan([1.0, 0.0, 0.0], [0.0, 0.0, 1.0], 10.0, None) };
+    let p = Plan { rolls: Rolls::Even(0), ..plan([1.0, 0.0, 0.0], [0.0, 0.0, 1.0], 10.0, None) };
     let ours = calls.swept(&p, &[0]).map(|swept| swept.1);
     t.known("1: a sweep of no rolls", (ours, Oracle::new(&p, &[0]).sweep().0), (Err(3), vec![1]));
 

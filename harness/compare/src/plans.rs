@@ -1,11 +1,32 @@
 //! Random plans: rolls, masks of every call, rows, and the sweep through its journal.
-use crate::tally::Tally;
+use crate::tally::{Shape, Tally};
 use cases::plans::{around_the_turn, for_roll, for_sweep, plan, roll, samples, units, Targets};
 use cases::{rows, Seeded};
 use checks::Calls;
 use model::journal::HEADER;
 use model::{Optimal, Plan, Roll};
 use oracle::Oracle;
+
+/// The original, asked row by row and by one evaluator for all rows, as its users ask it; that one goes through the original's own chunks of
+/// 65,536 cells. While a plan has one tolerance and one panel, both say the same.
+struct Original<'a> {
+    plan: &'a Plan,
+    by_row: Oracle,
+    whole: Oracle,
+}
+
+impl Original<'_> {
+    fn new<'a>(plan: &'a Plan, instants: &[i64]) -> Original<'a> {
+        Original { plan, by_row: Oracle::new(plan, instants), whole: Oracle::whole(plan, instants) }
+    }
+    fn says<T: Shape>(&self, t: &mut Tally, what: &str, answer: impl Fn(&Oracle) -> T) -> T {
+        let (by_row, whole) = (answer(&self.by_row), answer(&self.whole));
+        t.held("original by row, as a whole", [("by row", by_row.shape()), ("whole", whole.shape())], &|| {
+            format!("{what} {:?}", self.plan)
+        });
+        by_row
+    }
+}
 
 /// Kinds of ranges, by how they get the Sun's units.
 pub const RANGES: [&str; 3] = ["range, units in a table", "range, too short for a table", "range, too many times for a table"];
@@ -51,47 +72,49 @@ fn one(calls: &dyn Calls, t: &mut Tally, s: &mut Seeded, (rows, times): (usize, 
     let cells = p.cells();
     let room = cells + s.index(3);
     t.cells += cells as u64;
-    // Mostly an evaluator a row; the large plans and some others as the original's users ask it, by one for all rows.
-    let whole = t.uncounted || s.once_in(4);
-    t.wholes += whole as u64;
-    let oracle = if whole { Oracle::whole } else { Oracle::new };
 
     for_sweep(s, &mut p, n);
     t.plans += 1;
     t.telling += (p.roll_deg.is_some() || (0..rows).any(|i| p.tolerance(i) < 180.0 / n as f64)) as u64;
-    let o = oracle(&p, &instants);
-    let shown = || format!("n {n} {p:?}");
+    let o = Original::new(&p, &instants);
+    let shown = || format!("{p:?}");
     rolls(calls, t, &p, &o, room);
-    let swept = o.sweep();
+    let swept = o.says(t, "sweep", Oracle::sweep);
     sweep(calls, t, s, &p, swept.clone());
     for _ in 0..if times > 8000 { 6 } else { 1 } {
         ranges(calls, t, s, &p, &swept);
     }
-    t.mask("every roll", calls.constrained_at_every_roll(&p, n, room), o.constrained_at_every_roll(n), &shown);
+    let theirs = o.says(t, "every roll", |o| o.constrained_at_every_roll(n));
+    t.mask("every roll", calls.constrained_at_every_roll(&p, n, room), theirs, &shown);
     let j = s.index(times);
     let ours = calls.field_of_regard_violated_batch(&p, j as u64, n, rows);
-    t.mask("field of regard", ours, o.field_of_regard_violated_batch(j, n), &|| format!("time {j} {}", shown()));
+    let theirs = o.says(t, "field of regard", |o| o.field_of_regard_violated_batch(j, n));
+    t.mask("field of regard", ours, theirs, &|| format!("time {j} {}", shown()));
     if s.once_in(8) {
-        t.same("every roll of none", calls.constrained_at_every_roll(&p, 0, room), o.constrained_at_every_roll(0), &shown);
+        let theirs = o.says(t, "every roll of none", |o| o.constrained_at_every_roll(0));
+        t.same("every roll of none", calls.constrained_at_every_roll(&p, 0, room), theirs, &shown);
         let ours = calls.field_of_regard_violated_batch(&p, j as u64, 0, rows);
-        t.same("field of regard of no rolls", ours, o.field_of_regard_violated_batch(j, 0), &shown);
+        let theirs = o.says(t, "field of regard of no rolls", |o| o.field_of_regard_violated_batch(j, 0));
+        t.same("field of regard of no rolls", ours, theirs, &shown);
     }
 
     p.roll_deg = if s.once_in(4) { None } else { Some(roll(s, &p)) };
     for_roll(s, &mut p);
-    let o = oracle(&p, &instants);
+    let o = Original::new(&p, &instants);
     let asked = roll(s, &p);
     let shown = || format!("roll {asked:e} {p:?}");
     for (kind, roll) in [("at a sweep's roll", Roll::Sweep(asked)), ("at a fixed roll", Roll::Fixed(asked))] {
-        t.mask(kind, calls.in_constraint_batch_at_roll(&p, roll, room), o.in_constraint_batch_at_roll(roll), &shown);
+        let theirs = o.says(t, kind, |o| o.in_constraint_batch_at_roll(roll));
+        t.mask(kind, calls.in_constraint_batch_at_roll(&p, roll, room), theirs, &shown);
     }
     let ours = calls.field_of_regard_violated_at_roll(&p, j as u64, asked, rows);
-    t.mask("field of regard at a roll", ours, o.field_of_regard_violated_at_roll(j, asked), &|| format!("time {j} {}", shown()));
-    let ours = calls.in_constraint_batch(&p, room);
+    let theirs = o.says(t, "field of regard at a roll", |o| o.field_of_regard_violated_at_roll(j, asked));
+    t.mask("field of regard at a roll", ours, theirs, &|| format!("time {j} {}", shown()));
+    let (ours, theirs) = (calls.in_constraint_batch(&p, room), o.says(t, "batch", Oracle::in_constraint_batch));
     if p.roll_deg.is_some() {
-        t.mask("batch", ours, o.in_constraint_batch(), &shown);
+        t.mask("batch", ours, theirs, &shown);
     } else {
-        t.same("batch without a roll", ours, o.in_constraint_batch(), &shown);
+        t.same("batch without a roll", ours, theirs, &shown);
     }
     for i in 0..rows.min(4) {
         row(calls, t, &p, &o, s.index(rows), &instants, i);
@@ -99,18 +122,18 @@ fn one(calls: &dyn Calls, t: &mut Tally, s: &mut Seeded, (rows, times): (usize, 
 }
 
 /// Free, and every roll to the bit.
-fn rolls(calls: &dyn Calls, t: &mut Tally, p: &Plan, o: &Oracle, room: usize) {
-    let (named, not_free) = (o.named_values(), o.not_free());
+fn rolls(calls: &dyn Calls, t: &mut Tally, p: &Plan, o: &Original, room: usize) {
+    let (named, not_free) = (o.says(t, "named values", Oracle::named_values), o.says(t, "not Free", Oracle::not_free));
     let shown = || format!("{p:?}");
     if p.cells() < 4000 {
         let times = p.times();
         for c in 0..p.cells() {
             let (i, j) = (c / times, c % times);
             let cell = calls.cell(p.target(i), p.sun(j), p.observer(j), p.panel(i)).map(|optimal| match optimal {
-                Optimal::Free => (0, 0),
-                Optimal::At(roll) => (1, model::arithmetic::bits(roll) as i64),
+                Optimal::Free => (0u8, 0.0),
+                Optimal::At(roll) => (1, roll),
             });
-            let theirs = if not_free[c] == 1 { (1, model::arithmetic::bits(named[c]) as i64) } else { (0, 0) };
+            let theirs = if not_free[c] == 1 { (1, named[c]) } else { (0, 0.0) };
             t.same("cell", cell, theirs, &|| format!("target {i} time {j} {p:?}"));
         }
     }
@@ -183,13 +206,14 @@ fn ranges(calls: &dyn Calls, t: &mut Tally, s: &mut Seeded, p: &Plan, swept: &(V
 }
 
 /// A row of `evaluate`, and the windows of it.
-fn row(calls: &dyn Calls, t: &mut Tally, p: &Plan, o: &Oracle, i: usize, instants: &[i64], at: usize) {
+fn row(calls: &dyn Calls, t: &mut Tally, p: &Plan, o: &Original, i: usize, instants: &[i64], at: usize) {
     let times = p.times();
     if times > 3000 && at > 0 {
         return;
     }
     let shown = || format!("target {i} {p:?}");
-    let (mask, severities) = o.row(i);
+    // Of the row's evaluator alone: it takes a call a sample, and asked twice would take half as long again as all else.
+    let (mask, severities) = o.by_row.row(i);
     let (ours_mask, ours_severities) = match calls.evaluate(p, i as u64, times, times) {
         Ok((m, v)) => (Ok(m), Ok(v)),
         Err(number) => (Err(number), Err(number)),
@@ -206,9 +230,9 @@ fn row(calls: &dyn Calls, t: &mut Tally, p: &Plan, o: &Oracle, i: usize, instant
         if v.iter().all(|x| x.is_finite()) {
             let places = times.div_ceil(2);
             let list = calls.violation_windows(&m, instants, &v, [places; 6]);
-            let whole: Vec<(i64, i64)> = o.row_windows(i).iter().map(|w| (w.0, w.1)).collect();
-            let highest: Vec<f64> = o.row_windows(i).iter().map(|w| w.2).collect();
-            t.same("windows of a row", list.clone().map(|l| l.iter().map(|w| (w.first_time, w.last_time)).collect()), whole, &shown);
+            let (ends, highest) =
+                o.says(t, "windows of a row", |o| -> (Vec<_>, Vec<_>) { o.row_windows(i).iter().map(|w| ((w.0, w.1), w.2)).unzip() });
+            t.same("windows of a row", list.clone().map(|l| l.iter().map(|w| (w.first_time, w.last_time)).collect()), ends, &shown);
             t.same("severities of windows", list.map(|l| l.iter().map(|w| w.severity).collect()), highest, &shown);
         }
     }

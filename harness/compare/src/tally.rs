@@ -20,8 +20,6 @@ pub struct Tally {
     pub cells: u64,
     pub masks: u64,
     pub plans: u64,
-    /// Plans that the Rust answered by one evaluator for all rows.
-    pub wholes: u64,
     /// Plans whose tolerance is below 180 / n or that have a configured roll.
     pub telling: u64,
     /// Marks are not counted: one large plan would outweigh all others.
@@ -51,10 +49,16 @@ impl Shape for u64 {
         *self
     }
 }
-impl Shape for (i64, i64) {
-    type Bits = (i64, i64);
-    fn shape(&self) -> (i64, i64) {
+impl Shape for i64 {
+    type Bits = i64;
+    fn shape(&self) -> i64 {
         *self
+    }
+}
+impl<A: Shape, B: Shape> Shape for (A, B) {
+    type Bits = (A::Bits, B::Bits);
+    fn shape(&self) -> Self::Bits {
+        (self.0.shape(), self.1.shape())
     }
 }
 impl Shape for Window {
@@ -73,15 +77,18 @@ impl<T: Shape> Shape for Vec<T> {
 impl Tally {
     /// The library's answer, which must be accepted, and the Rust's.
     pub fn same<T: Shape>(&mut self, kind: &'static str, ours: Answer<T>, theirs: T, input: &dyn Fn() -> String) -> bool {
+        self.held(kind, [("ours", ours.map(|x| x.shape())), ("Rust", Ok(theirs.shape()))], input)
+    }
+    /// Two answers, each with who gave it.
+    pub fn held<B: PartialEq + Debug>(&mut self, kind: &'static str, [a, b]: [(&str, B); 2], input: &dyn Fn() -> String) -> bool {
         let k = self.kinds.entry(kind).or_default();
         k.answers += 1;
-        let (ours, theirs) = (ours.map(|x| x.shape()), Ok(theirs.shape()));
-        if ours == theirs {
+        if a.1 == b.1 {
             return true;
         }
         k.differ += 1;
         if k.differ <= 3 {
-            println!("DIFFERS {kind}: {}\n  ours {ours:x?}\n  Rust {theirs:x?}", input());
+            println!("DIFFERS {kind}: {}\n  {} {:x?}\n  {} {:x?}", input(), a.0, a.1, b.0, b.1);
         }
         false
     }
@@ -123,9 +130,8 @@ impl Tally {
             }
         }
         println!(
-            "{} cells of {} plans ({} with a tolerance below 180 / n or a configured roll; {} answered by one evaluator for all rows, the others by \
-             one a row), {} masks of rows",
-            self.cells, self.plans, self.telling, self.wholes, self.masks
+            "{} cells of {} plans ({} with a tolerance below 180 / n or a configured roll), {} masks of rows",
+            self.cells, self.plans, self.telling, self.masks
         );
         if self.cells < 2_000_000 || self.masks < 1_000_000 {
             fail("fewer than 2,000,000 cells or 1,000,000 masks".to_string());

@@ -1,6 +1,6 @@
 //! Section 4's bytes: header, lines, when a journal is right, and the calls on any bytes.
 use crate::arithmetic::bits;
-use crate::plan::Rolls;
+use crate::plan::Third;
 use crate::{first, Answer, Plan};
 
 pub const HEADER: usize = 107;
@@ -45,15 +45,14 @@ fn line(bytes: &[u8]) -> Option<Line> {
 
 impl Sweep {
     pub fn new(plan: Plan) -> Answer<Sweep> {
-        plan.refusal(Rolls::Sampled(plan.n()), false)?;
+        plan.refusal(Third::Sweep, false)?;
         let cells = plan.sweep();
-        let (tolerance, panel) = plan.settings();
-        let mut header = format!("{:08x}{:08x}{:08x}{:016x}", plan.rows(), plan.times(), plan.n(), bits(tolerance));
+        let mut header = format!("{:08x}{:08x}{:08x}{:016x}", plan.rows(), plan.times(), plan.n(), bits(plan.head_tolerance()));
         header += &match plan.roll_deg {
             Some(roll) => format!("01{:016x}", bits(roll)),
             None => format!("00{:016x}", 0),
         };
-        for x in panel {
+        for x in plan.head_panel() {
             header += &format!("{:016x}", bits(x));
         }
         header.push('\n');

@@ -1,7 +1,9 @@
 //! The plan, its cells, and refusals 1 to 6.
 use crate::{first, Answer};
+use std::fmt;
 
-/// Its lists are asked by row through `target`, `tolerance` and `panel`, so that what a row has of them is said in one place.
+/// Its lists are asked by row through `target`, `tolerance` and `panel`, its rolls by sample through `roll`, so that what a row or a sample has of
+/// them is said in one place.
 #[derive(Clone, Debug, Default)]
 pub struct Plan {
     /// Three numbers a direction or position.
@@ -14,18 +16,41 @@ pub struct Plan {
     pub roll_deg: Option<f64>,
     /// Three numbers a panel normal: one panel, for every row.
     pub panels: Vec<f64>,
-    /// What a sweep tries, in this order: n even steps.
-    pub rolls: Vec<f64>,
+    pub rolls: Rolls,
 }
 
-/// Where refusal 3 is asked.
-#[derive(Clone, Copy)]
+/// What a sweep tries, in this order.
+#[derive(Clone)]
 pub enum Rolls {
-    /// The call takes no n.
-    NotTaken,
-    /// 1 to 3,600.
-    Sampled(u64),
-    /// 0 too.
+    /// n even steps from 0; any n, also one that is refused.
+    Even(u64),
+    Table(Vec<f64>),
+}
+
+impl Default for Rolls {
+    fn default() -> Rolls {
+        Rolls::Even(0)
+    }
+}
+
+/// How many there are: a message has no use for 3,600 rolls.
+impl fmt::Debug for Rolls {
+    fn fmt(&self, f: &mut fmt::Formatter) -> fmt::Result {
+        match self {
+            Rolls::Even(n) => write!(f, "{n} even"),
+            Rolls::Table(table) => write!(f, "a table of {}", table.len()),
+        }
+    }
+}
+
+/// What a call asks in the place of refusal 3.
+#[derive(Clone, Copy)]
+pub enum Third {
+    /// It takes no rolls.
+    Nothing,
+    /// The plan has 1 to 3,600 of them.
+    Sweep,
+    /// It takes n even steps beside the plan; 0 too.
     Every(u64),
 }
 
@@ -45,6 +70,11 @@ pub fn bad_direction(v: &[f64]) -> bool {
     v.iter().any(|&x| !(-1.0..=1.0).contains(&x))
 }
 
+/// Length 1 up to 1e-9 of its square, summed left to right.
+pub fn is_unit(v: [f64; 3]) -> bool {
+    (v[0] * v[0] + v[1] * v[1] + v[2] * v[2] - 1.0).abs() <= 1e-9
+}
+
 impl Plan {
     pub fn rows(&self) -> usize {
         self.targets.len() / 3
@@ -57,7 +87,24 @@ impl Plan {
     }
     /// How many rolls a sweep tries.
     pub fn n(&self) -> u64 {
-        self.rolls.len() as u64
+        match &self.rolls {
+            Rolls::Even(n) => *n,
+            Rolls::Table(table) => table.len() as u64,
+        }
+    }
+    /// The roll of sample k.
+    pub fn roll(&self, k: u64) -> f64 {
+        match &self.rolls {
+            Rolls::Even(n) => k as f64 * (360.0 / *n as f64),
+            Rolls::Table(table) => table[k as usize],
+        }
+    }
+    /// n, for what takes no table: a C name, the original, a file.
+    pub fn even_n(&self) -> u64 {
+        match self.rolls {
+            Rolls::Even(n) => n,
+            Rolls::Table(_) => panic!("even steps"),
+        }
     }
     pub fn target(&self, row: usize) -> [f64; 3] {
         triple(&self.targets, row)
@@ -68,10 +115,15 @@ impl Plan {
     pub fn panel(&self, _row: usize) -> [f64; 3] {
         triple(&self.panels, 0)
     }
-    /// The one tolerance and the one panel, for what has room for no more: a header, a C name, a file. A plan without rows has them too.
-    pub fn settings(&self) -> (f64, [f64; 3]) {
-        assert!(self.tolerances.len() == 1 && self.panels.len() == 3, "one tolerance and one panel");
-        (self.tolerances[0], triple(&self.panels, 0))
+    /// The one tolerance, for what has room for no more: a header, a C name, a file. A plan without rows has it too.
+    pub fn head_tolerance(&self) -> f64 {
+        assert_eq!(self.tolerances.len(), 1, "one tolerance");
+        self.tolerances[0]
+    }
+    /// The one panel, likewise.
+    pub fn head_panel(&self) -> [f64; 3] {
+        assert_eq!(self.panels.len(), 3, "one panel");
+        triple(&self.panels, 0)
     }
     pub fn sun(&self, time: usize) -> [f64; 3] {
         triple(&self.suns, time)
@@ -81,12 +133,12 @@ impl Plan {
     }
 
     /// *Plan*, before every call with positions. `beyond`: a used length is beyond its buffer.
-    pub fn refusal(&self, rolls: Rolls, beyond: bool) -> Answer<()> {
+    pub fn refusal(&self, third: Third, beyond: bool) -> Answer<()> {
         let lengths = [&self.targets, &self.suns, &self.observers];
-        let bad_n = match rolls {
-            Rolls::NotTaken => false,
-            Rolls::Sampled(n) => !(1..=3600).contains(&n),
-            Rolls::Every(n) => n > 3600,
+        let bad_n = match third {
+            Third::Nothing => false,
+            Third::Sweep => !(1..=3600).contains(&self.n()),
+            Third::Every(n) => n > 3600,
         };
         first(&[
             (lengths.iter().any(|l| l.len() % 3 != 0) || self.suns.len() != self.observers.len() || beyond, 1),

@@ -1,6 +1,6 @@
 //! Sections 2, 3 and 6: the roll of one cell, masks, the sweep, and the other answers.
 use crate::arithmetic::{arctangent, degrees, remainder};
-use crate::plan::{bad_direction, bad_position, Rolls};
+use crate::plan::{bad_direction, bad_position, Third};
 use crate::{first, Answer, Plan};
 
 const NEAR_ZERO: f64 = 1e-12;
@@ -71,11 +71,6 @@ pub fn difference(a: f64, b: f64) -> f64 {
     180.0 - (remainder(a - b, 360.0) - 180.0).abs()
 }
 
-/// The samples of a sweep: n even steps.
-pub fn even_rolls(n: u64) -> Vec<f64> {
-    (0..n).map(|k| k as f64 * (360.0 / n as f64)).collect()
-}
-
 /// *One cell*.
 pub fn cell(target: Vector, sun: Vector, observer: Vector, panel: Vector) -> Answer<Optimal> {
     first(&[(bad_position(&sun) || bad_position(&observer), 4), (bad_direction(&target), 5), (bad_position(&panel), 6)])?;
@@ -123,32 +118,32 @@ impl Plan {
         let rest = step - phase;
         (if phase < rest { phase } else { rest }) > self.tolerance(i)
     }
-    fn mask(&self, rolls: Rolls, lent: usize, mark: impl Fn(usize, usize) -> bool) -> Answer<Vec<u8>> {
-        self.refusal(rolls, false)?;
+    fn mask(&self, third: Third, lent: usize, mark: impl Fn(usize, usize) -> bool) -> Answer<Vec<u8>> {
+        self.refusal(third, false)?;
         first(&[room(self.cells(), lent)])?;
         let times = self.times();
         Ok((0..self.cells()).map(|c| mark(c / times, c % times) as u8).collect())
     }
 
     pub fn named_values(&self, lent: usize) -> Answer<Vec<f64>> {
-        self.refusal(Rolls::NotTaken, false)?;
+        self.refusal(Third::Nothing, false)?;
         first(&[room(self.cells(), lent)])?;
         let times = self.times();
         let value = |(i, j)| optimal_roll(self.target(i), self.sun_unit(j), self.panel(i));
         Ok((0..self.cells()).map(|c| value((c / times, c % times))).collect())
     }
     pub fn in_constraint_batch(&self, lent: usize) -> Answer<Vec<u8>> {
-        self.mask(Rolls::NotTaken, lent, |i, j| self.roll_deg.map_or(false, |r| self.violated(i, j, r)))
+        self.mask(Third::Nothing, lent, |i, j| self.roll_deg.map_or(false, |r| self.violated(i, j, r)))
     }
     pub fn in_constraint_batch_at_roll(&self, roll: Roll, lent: usize) -> Answer<Vec<u8>> {
-        self.mask(Rolls::NotTaken, lent, |i, j| self.violated(i, j, self.in_force(roll)))
+        self.mask(Third::Nothing, lent, |i, j| self.violated(i, j, self.in_force(roll)))
     }
     pub fn constrained_at_every_roll(&self, n: u64, lent: usize) -> Answer<Vec<u8>> {
-        self.mask(Rolls::Every(n), lent, |i, j| self.beyond_every_step(i, j, n))
+        self.mask(Third::Every(n), lent, |i, j| self.beyond_every_step(i, j, n))
     }
     /// *One row*: mask and severities.
     pub fn evaluate(&self, target: u64, masks: usize, severities: usize) -> Answer<(Vec<u8>, Vec<f64>)> {
-        self.refusal(Rolls::NotTaken, false)?;
+        self.refusal(Third::Nothing, false)?;
         first(&[(target >= self.rows() as u64, 9), room(self.times(), masks), room(self.times(), severities)])?;
         let Some(roll) = self.roll_deg else { return Ok((vec![0; self.times()], vec![0.0; self.times()])) };
         let (row, tolerance) = (target as usize, self.tolerance(target as usize));
@@ -158,16 +153,16 @@ impl Plan {
         };
         Ok((0..self.times()).map(cell).unzip())
     }
-    fn regard(&self, rolls: Rolls, time: u64, lent: usize, mark: impl Fn(usize) -> bool) -> Answer<Vec<u8>> {
-        self.refusal(rolls, false)?;
+    fn regard(&self, third: Third, time: u64, lent: usize, mark: impl Fn(usize) -> bool) -> Answer<Vec<u8>> {
+        self.refusal(third, false)?;
         first(&[(time >= self.times() as u64, 9), room(self.rows(), lent)])?;
         Ok((0..self.rows()).map(|i| mark(i) as u8).collect())
     }
     pub fn field_of_regard_violated_batch(&self, time: u64, n: u64, lent: usize) -> Answer<Vec<u8>> {
-        self.regard(Rolls::Every(n), time, lent, |i| self.beyond_every_step(i, time as usize, n))
+        self.regard(Third::Every(n), time, lent, |i| self.beyond_every_step(i, time as usize, n))
     }
     pub fn field_of_regard_violated_at_roll(&self, time: u64, roll: f64, lent: usize) -> Answer<Vec<u8>> {
-        self.regard(Rolls::NotTaken, time, lent, |i| self.violated(i, time as usize, self.in_force(Roll::Sweep(roll))))
+        self.regard(Third::Nothing, time, lent, |i| self.violated(i, time as usize, self.in_force(Roll::Sweep(roll))))
     }
 
     /// Section 3: each cell's mark, and how many samples are tried for it.
@@ -176,15 +171,43 @@ impl Plan {
         let cell = |c: usize| {
             let (i, j) = (c / times, c % times);
             let (optimal, tolerance) = (self.optimal(i, j), self.tolerance(i));
-            let clear = |&sample: &f64| {
-                let roll = self.in_force(Roll::Sweep(sample));
+            let clear = |&k: &u64| {
+                let roll = self.in_force(Roll::Sweep(self.roll(k)));
                 !matches!(optimal, Optimal::At(o) if difference(roll, o) > tolerance)
             };
-            match self.rolls.iter().position(clear) {
-                Some(k) => (false, k as u64 + 1),
+            match (0..self.n()).find(clear) {
+                Some(k) => (false, k + 1),
                 None => (true, self.n()),
             }
         };
         (0..self.cells()).map(cell).collect()
+    }
+}
+
+#[cfg(test)]
+mod tests {
+    use super::*;
+    use crate::plan::Rolls;
+
+    /// The Sun is in the north, so the optimal roll is 90.
+    #[test]
+    fn a_table_is_tried_in_its_order() {
+        let mut p = Plan {
+            targets: vec![1.0, 0.0, 0.0],
+            suns: vec![0.0, 0.0, 1.0],
+            observers: vec![0.0; 3],
+            tolerances: vec![10.0],
+            panels: vec![0.0, 1.0, 0.0],
+            ..Plan::default()
+        };
+        for (table, swept) in [(&[10.0, 80.0, 90.0][..], (false, 2)), (&[101.0, 10.0, 270.0], (true, 3)), (&[], (true, 0))] {
+            p.rolls = Rolls::Table(table.to_vec());
+            assert_eq!(p.sweep(), [swept], "{table:?}");
+            assert_eq!(format!("{:?}", p.rolls), format!("a table of {}", table.len()));
+        }
+        // A configured roll stands for each.
+        p.roll_deg = Some(0.0);
+        p.rolls = Rolls::Table(vec![10.0, 90.0]);
+        assert_eq!(p.sweep(), [(true, 2)]);
     }
 }

@@ -141,7 +141,7 @@ pub struct Whole {
 impl Whole {
     /// All rows of a plan that has one tolerance and one panel.
     pub fn new(plan: &Plan, times: &[i64]) -> Whole {
-        Whole::of(plan, 0..plan.rows(), plan.settings(), ephemeris(plan, times))
+        Whole::of(plan, 0..plan.rows(), (plan.head_tolerance(), plan.head_panel()), ephemeris(plan, times))
     }
     fn of(plan: &Plan, rows: Range<usize>, (tolerance_deg, panel_normal): (f64, [f64; 3]), ephemeris: Rc<Ephemeris>) -> Whole {
         let config = SolarRollConfig { tolerance_deg, roll_deg: plan.roll_deg, panel_normal };
@@ -153,7 +153,7 @@ impl Whole {
             decs: vec![0.0; rows.len()],
             vectors: rows.map(|i| plan.target(i)).collect(),
             times: plan.times(),
-            n: plan.n(),
+            n: plan.even_n(),
         }
     }
     fn targets(&self) -> Array2<f64> {

@@ -1,6 +1,6 @@
 //! Plans to sweep: their files for the program, and what document 01 says of them, worked out by the model.
 use cases::{plans::direction, Seeded};
-use model::{journal::Sweep, roll::even_rolls, Plan};
+use model::{journal::Sweep, plan::Rolls, Plan};
 use std::{fmt::Write, fs, path::Path};
 
 pub struct Case {
@@ -26,14 +26,14 @@ impl Case {
             tolerances: vec![10.0],
             roll_deg: None,
             panels: vec![0.0, 1.0, 0.0],
-            rolls: even_rolls(1),
+            rolls: Rolls::Even(1),
         };
         Case::new("document 01's example", plan)
     }
     /// Random directions, and Suns that turn slowly, so that marks come in runs.
     pub fn drawn(name: &'static str, seed: u64, targets: usize, times: usize, n: u64, tolerance_deg: f64, roll_deg: Option<f64>) -> Case {
         let mut seeded = Seeded::new(seed);
-        let (tolerances, panels, rolls) = (vec![tolerance_deg], vec![0.0, 1.0, 0.25], even_rolls(n));
+        let (tolerances, panels, rolls) = (vec![tolerance_deg], vec![0.0, 1.0, 0.25], Rolls::Even(n));
         let mut plan = Plan { tolerances, roll_deg, panels, rolls, ..Plan::default() };
         for _ in 0..targets {
             plan.targets.extend(direction(&mut seeded));
@@ -52,8 +52,8 @@ impl Case {
     pub fn write(&self, folder: &Path) {
         let plan = &self.sweep.plan;
         let mut toml = String::from("targets = \"targets.csv\"\nephemeris = \"ephemeris.csv\"\n");
-        let (tolerance, panel) = plan.settings();
-        let _ = writeln!(toml, "rolls = {}\ntolerance = {}\npanel = {:?}", plan.n(), toml_number(tolerance), panel);
+        let (tolerance, panel) = (toml_number(plan.head_tolerance()), plan.head_panel());
+        let _ = writeln!(toml, "rolls = {}\ntolerance = {}\npanel = {:?}", plan.even_n(), tolerance, panel);
         if let Some(roll) = plan.roll_deg {
             let _ = writeln!(toml, "configured_roll = {}", toml_number(roll));
         }

@@ -22,19 +22,19 @@ struct Library;
 
 impl Machine for Library {
     fn begin(&self, sweep: &Sweep, journal: &mut [u8], used: u64) -> Answer<u64> {
-        lent(&sweep.plan).begin(sweep.plan.n(), journal, used).map_err(|r| r.number())
+        lent(&sweep.plan).begin(sweep.plan.even_n(), journal, used).map_err(|r| r.number())
     }
     fn work(&self, sweep: &Sweep, chunk: u64, journal: &mut [u8], used: u64) -> Answer<u64> {
-        lent(&sweep.plan).work(sweep.plan.n(), chunk, journal, used).map_err(|r| r.number())
+        lent(&sweep.plan).work(sweep.plan.even_n(), chunk, journal, used).map_err(|r| r.number())
     }
     fn work_range(&self, sweep: &Sweep, from: u64, to: u64, journal: &mut [u8], used: u64) -> Answer<(u64, u64)> {
-        lent(&sweep.plan).work_range(sweep.plan.n(), from..to, journal, used).map_err(|r| r.number())
+        lent(&sweep.plan).work_range(sweep.plan.even_n(), from..to, journal, used).map_err(|r| r.number())
     }
     fn recover(&self, sweep: &Sweep, journal: &[u8], used: u64) -> Answer<u64> {
-        lent(&sweep.plan).recover(sweep.plan.n(), journal, used).map_err(|r| r.number())
+        lent(&sweep.plan).recover(sweep.plan.even_n(), journal, used).map_err(|r| r.number())
     }
     fn collect(&self, sweep: &Sweep, journal: &[u8], used: u64, mask: &mut [u8]) -> Answer<u64> {
-        lent(&sweep.plan).collect(sweep.plan.n(), journal, used, mask).map_err(|r| r.number())
+        lent(&sweep.plan).collect(sweep.plan.even_n(), journal, used, mask).map_err(|r| r.number())
     }
 }
 

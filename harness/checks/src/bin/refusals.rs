@@ -4,7 +4,7 @@
 use cases::{plans, rows, Seeded};
 use checks::{lent, work_range, Calls, Library, Model};
 use model::journal::{Sweep, HEADER, LINE};
-use model::plan::Rolls;
+use model::plan::{Rolls, Third};
 use model::{arithmetic::bits, Answer, Optimal, Plan, Roll};
 use std::collections::BTreeMap;
 use std::process::exit;
@@ -62,12 +62,13 @@ fn spoil(s: &mut Seeded, list: &mut [f64], with: &[f64]) {
     }
 }
 
-/// A small plan with any of the faults that refusals 1 to 6 name, and the number of rolls that is said for it: a bad one is never the plan's.
-fn faulty(s: &mut Seeded) -> (Plan, u64) {
+/// A small plan with any of the faults that refusals 1 to 6 name.
+fn faulty(s: &mut Seeded) -> Plan {
     let (rows, times) = (s.index(6), s.index(9));
     let mut p = plans::plan(s, plans::Targets::Any, rows, times);
     let n = if s.once_in(8) { s.one_of(&BAD_N) } else { s.one_of(&[1, 1, 2, 3, 7, 3600]) };
     plans::for_sweep(s, &mut p, n.clamp(1, 3600));
+    p.rolls = Rolls::Even(n);
     if s.once_in(12) {
         p.targets.extend([0.5].repeat(s.within(1, 2) as usize));
     }
@@ -101,7 +102,7 @@ fn faulty(s: &mut Seeded) -> (Plan, u64) {
     if s.once_in(8) {
         spoil(s, &mut p.panels, &BAD_POSITION);
     }
-    (p, n)
+    p
 }
 
 /// About as much room as is needed: sometimes too little, sometimes none.
@@ -128,8 +129,9 @@ fn floats(answer: Answer<Vec<f64>>) -> Answer<Vec<u64>> {
 }
 
 fn of_plans(s: &mut Seeded, t: &mut Tally) {
-    let (p, n) = faulty(s);
-    let shown = || if p.cells() > 1000 { format!("{} rows {} times", p.rows(), p.times()) } else { format!("{p:?} n {n}") };
+    let p = faulty(s);
+    let n = p.even_n();
+    let shown = || if p.cells() > 1000 { format!("{} rows {} times", p.rows(), p.times()) } else { format!("{p:?}") };
     let (cells, roll) = (room(s, p.cells()), plans::roll(s, &p));
     t.same("named values", floats(Library.named_values(&p, cells)), floats(Model.named_values(&p, cells)), &shown);
     t.same("batch", Library.in_constraint_batch(&p, cells), Model.in_constraint_batch(&p, cells), &shown);
@@ -149,12 +151,12 @@ fn of_plans(s: &mut Seeded, t: &mut Tally) {
     let regard = |c: &dyn Calls| c.field_of_regard_violated_at_roll(&p, time, roll, marks);
     t.same("field of regard at a roll", regard(&Library), regard(&Model), &shown);
 
-    journal(s, t, &p, n, &shown);
+    journal(s, t, &p, &shown);
 }
 
 /// The calls of a journal, each on a journal as far along as chance has it.
-fn journal(s: &mut Seeded, t: &mut Tally, p: &Plan, n: u64, shown: &dyn Fn() -> String) {
-    let sweep = if p.cells() < 1000 && n == p.n() { Sweep::new(p.clone()).ok() } else { None };
+fn journal(s: &mut Seeded, t: &mut Tally, p: &Plan, shown: &dyn Fn() -> String) {
+    let sweep = if p.cells() < 1000 { Sweep::new(p.clone()).ok() } else { None };
     let mut file = Vec::new();
     if let Some(sweep) = &sweep {
         if !s.once_in(4) {
@@ -181,10 +183,10 @@ fn journal(s: &mut Seeded, t: &mut Tally, p: &Plan, n: u64, shown: &dyn Fn() -> 
     let beyond = used > file.len() as u64;
     let mask = room(s, p.cells());
     let number = |r: wilfnusk::Refusal| r.number();
-    let refusal = p.refusal(Rolls::Sampled(n), beyond);
+    let refusal = p.refusal(Third::Sweep, beyond);
     // What the model says, once the plan is accepted; a plan of many cells is refused here by something else.
     let Some(theirs) = refusal.err().map(Err).or_else(|| sweep.as_ref().map(Ok)) else { return };
-    let l = lent(p);
+    let (l, n) = (lent(p), p.even_n());
 
     let mut buffer = file.clone();
     let ours = l.begin(n, &mut buffer, used).map_err(number);
@@ -208,7 +210,7 @@ fn journal(s: &mut Seeded, t: &mut Tally, p: &Plan, n: u64, shown: &dyn Fn() -> 
     t.same("work", ours.map(|u| (u, buffer)), expected, shown);
     let to = s.one_of(&[chunk.wrapping_sub(1), chunk, chunk.saturating_add(1), chunk.saturating_add(2), u64::MAX]);
     let mut buffer = file.clone();
-    let ours = work_range(p, n, chunk..to, &mut buffer, used);
+    let ours = work_range(p, chunk..to, &mut buffer, used);
     assert!(ours.is_ok() || buffer == file, "work over a range refused and wrote");
     let expected = theirs.and_then(|sweep| {
         let (lines, stopped) = sweep.work_range(chunk, to, &file, used)?;

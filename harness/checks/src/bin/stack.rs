@@ -1,8 +1,8 @@
 //! How much stack each C name takes at its largest inputs, and that include/wilfnusk.h's promise holds: a thread with that much runs them all.
 //! `stack [KIB]` takes KIB for the promise: with too little, the thread overflows its stack, which ends the program.
-use cases::plans::{direction, is_unit};
+use cases::plans::direction;
 use checks::{lent, Lists};
-use model::roll::even_rolls;
+use model::plan::{is_unit, Rolls};
 use std::hint::black_box;
 use std::process::exit;
 use std::thread;
@@ -94,9 +94,9 @@ fn each(i: &mut Inputs, run: &mut dyn FnMut(&'static str, &mut dyn FnMut())) {
             tolerances: vec![170.0],
             roll_deg,
             panels: vec![0.1, 0.9, -0.3],
-            rolls: even_rolls(ROLLS),
+            rolls: Rolls::Even(ROLLS),
         };
-        of_plan(lent(&plan), plan.n(), plan.cells().div_ceil(64) as u64, &mut i.values, &mut i.mask, &mut i.journal, run);
+        of_plan(lent(&plan), plan.even_n(), plan.cells().div_ceil(64) as u64, &mut i.values, &mut i.mask, &mut i.journal, run);
     }
     // The most windows, and one as long as the row.
     for step in [2, SAMPLES] {

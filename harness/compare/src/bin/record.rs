@@ -7,9 +7,10 @@
 //! A line is words of hexadecimal digits, the first its kind. A line of kind 0 gives a plan or a row of samples. Each other line asks about
 //! what was given last: two words of what is asked (0 where nothing is), then the Rust's answer up to the line's end. A float is its bits (every
 //! NaN 7ff8000000000000), a time its 64 bits, a mask a word a sample.
-use cases::plans::{for_roll, for_sweep, is_unit, plan, roll, samples, Targets};
+use cases::plans::{for_roll, for_sweep, plan, roll, samples, Targets};
 use cases::{rows, Seeded};
 use model::arithmetic::bits;
+use model::plan::is_unit;
 use model::windows::Window;
 use model::{Plan, Roll};
 use oracle::Oracle;
@@ -79,9 +80,8 @@ fn small(s: &mut Seeded, targets: Targets) -> Plan {
 fn given(f: &mut File, p: &Plan) -> Oracle {
     let (t, s) = (p.targets.len() as u64, p.suns.len() as u64);
     let roll = [p.roll_deg.is_some() as u64, bits(p.roll_deg.unwrap_or(0.0))];
-    let (tolerance, panel) = p.settings();
-    let lists = floats(&[&panel[..], &p.targets, &p.suns, &p.observers].concat());
-    let head = [t, s, 11 + t, 11 + t + s, bits(tolerance)];
+    let lists = floats(&[&p.head_panel()[..], &p.targets, &p.suns, &p.observers].concat());
+    let head = [t, s, 11 + t, 11 + t + s, bits(p.head_tolerance())];
     f.given(&[&head, &roll, &lists]);
     Oracle::new(p, &(0..p.times() as i64).collect::<Vec<_>>())
 }
@@ -138,6 +138,7 @@ fn many(seed: u64, count: u64, targets: Targets, record: impl Fn(&mut File, &mut
 }
 
 fn section_2() -> File {
+    // Seed 12 makes 65,735 bytes, for which the program has no room.
     let mut f = many(42, 30, Targets::Unit, rolls);
     let mut s = Seeded::new(12);
     let none = Plan::default();
