@@ -54,6 +54,8 @@ fn cells() {
 
 // Two targets at two times: rolls 0 and 90, then a free cell and 90.
 fn masks() {
+    let tolerances = [10.0];
+    let panels = Y;
     let targets = [1.0, 0.0, 0.0, 0.0, 1.0, 0.0];
     let suns = [0.0, 1.0, 0.0, 0.0, 0.0, 1.0];
     let observers = [0.0, 0.0, 0.0, 0.0, 0.0, 0.0];
@@ -63,9 +65,9 @@ fn masks() {
         &targets,
         &suns,
         &observers,
-        &[10.0],
+        &tolerances,
         ConfiguredRoll::None,
-        &Y,
+        &panels,
         &mut mask,
     ));
     bytes(&mask);
@@ -74,9 +76,9 @@ fn masks() {
         &targets,
         &suns,
         &observers,
-        &[10.0],
+        &tolerances,
         ConfiguredRoll::Some(0.0),
-        &Y,
+        &panels,
         &mut mask,
     ));
     bytes(&mask);
@@ -85,9 +87,9 @@ fn masks() {
         &targets,
         &suns,
         &observers,
-        &[10.0],
+        &tolerances,
         ConfiguredRoll::Some(0.0),
-        &Y,
+        &panels,
         EvaluationRoll::Sweep(90.0),
         &mut mask,
     ));
@@ -97,9 +99,9 @@ fn masks() {
         &targets,
         &suns,
         &observers,
-        &[10.0],
+        &tolerances,
         ConfiguredRoll::Some(0.0),
-        &Y,
+        &panels,
         EvaluationRoll::Fixed(90.0),
         &mut mask,
     ));
@@ -111,7 +113,7 @@ fn masks() {
         &observers,
         &[90.0],
         ConfiguredRoll::None,
-        &Y,
+        &panels,
         EvaluationRoll::Sweep(0.0),
         &mut mask,
     ));
@@ -123,7 +125,7 @@ fn masks() {
         &observers,
         &[nan()],
         ConfiguredRoll::None,
-        &Y,
+        &panels,
         EvaluationRoll::Sweep(0.0),
         &mut mask,
     ));
@@ -135,7 +137,7 @@ fn masks() {
         &observers,
         &[-1.0],
         ConfiguredRoll::None,
-        &Y,
+        &panels,
         EvaluationRoll::Sweep(0.0),
         &mut mask,
     ));
@@ -145,9 +147,9 @@ fn masks() {
         &targets,
         &suns,
         &observers,
-        &[10.0],
+        &tolerances,
         ConfiguredRoll::None,
-        &Y,
+        &panels,
         1,
         &mut mask,
     ));
@@ -157,9 +159,9 @@ fn masks() {
         &targets,
         &suns,
         &observers,
-        &[10.0],
+        &tolerances,
         ConfiguredRoll::None,
-        &Y,
+        &panels,
         0,
         &mut mask,
     ));
@@ -169,9 +171,9 @@ fn masks() {
         &targets,
         &suns,
         &observers,
-        &[10.0],
+        &tolerances,
         ConfiguredRoll::None,
-        &Y,
+        &panels,
         1,
         0.0,
         &mut mask,
@@ -180,6 +182,8 @@ fn masks() {
 }
 
 fn rows() {
+    let tolerances = [10.0];
+    let panels = Y;
     let targets = [1.0, 0.0, 0.0, 0.0, 1.0, 0.0];
     let suns = [0.0, 1.0, 0.0, 0.0, 0.0, 1.0];
     let observers = [0.0, 0.0, 0.0, 0.0, 0.0, 0.0];
@@ -190,9 +194,9 @@ fn rows() {
         &targets,
         &suns,
         &observers,
-        &[10.0],
+        &tolerances,
         ConfiguredRoll::Some(0.0),
-        &Y,
+        &panels,
         0,
         &mut mask,
         &mut severities,
@@ -206,7 +210,7 @@ fn rows() {
         &observers,
         &[-infinity()],
         ConfiguredRoll::Some(0.0),
-        &Y,
+        &panels,
         0,
         &mut mask,
         &mut severities,
@@ -218,9 +222,9 @@ fn rows() {
         &targets,
         &suns,
         &observers,
-        &[10.0],
+        &tolerances,
         ConfiguredRoll::None,
-        &Y,
+        &panels,
         0,
         &mut mask,
         &mut severities,
@@ -233,15 +237,17 @@ fn rows() {
         &targets,
         &suns,
         &observers,
-        &[10.0],
+        &tolerances,
         ConfiguredRoll::None,
-        &Y,
+        &panels,
         &mut values,
     ));
     bits(&values);
 }
 
 fn refusals() {
+    let tolerances = [10.0];
+    let panels = Y;
     let targets = [2.0, 0.0, 0.0];
     let sound = [1.0, 0.0, 0.0];
     let suns = [0.0, 1.0, 0.0, 0.0, 0.0, nan()];
@@ -255,9 +261,9 @@ fn refusals() {
         &targets[..2],
         &suns,
         &observers,
-        &[10.0],
+        &tolerances,
         ConfiguredRoll::None,
-        &Y,
+        &panels,
         &mut mask,
     ));
     asked(b"fewer observers than Suns");
@@ -265,9 +271,9 @@ fn refusals() {
         &targets,
         &suns,
         &observers[..3],
-        &[10.0],
+        &tolerances,
         ConfiguredRoll::None,
-        &Y,
+        &panels,
         &mut mask,
     ));
     asked(b"n = 3601 with a configured roll");
@@ -275,9 +281,9 @@ fn refusals() {
         &targets,
         &suns,
         &observers,
-        &[10.0],
+        &tolerances,
         ConfiguredRoll::Some(0.0),
-        &Y,
+        &panels,
         3601,
         &mut mask,
     ));
@@ -286,9 +292,9 @@ fn refusals() {
         &targets,
         &suns,
         &observers,
-        &[10.0],
+        &tolerances,
         ConfiguredRoll::None,
-        &Y,
+        &panels,
         0,
         1099511627776,
         &mut mask,
@@ -298,9 +304,9 @@ fn refusals() {
         &targets,
         &suns,
         &observers,
-        &[10.0],
+        &tolerances,
         ConfiguredRoll::None,
-        &Y,
+        &panels,
         &mut mask,
     ));
     asked(b"target 2");
@@ -308,9 +314,9 @@ fn refusals() {
         &targets,
         &suns[..3],
         &observers[..3],
-        &[10.0],
+        &tolerances,
         ConfiguredRoll::None,
-        &Y,
+        &panels,
         &mut mask,
     ));
     asked(b"no targets");
@@ -318,9 +324,9 @@ fn refusals() {
         &targets[..0],
         &suns[..3],
         &observers[..3],
-        &[10.0],
+        &tolerances,
         ConfiguredRoll::None,
-        &Y,
+        &panels,
         &mut mask,
     ));
     asked(b"no times, field of regard");
@@ -328,9 +334,9 @@ fn refusals() {
         &targets[..0],
         &suns[..0],
         &observers[..0],
-        &[10.0],
+        &tolerances,
         ConfiguredRoll::None,
-        &Y,
+        &panels,
         0,
         0.0,
         &mut mask,
@@ -340,9 +346,9 @@ fn refusals() {
         &targets[..0],
         &suns[..3],
         &observers[..3],
-        &[10.0],
+        &tolerances,
         ConfiguredRoll::None,
-        &Y,
+        &panels,
         0,
         &mut unlent_mask[..0],
         &mut severities,
@@ -352,9 +358,9 @@ fn refusals() {
         &sound,
         &suns[..3],
         &observers[..3],
-        &[10.0],
+        &tolerances,
         ConfiguredRoll::None,
-        &Y,
+        &panels,
         0,
         &mut mask,
         &mut unlent_severities[..0],
@@ -364,9 +370,9 @@ fn refusals() {
         &sound,
         &suns[..3],
         &observers[..3],
-        &[10.0],
+        &tolerances,
         ConfiguredRoll::None,
-        &Y,
+        &panels,
         &mut unlent_mask[..0],
     ));
     asked(b"the lent mask after all of these");
