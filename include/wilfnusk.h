@@ -11,12 +11,13 @@
  *
  * ANSWERS
  *
- * The three functions on doubles return a double. Every other call returns an int64_t: 0 or more if it was accepted, else minus the number
+ * The five functions on doubles return a double. Every other call returns an int64_t: 0 or more if it was accepted, else minus the number
  * of the reason. A refused call changes nothing that it was lent. Reasons are tried in the order in which a call lists them, and the first
  * that holds is the answer:
  *
  *    -1  Lists do not fit together. With a plan: targets, suns or observers not a multiple of 3 long, suns and observers of different
- *        lengths, or a used length beyond its buffer. With windows: lists that belong together have different lengths.
+ *        lengths, or a used length beyond its buffer. With windows or catalogue positions: lists that belong together have different
+ *        lengths.
  *    -2  Too large. With a plan: more than 65,536 targets or times, or more than 1,048,576 cells. With windows: more than 65,536 samples
  *        or windows.
  *    -3  n, the number of rolls, is outside 1 to 3,600. (wilfnusk_constrained_at_every_roll and wilfnusk_field_of_regard_violated_batch
@@ -33,6 +34,7 @@
  *   -13  The journal is not empty.
  *   -14  A mask byte is neither 0 nor 1, or a severity is NaN, infinite or has its sign bit set.
  *   -15  A chunk lacks its line.
+ *   -16  A right ascension is not within 0 to 360 degrees, or a declination not within -90 to 90.
  *
  * Numbers of 64 bits are looked at whole: a chunk of 2^40 or an n of 2^32 is refused, not cut down.
  *
@@ -106,8 +108,23 @@ double wilfnusk_sqrt(double x);
  * on every machine. NaN unless both are finite. */
 double wilfnusk_atan2(double y, double z);
 
+/* The sine and the cosine of r radians, by a rule of their own, the same on every machine. Made for r from -2 pi to 2 pi, where they are
+ * within 1e-15 of the true ones; further out they are not. NaN gives NaN; an infinity has itself as its sine and +infinity as its cosine.
+ * The sine of -0 is +0. */
+double wilfnusk_sin(double r);
+double wilfnusk_cos(double r);
+
 /* The shortest arc between two rolls, in degrees: from 0 to 180. NaN unless both, and a - b, are finite. */
 double wilfnusk_circular_diff_deg(double a, double b);
+
+
+/* ---- Catalogue positions --------------------------------------------------------------------------------------------------------- */
+
+/* Writes the unit vector of each position, from its right ascension and declination in degrees: x, y, z one position after the other, as a
+ * plan's targets. Answers 0. What it writes is never refused as targets.
+ * Refuses: -1 if ra and dec are not equally long; -16; -7 if out_len is below 3 a position. */
+int64_t wilfnusk_radec_to_unit_vectors_batch(const double *ra, size_t ra_len, const double *dec, size_t dec_len, double *out,
+                                             size_t out_len);
 
 
 /* ---- Rolls ----------------------------------------------------------------------------------------------------------------------- */

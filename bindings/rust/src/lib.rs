@@ -158,6 +158,14 @@ pub fn sqrt(x: f64) -> f64 {
 pub fn atan2(y: f64, z: f64) -> f64 {
     unsafe { sys::wilfnusk_atan2(y, z) }
 }
+/// The sine of r radians by the library's own rule, made for angles within a turn either way; NaN gives NaN.
+pub fn sin(r: f64) -> f64 {
+    unsafe { sys::wilfnusk_sin(r) }
+}
+/// The cosine of r radians by the same rule.
+pub fn cos(r: f64) -> f64 {
+    unsafe { sys::wilfnusk_cos(r) }
+}
 /// The shortest arc between two rolls, in degrees; NaN unless both are finite and their difference is.
 pub fn circular_diff_deg(a: f64, b: f64) -> f64 {
     unsafe { sys::wilfnusk_circular_diff_deg(a, b) }
@@ -168,6 +176,22 @@ pub fn cell(target: [f64; 3], sun: [f64; 3], observer: [f64; 3], panel_normal: [
     let ([a, b, c], [d, e, f], [g, h, i], [x, y, z]) = (target, sun, observer, panel_normal);
     let answer = unsafe { sys::wilfnusk_cell(a, b, c, d, e, f, g, h, i, x, y, z, &mut roll) };
     accepted(Call::Cell, answer).map(|at| if at == 0 { OptimalRoll::Free } else { OptimalRoll::At(roll) })
+}
+
+/// Writes the unit vector of each catalogue position, right ascension and declination in degrees: x, y, z a position. Places beyond stay.
+/// What it writes is accepted as targets of a [`Plan`].
+///
+/// ```
+/// let mut targets = [0.0; 6];
+/// wilfnusk::radec_to_unit_vectors_batch(&[0.0, 180.0], &[0.0, -90.0], &mut targets)?;
+/// assert_eq!(targets, [1.0, 0.0, 0.0, 0.0, 0.0, -1.0]);
+/// # Ok::<(), wilfnusk::Refusal>(())
+/// ```
+pub fn radec_to_unit_vectors_batch(ra: &[f64], dec: &[f64], out: &mut [f64]) -> Result<(), Refusal> {
+    accepted(Call::Catalogue, unsafe {
+        sys::wilfnusk_radec_to_unit_vectors_batch(ra.as_ptr(), ra.len(), dec.as_ptr(), dec.len(), out.as_mut_ptr(), out.len())
+    })
+    .map(drop)
 }
 
 /// Lists the maximal runs of marked samples of a row. How many there are.

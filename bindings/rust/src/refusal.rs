@@ -9,6 +9,8 @@ pub enum Call {
     /// `evaluate`: one row.
     Row,
     Cell,
+    /// The vectors of catalogue positions.
+    Catalogue,
     FieldOfRegard,
     Begin,
     Work,
@@ -43,6 +45,7 @@ impl Refusal {
     pub fn sentence(self) -> &'static str {
         match (self.number, self.call) {
             (1, Call::Windows) => "the lengths of mask, times, severities or output columns differ",
+            (1, Call::Catalogue) => "the lists of right ascensions and declinations differ in length",
             (1, Call::Expand | Call::Seconds) => "the lists of first and last times differ in length",
             (1, Call::Begin | Call::Work | Call::WorkRange | Call::Recover | Call::Collect) => "target numbers or positions are not a multiple of 3, Sun and observer lengths differ, or the used length is beyond the journal's buffer",
             (1, _) => "target numbers or positions are not a multiple of 3, or Sun and observer lengths differ",
@@ -69,6 +72,7 @@ impl Refusal {
             (13, _) => "the journal is not empty",
             (14, _) => "a mask byte is not 0 or 1, or a severity is NaN, infinite or has its sign bit set",
             (15, _) => "a chunk lacks a line",
+            (16, _) => "a right ascension is not within 0 to 360 degrees, or a declination not within -90 to 90",
             _ => "a number that this version does not know",
         }
     }

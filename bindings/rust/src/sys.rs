@@ -50,6 +50,8 @@ with_plan! {
 extern "C" {
     pub fn wilfnusk_sqrt(x: c_double) -> c_double;
     pub fn wilfnusk_atan2(y: c_double, z: c_double) -> c_double;
+    pub fn wilfnusk_sin(r: c_double) -> c_double;
+    pub fn wilfnusk_cos(r: c_double) -> c_double;
     pub fn wilfnusk_circular_diff_deg(a: c_double, b: c_double) -> c_double;
     pub fn wilfnusk_cell(
         target_x: c_double,
@@ -66,6 +68,7 @@ extern "C" {
         panel_z: c_double,
         roll: *mut f64,
     ) -> i64;
+    pub fn wilfnusk_radec_to_unit_vectors_batch(ra: *const f64, ra_len: usize, dec: *const f64, dec_len: usize, out: *mut f64, out_len: usize) -> i64;
     pub fn wilfnusk_violation_windows(
         mask: *const u8,
         mask_len: usize,
