@@ -1,7 +1,7 @@
--- `wilfnusk::catalogue::wilfnusk_radec_to_unit_vectors_batch` meets its contract. Assumes nothing.
+-- `wilfnusk::positions::wilfnusk_radec_to_unit_vectors_batch` meets its contract. Assumes nothing.
 use borrow.Author.Needs.{needs}
-use Rattle.wilfnusk.proofs.catalogue.wilfnusk_radec_to_unit_vectors_batch.Statement.{statement}
-use Rattle.wilfnusk.proofs.catalogue.wilfnusk_radec_to_unit_vectors_batch.Tie as tie
+use Rattle.wilfnusk.proofs.positions.wilfnusk_radec_to_unit_vectors_batch.Statement.{statement}
+use Rattle.wilfnusk.proofs.positions.wilfnusk_radec_to_unit_vectors_batch.Tie as tie
 
 radec-to-unit-vectors-batch-requires : tie.Need-radec-to-unit-vectors-batch-requires
 radec-to-unit-vectors-batch-requires c κs = search needs
