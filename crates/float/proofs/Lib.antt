@@ -11,11 +11,17 @@ pub mod Order
 pub mod Overflow
 pub mod Remainder
 pub mod Sign
+pub mod SineCosine
+mod Alternating
+mod Circle
 mod Grid
 mod Guessed
 mod Isqrt
+mod Near
 mod Patterns
+mod Polynomial
 mod Quadrants
 mod Rooted
+mod Rounding
 mod Scaling
 mod Steps
