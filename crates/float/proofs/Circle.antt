@@ -1,23 +1,21 @@
 -- The two series lie on the circle: with p and C their sums at t, t·p² + C² is 1 but for a part in 10^12 (`sums-on-circle`). The polynomials' own squares add up to 1 but
 -- for terms from t^9 on, which is checked by working their coefficients out (`tail-small`). Assumes nothing.
-use mathlib.Core.Path.{_≡_, refl, sym, ap, ap₂, _∙_, subst}
+use mathlib.Core.Path.{_≡_, refl, subst}
 use mathlib.Core.Bool.{true, false}
 use mathlib.Core.List.{List, [], _∷_}
-use Prim.Native.Nat.{ℕ, suc, _+_, _-_, _*_, _/_, _^_, _<_, _≤_}
-use native.Mathlib.Nat.{le-trans, mul-pos, mul-comm, mul-left-comm, mul-le-mul-left, mul-le-mul-right, pow-suc}
+use Prim.Native.Nat.{ℕ, suc, _+_, _*_, _^_, _<_, _≤_}
+use native.Mathlib.Nat.{le-trans, mul-pos, mul-left-comm, mul-le-mul-left, mul-le-mul-right, pow-suc}
 use native.Mathlib.Omega.{arith}
 use borrow.Author.Tests.{eqb-true, ltb-true}
 use lib.Dec.{eqb, ltb, lit<, lit≤}
-use lib.Pow.{pow-pos}
 use lib.Ieee.{Float}
 use Rattle.buffers.specs.Ranges.{allBelow}
 use Rattle.buffers.proofs.Ranges.{all-iff}
-use Rattle.float.specs.Series.{horner}
 use Rattle.float.specs.Trigonometry.{factorial, sineDivisor, cosineDivisor}
 use Rattle.float.proofs.Near.{Near, scaled, shorter, square, reworded}
 use Rattle.float.proofs.Polynomial.{at, plus, times, product, apart, at-plus, at-times, at-product, at-mono, at-near}
-use Rattle.float.proofs.Rounding.{unit, step, unit-pos, step-small, Sized}
-use Rattle.float.proofs.Alternating.{whole, whole-pos, share, Divisors, terms, Round, rounds}
+use Rattle.float.proofs.Rounding.{unit, step, unit-pos, step-small}
+use Rattle.float.proofs.Alternating.{whole, whole-pos, share, Divisors, terms, Round}
 
 -- ---- the divisors of both series
 

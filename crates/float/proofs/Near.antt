@@ -1,7 +1,7 @@
 -- Whole numbers that are near to each other: `Near e p q` says that p and q differ by e at most. Assumes nothing.
 use mathlib.Core.Path.{_≡_}
 use Prim.Native.Nat.{ℕ, _+_, _*_, _<_, _≤_}
-use native.Mathlib.Nat.{le-trans, mul-comm, mul-le-mul-left, mul-le-mul-right, le-of-mul-le-mul-left}
+use native.Mathlib.Nat.{mul-comm, mul-le-mul-left, mul-le-mul-right, le-of-mul-le-mul-left}
 use native.Mathlib.Omega.{arith}
 
 pub record Near (e p q : ℕ) : Type 0 where

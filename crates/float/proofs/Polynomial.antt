@@ -1,5 +1,5 @@
 -- Polynomials with whole coefficients, the lowest first: their values, sums and products, and how far two of them lie apart. Assumes nothing.
-use mathlib.Core.Path.{_≡_, refl, sym, ap, ap₂, _∙_}
+use mathlib.Core.Path.{_≡_, sym, ap, ap₂, _∙_}
 use mathlib.Core.List.{List, [], _∷_}
 use Prim.Native.Nat.{ℕ, _+_, _-_, _*_, _≤_}
 use native.Mathlib.Nat.{le-refl, add-le-add, mul-zero, mul-le-mul, mul-le-mul-left}

@@ -2,15 +2,15 @@
 -- was (`times`, `together`, `apart`, `over-whole`). Assumes nothing.
 use mathlib.Core.Path.{_≡_, refl, sym, ap, ap₂, _∙_, subst}
 use mathlib.Core.Bool.{Bool, true, false, cond, not, _&&_}
-use Prim.Native.Nat.{ℕ, zero, suc, _+_, _-_, _*_, _/_, _%_, _^_, _<_, _≤_, compare}
-use native.Mathlib.Nat.{le-of-lt, le-trans, le-of-eq, lt-of-lt-of-le, lt-of-le-of-lt, mul-pos, one-mul, mul-one, mul-assoc, mul-comm, mul-right-comm, mul-mul-mul-comm, mul-le-mul-left, mul-le-mul-right, mul-lt-mul-of-pos-right, le-of-mul-le-mul-right, lt-of-mul-lt-mul-right, div-lt-iff-lt-mul, div-add-mod', mod-lt, pow-suc, mul-sub, zero-mul, zero-lt-suc}
+use Prim.Native.Nat.{ℕ, suc, _+_, _-_, _*_, _/_, _%_, _^_, _<_, _≤_, compare}
+use native.Mathlib.Nat.{le-of-lt, le-trans, le-of-eq, lt-of-lt-of-le, mul-pos, one-mul, mul-assoc, mul-comm, mul-right-comm, mul-mul-mul-comm, mul-le-mul-left, mul-le-mul-right, mul-lt-mul-of-pos-right, le-of-mul-le-mul-right, lt-of-mul-lt-mul-right, div-lt-iff-lt-mul, div-add-mod', mod-lt, pow-suc, mul-sub}
 use native.Mathlib.Omega.{arith}
-use borrow.Author.Tests.{lt-ltb, ltb-true, ltb-false, ne-eqb}
-use lib.IntN.{ℤ, pos}
-use lib.Dec.{ltb, eqb, lit<, lit≤}
+use borrow.Author.Tests.{lt-ltb, ltb-true, ltb-false}
+use lib.IntN.{ℤ}
+use lib.Dec.{ltb, lit<, lit≤}
 use lib.Pow.{pow-pos, pow-mono}
-use lib.Ieee.{Float, nan, inf, fin, binary64, up, down, size, round, sum, add, sub, mul, div, neg, unlike}
-use lib.Ieee.Fits.{up-pos, down-pos, nearest-le, round-is}
+use lib.Ieee.{Float, fin, binary64, up, down, size, round, sum, add, mul, neg, unlike}
+use lib.Ieee.Fits.{down-pos, nearest-le, round-is}
 use lib.Ieee.Nearest.{nearest-ge, closest}
 use lib.Ieee.Digits.{size-le}
 use lib.Ieee.Exact.{HasValue, units-val}

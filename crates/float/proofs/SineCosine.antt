@@ -4,11 +4,11 @@ use mathlib.Core.Path.{_≡_, refl, sym, ap, _∙_, subst}
 use mathlib.Core.Bool.{Bool, true, false, cond, _&&_}
 use mathlib.Core.Logic.{inl, inr}
 use Prim.Native.Nat.{ℕ, zero, suc, _+_, _-_, _*_, _<_, _≤_}
-use native.Mathlib.Nat.{le-trans, le-of-eq, mul-pos, mul-comm, mul-assoc, mul-right-comm, mul-le-mul, mul-le-mul-left, mul-le-mul-right, le-of-mul-le-mul-right}
+use native.Mathlib.Nat.{mul-pos, mul-le-mul, mul-le-mul-right, le-of-mul-le-mul-right}
 use native.Mathlib.Omega.{arith}
 use borrow.Author.Tests.{lt-ltb, le-ltb}
 use lib.IntN.{ℤ, pos, negsuc}
-use lib.Dec.{T, ltb, lit<, lit≤}
+use lib.Dec.{T, ltb, lit<}
 use lib.Ieee.{Float, nan, inf, fin, binary64, up, down, round, sum, add, sub, mul, div, neg, lt, le, eq, unlike, ofInt, ofBits}
 use lib.Ieee.Fits.{down-pos}
 use lib.Ieee.Order.{round-mono}
@@ -16,7 +16,7 @@ use Rattle.buffers.specs.Ranges.{flag}
 use Rattle.float.specs.Arithmetic.{_⊖_, _⊗_, _⊘_, zero·0, two, halfTurn, PI, absOf}
 use Rattle.float.specs.Series.{horner}
 use Rattle.float.specs.Trigonometry.{sineDivisor, cosineDivisor, quarters, quadrantOf, sineAt, cosineAt, sinCosOf, sineOf, cosineOf, toRadians}
-use Rattle.float.proofs.Bounds.{resign, round-resign, within-round, at-most}
+use Rattle.float.proofs.Bounds.{resign, round-resign, at-most}
 use Rattle.float.proofs.Grid.{le-or-lt}
 use Rattle.float.proofs.Near.{Near, scaled, shorter, square}
 use Rattle.float.proofs.Rounding.{unit, step, unit-pos, step-small, Sized, negated, rounded, Times, times}
