@@ -110,8 +110,9 @@ fn angles(named: &[f64]) -> Vec<f64> {
     for degrees in (-360..=360).step_by(13) {
         list.push(f64::from(degrees) * (PI / 180.0));
     }
-    for k in [1, 2, 5, 10, 15, 16, 17, 18, 19, 20, 150, 160, 300] {
-        list.extend([10f64.powi(k), -3.0 * 10f64.powi(k)]);
+    // Far out, and where the series overflow.
+    for r in [1e1, 1e2, 1e5, 1e10, 1e15, 1e16, 1e17, 1e18, 1e19, 1e20, 1e150, 1e160, 1e300] {
+        list.extend([r, -3.0 * r]);
     }
     for _ in 0..50 {
         list.push(7.0 * random.unit());
