@@ -1,13 +1,17 @@
-// Records the roots and arctangents that the crate `vectors` replays:
+// Records the roots, arctangents, sines and cosines that the crate `vectors` replays:
 //
 //     rustc -O -o target/vectors tools/vectors.rs && target/vectors > crates/vectors/stdin
 //
-// The roots are the machine's; the arctangents are section 1's rule of document 01 in plain f64, with the machine's root.
+// The roots are the machine's; the arctangents are section 1's rule of document 01 in plain f64, with the machine's root; the
+// sines and cosines are the rule of document 02's request One, in plain f64.
 // A line has three words of 16 hexadecimal digits, bit patterns of f64: an operand, dashes and its root; or y, z and the
-// arctangent of (y, z). Every NaN is written 7ff8000000000000.
+// arctangent of (y, z); or r, a colon, its sine and its cosine. Every NaN is written 7ff8000000000000.
 use std::f64::consts::PI;
 
 const SEED: u64 = 0x5eed_0000_0000_0001;
+
+// The angles' own, so that the lines before them stay.
+const SEED_OF_ANGLES: u64 = 0x5eed_0000_0000_0002;
 
 struct Random(u64);
 
@@ -70,6 +74,55 @@ fn arctangent(y: f64, z: f64) -> f64 {
     r
 }
 
+fn factorial(n: u64) -> f64 {
+    (1..=n).product::<u64>() as f64
+}
+
+// The sine and the cosine of r radians.
+fn sine_cosine(r: f64) -> (f64, f64) {
+    let a = r.abs();
+    let q = [1.0, 3.0, 5.0, 7.0].iter().filter(|&n| n * PI / 4.0 < a).count();
+    let s = a - q as f64 * (PI / 2.0);
+    let t = s * s;
+    let series = |lowest: u64| {
+        let c = |k: u64| (if k % 2 == 1 { -1.0 } else { 1.0 }) / factorial(2 * k + lowest);
+        (0..8).rev().fold(c(8), |p, k| c(k) + t * p)
+    };
+    let (sin_s, cos_s) = (series(1) * s, series(0));
+    let (sine, cosine) = match q {
+        0 | 4 => (sin_s, cos_s),
+        1 => (cos_s, -sin_s),
+        2 => (-sin_s, -cos_s),
+        _ => (-cos_s, sin_s),
+    };
+    (if r < 0.0 { -sine } else { sine }, cosine)
+}
+
+// Angles to take the sine and the cosine of, in radians.
+fn angles(named: &[f64]) -> Vec<f64> {
+    let mut random = Random(SEED_OF_ANGLES);
+    let beside = |r: f64| [r.next_down(), r, r.next_up()];
+    let mut list = named.to_vec();
+    // Eighths of a turn, the same numbers as 45 times k degrees. The odd ones tell one q from the next.
+    for k in -8..=8 {
+        list.extend(beside(f64::from(k) * PI / 4.0));
+    }
+    for degrees in (-360..=360).step_by(13) {
+        list.push(f64::from(degrees) * (PI / 180.0));
+    }
+    // Far out, and where the series overflow.
+    for r in [1e1, 1e2, 1e5, 1e10, 1e15, 1e16, 1e17, 1e18, 1e19, 1e20, 1e150, 1e160, 1e300] {
+        list.extend([r, -3.0 * r]);
+    }
+    for _ in 0..50 {
+        list.push(7.0 * random.unit());
+    }
+    for _ in 0..40 {
+        list.push(random.float());
+    }
+    list
+}
+
 fn main() {
     let mut random = Random(SEED);
     let named = [
@@ -123,5 +176,10 @@ fn main() {
     }
     for (y, z) in points {
         println!("{} {} {}", word(y), word(z), word(arctangent(y, z)));
+    }
+
+    for r in angles(&named) {
+        let (sine, cosine) = sine_cosine(r);
+        println!("{}:{} {}", word(r), word(sine), word(cosine));
     }
 }

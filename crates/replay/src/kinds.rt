@@ -34,3 +34,5 @@ pub(crate) const EXPAND_REORDERED: u64 = 15;
 pub(crate) const RESULT: u64 = 16;
 
 pub(crate) const SECONDS: u64 = 17;
+
+pub(crate) const VECTORS: u64 = 18;

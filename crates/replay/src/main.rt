@@ -6,6 +6,7 @@ ghost use Prim.Native.Nat.{_<_};
 
 mod kinds;
 mod plans;
+mod positions;
 mod rows;
 mod words;
 
@@ -25,11 +26,13 @@ use kinds::RESULT;
 use kinds::ROW;
 use kinds::SECONDS;
 use kinds::SWEEP;
+use kinds::VECTORS;
 use kinds::VIOLATIONS;
 use kinds::VISIBILITY;
 use libc::STDOUT_FILENO;
 use plans::difference;
 use plans::plan;
+use positions::vectors;
 use rows::samples;
 use rows::windows;
 use std::num::wrapping_add_u64;
@@ -49,28 +52,31 @@ fn agrees(given: &[u64; 256], asked: &[u64; 256]) -> bool {
     if kind <= VISIBILITY {
         return samples(given, asked);
     }
+    if kind == VECTORS {
+        return vectors(given, asked);
+    }
     windows(given, asked)
 }
 
-// Where a kind's answers are counted; those that differ are 18 places later. At 0, which gives and does not ask, stands what is of
+// Where a kind's answers are counted; those that differ are 19 places later. At 0, which gives and does not ask, stands what is of
 // no kind.
 fn place(kind: u64) -> usize
-    ensures { λ r. ⌜ r < 18 ⌝ }
+    ensures { λ r. ⌜ r < 19 ⌝ }
 {
-    if kind <= SECONDS { kind as usize } else { 0 }
+    if kind <= VECTORS { kind as usize } else { 0 }
 }
 
-fn count(given: &[u64; 256], asked: &[u64; 256], counts: &mut [u64; 36]) {
+fn count(given: &[u64; 256], asked: &[u64; 256], counts: &mut [u64; 38]) {
     let k = place(asked[0]);
     counts[k] = wrapping_add_u64(counts[k], 1);
     if !agrees(given, asked) {
-        let d = k + 18;
+        let d = k + 19;
         counts[d] = wrapping_add_u64(counts[d], 1);
     }
 }
 
 // A word ends with a space or with its line.
-fn replay(text: &[u8], counts: &mut [u64; 36]) {
+fn replay(text: &[u8], counts: &mut [u64; 38]) {
     let mut given = [UNWRITTEN; 256];
     let mut asked = [UNWRITTEN; 256];
     let mut words: u64 = 0;
@@ -99,7 +105,7 @@ fn replay(text: &[u8], counts: &mut [u64; 36]) {
     }
 }
 
-fn replay_file(name: &[u8], counts: &mut [u64; 36]) {
+fn replay_file(name: &[u8], counts: &mut [u64; 38]) {
     let mut buffer = io::large_buffer();
     let fd = os::open_read(name);
     let length = io::read_full(fd, &mut buffer);
@@ -107,16 +113,16 @@ fn replay_file(name: &[u8], counts: &mut [u64; 36]) {
     replay(&buffer[..length], counts);
 }
 
-fn show(name: &[u8], kind: u64, counts: &[u64; 36]) {
+fn show(name: &[u8], kind: u64, counts: &[u64; 38]) {
     let k = place(kind);
     io::write_all(STDOUT_FILENO, name);
     io::print_decimal(STDOUT_FILENO, counts[k]);
     io::write_all(STDOUT_FILENO, b" answers, ");
-    io::print_decimal(STDOUT_FILENO, counts[k + 18]);
+    io::print_decimal(STDOUT_FILENO, counts[k + 19]);
     io::write_all(STDOUT_FILENO, b" differ\n");
 }
 
-fn show_rolls(counts: &[u64; 36]) {
+fn show_rolls(counts: &[u64; 38]) {
     show(b"differences: ", DIFFERENCE, counts);
     show(b"cells, Free or a roll: ", CELL, counts);
     show(b"named values: ", NAMED_VALUES, counts);
@@ -124,7 +130,7 @@ fn show_rolls(counts: &[u64; 36]) {
     show(b"sweeps with probes: ", SWEEP, counts);
 }
 
-fn show_masks(counts: &[u64; 36]) {
+fn show_masks(counts: &[u64; 38]) {
     show(b"masks at the configured roll: ", BATCH, counts);
     show(b"masks at a sweep's roll: ", AT_SWEEP, counts);
     show(b"masks at a fixed roll: ", AT_FIXED, counts);
@@ -133,7 +139,7 @@ fn show_masks(counts: &[u64; 36]) {
     show(b"fields of regard at a roll: ", FIELD_AT_ROLL, counts);
 }
 
-fn show_windows(counts: &[u64; 36]) {
+fn show_windows(counts: &[u64; 38]) {
     show(b"violation windows: ", VIOLATIONS, counts);
     show(b"visibility windows of a mask: ", VISIBILITY, counts);
     show(b"visibility windows of a result: ", RESULT, counts);
@@ -143,14 +149,16 @@ fn show_windows(counts: &[u64; 36]) {
 }
 
 fn main() {
-    let mut counts = [0u64; 36];
+    let mut counts = [0u64; 38];
     replay_file(b"section-2", &mut counts);
     replay_file(b"section-3", &mut counts);
     replay_file(b"section-5", &mut counts);
     replay_file(b"section-6", &mut counts);
     replay_file(b"any-targets", &mut counts);
+    replay_file(b"catalogue", &mut counts);
     show_rolls(&counts);
     show_masks(&counts);
     show_windows(&counts);
+    show(b"vectors of catalogue positions: ", VECTORS, &counts);
     show(b"of no kind: ", GIVEN, &counts);
 }

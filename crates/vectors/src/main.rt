@@ -1,7 +1,8 @@
-// Replays the roots and arctangents that tools/vectors.rs recorded, from standard input, and writes how many agree, after
-// each line that does not.
+// Replays the roots, arctangents, sines and cosines that tools/vectors.rs recorded, from standard input, and writes how many
+// agree, after each line that does not.
 //
-// A line has three words of 16 hexadecimal digits: an operand, dashes and its root; or y, z and the arctangent of (y, z).
+// A line has three words of 16 hexadecimal digits: an operand, dashes and its root; or y, z and the arctangent of (y, z); or r,
+// a colon, its sine and its cosine.
 ghost use Prim.Native.Nat.{_+_, _<_, _≤_};
 ghost use lib.ListN.{length};
 use libc::STDIN_FILENO;
@@ -35,24 +36,42 @@ fn word(text: &[u8], at: usize) -> u64
     value
 }
 
-// Whether the line at an index is a root's.
-fn is_root(text: &[u8], at: usize) -> bool
+// What a line has.
+enum Form {
+    Root,
+    Arctangent,
+    SineAndCosine,
+}
+
+// The form of the line at an index.
+fn form_at(text: &[u8], at: usize) -> Form
     requires { ⌜ at + 51 ≤ length (now text) ⌝ }
 {
-    text[at + 17] == b'-'
+    if text[at + 16] == b':' {
+        return Form::SineAndCosine;
+    }
+    if text[at + 17] == b'-' {
+        return Form::Root;
+    }
+    Form::Arctangent
 }
 
 // Whether the line at an index has the answer that is computed here.
 fn agrees(text: &[u8], at: usize) -> bool
     requires { ⌜ at + 51 ≤ length (now text) ⌝ }
 {
-    let y = float::of_bits(word(text, at));
-    let want = word(text, at + 34);
-    if is_root(text, at) {
-        return float::bits(float::sqrt(y)) == want;
+    let x = float::of_bits(word(text, at));
+    let second = word(text, at + 17);
+    let third = word(text, at + 34);
+    let form = form_at(text, at);
+    match form {
+        Form::Root => float::bits(float::sqrt(x)) == third,
+        Form::Arctangent => float::bits(float::atan2(x, float::of_bits(second))) == third,
+        Form::SineAndCosine => {
+            let both = float::sin_cos(x);
+            float::bits(both.sin) == second && float::bits(both.cos) == third
+        }
     }
-    let z = float::of_bits(word(text, at + 17));
-    float::bits(float::atan2(y, z)) == want
 }
 
 fn write_line(text: &[u8], at: usize)
@@ -62,19 +81,26 @@ fn write_line(text: &[u8], at: usize)
     io::write_all(STDOUT_FILENO, &text[at..end]);
 }
 
+fn show(count: u64, name: &[u8]) {
+    io::print_decimal(STDOUT_FILENO, count);
+    io::write_all(STDOUT_FILENO, name);
+}
+
 fn replay(text: &[u8]) {
     let lines = text.len() / LINE;
     let mut roots: u64 = 0;
-    let mut angles: u64 = 0;
+    let mut arctangents: u64 = 0;
+    let mut sines: u64 = 0;
     let mut agree: u64 = 0;
     let mut i = 0;
     while i < lines {
         let at = i * LINE;
         i += 1;
-        if is_root(text, at) {
-            roots = wrapping_add_u64(roots, 1);
-        } else {
-            angles = wrapping_add_u64(angles, 1);
+        let form = form_at(text, at);
+        match form {
+            Form::Root => roots = wrapping_add_u64(roots, 1),
+            Form::Arctangent => arctangents = wrapping_add_u64(arctangents, 1),
+            Form::SineAndCosine => sines = wrapping_add_u64(sines, 1),
         }
         if agrees(text, at) {
             agree = wrapping_add_u64(agree, 1);
@@ -82,12 +108,10 @@ fn replay(text: &[u8]) {
             write_line(text, at);
         }
     }
-    io::print_decimal(STDOUT_FILENO, roots);
-    io::write_all(STDOUT_FILENO, b" roots and ");
-    io::print_decimal(STDOUT_FILENO, angles);
-    io::write_all(STDOUT_FILENO, b" arctangents: ");
-    io::print_decimal(STDOUT_FILENO, agree);
-    io::write_all(STDOUT_FILENO, b" agree\n");
+    show(roots, b" roots, ");
+    show(arctangents, b" arctangents and ");
+    show(sines, b" sines and cosines: ");
+    show(agree, b" agree\n");
 }
 
 fn main() {
