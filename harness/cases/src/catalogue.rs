@@ -1,6 +1,9 @@
 //! Catalogue positions, right ascension and declination in degrees: random ones, the multiples of 45 and the numbers beside them, at which the
 //! rule of sine and cosine changes its part, whole degrees, numbers of every size down to the smallest, both zeros, the ends, the poles.
+use crate::plans::{self, Targets};
 use crate::Seeded;
+use model::arithmetic::{radians, P};
+use model::Plan;
 
 /// The two ends of a number's range.
 #[derive(Clone, Copy)]
@@ -72,9 +75,25 @@ pub fn positions(s: &mut Seeded, count: usize) -> (Vec<f64>, Vec<f64>) {
     (0..count).map(|_| position(s)).unzip()
 }
 
+/// A plan with these targets. Now and then the Sun stands at one of them, opposite, or close by.
+pub fn plan(s: &mut Seeded, targets: Vec<f64>, times: usize) -> Plan {
+    let mut p = plans::plan(s, Targets::Unit, 0, times);
+    p.targets = targets;
+    for j in 0..times {
+        if p.rows() > 0 && s.once_in(8) {
+            let i = s.index(p.rows());
+            let (mut sun, size) = (p.target(i), s.one_of(&[0.0, 1e-15, 1e-6, 3e-6]));
+            sun[s.index(3)] += s.between(-size, size);
+            let distance = s.one_of(&[1.0, -1.0, 1.5e8]);
+            p.suns[3 * j..3 * j + 3].copy_from_slice(&sun.map(|x| x * distance));
+            p.observers[3 * j..3 * j + 3].fill(0.0);
+        }
+    }
+    p
+}
+
 /// An angle for sine and cosine: every f64, those within a turn, about the thresholds n P / 4, and degrees as radians.
 pub fn angle(s: &mut Seeded) -> f64 {
-    use model::arithmetic::{radians, P};
     let x = match s.below(8) {
         0 => f64::from_bits(s.bits()),
         1 | 2 => s.between(0.0, 2.0 * P),
