@@ -67,7 +67,7 @@ fn sine_and_cosine(calls: &dyn Calls, t: &mut Tally) {
     let position = (&[90.0][..], &[0.0][..]);
     let ours = calls.radec_to_unit_vectors_batch(position.0, position.1, 3);
     let listed = (Ok(bits_of(&[-0.0, 1.0, 0.0])), bits_of(&[6.123233995736766e-17, 1.0, 0.0]));
-    for what in ["4: the vector of (90, 0), radec_to_unit", "4: the vector of (90, 0), batch"] {
+    for what in ["4: vector of (90, 0), radec_to_unit", "4: vector of (90, 0), batch"] {
         let theirs = patch::without(&patch::TRIG, || match what.ends_with("batch") {
             true => oracle::radec_to_unit_vectors_batch(position.0, position.1).iter().copied().collect(),
             false => oracle::radec_to_unit(90.0, 0.0).to_vec(),
@@ -77,7 +77,7 @@ fn sine_and_cosine(calls: &dyn Calls, t: &mut Tally) {
     let Ok(Ok(target)) = ours.map(<[f64; 3]>::try_from) else { return };
     let p = plan(target, [-1.0, -2.0, -2.0], f64::from_bits(0x404f_b7ac_672c_f11e), Some(0.0));
     let theirs = patch::without(&patch::TRIG, || Oracle::new(&p, &[0]).at_positions(position).in_constraint_batch());
-    t.known("4: the mark of (90, 0)", (calls.in_constraint_batch(&p, 1), theirs), (Ok(vec![0]), vec![1]));
+    t.known("4: mark of (90, 0)", (calls.in_constraint_batch(&p, 1), theirs), (Ok(vec![0]), vec![1]));
 }
 
 /// A right ascension below 0, which is 270 to the original.

@@ -154,6 +154,14 @@ mod tests {
         }
     }
 
+    /// Each step rounded once; also where q stays at 4, far beyond a turn.
+    #[test]
+    fn bits_of_some_angles() {
+        assert_eq!(of(0.1), [0x3fb9_8eae_cb8b_cb2c, 0x3fef_d712_f9a8_17c0]);
+        assert_eq!(of(2.0), [0x3fed_18f6_ead1_b446, 0xbfda_a226_5753_7205]);
+        assert_eq!(of(100.0), [0x43df_6321_475e_5394, 0x43b6_db18_9127_48a1]);
+    }
+
     #[test]
     fn near_the_true_ones_within_a_turn() {
         for k in -10_000..=10_000 {
@@ -179,6 +187,8 @@ mod tests {
         for k in 0..=8 {
             assert_eq!(bits(radians(45.0 * k as f64)), bits(k as f64 * P / 4.0), "{k} times 45 degrees");
         }
+        // P / 180 first.
+        assert_eq!(bits(radians(3.0)), 0x3faa_cee9_f37b_ebd6);
         // Fewer than 29 of the smallest steps are nothing.
         assert_eq!(bits(radians(f64::from_bits(28))), 0);
         assert_eq!(bits(radians(-f64::from_bits(28))), 1 << 63);
