@@ -2,7 +2,7 @@
 //! WILFNUSK_ORACLE_SRC names the folder that holds src/constraints/core.rs; else it is ../shared/docs/src beside the repository.
 use std::{env, fs, path::PathBuf, process::exit};
 
-/// Each can be switched off again while the program runs (src/patch.rs).
+/// Each that changes an answer can be switched off again while the program runs (src/patch.rs).
 struct Patch {
     file: &'static str,
     from: &'static str,

@@ -8,14 +8,7 @@ use oracle::Oracle;
 fn answer(asked: Asked) -> Answer<String> {
     Ok(match asked {
         Difference(a, b) => oracle::circular_diff_deg(a, b).to_string(),
-        Vector(ra, dec) => {
-            let v = oracle::radec_to_unit(ra, dec);
-            assert_eq!(
-                v.map(f64::to_bits).as_slice(),
-                oracle::radec_to_unit_vectors_batch(&[ra], &[dec]).iter().map(|x| x.to_bits()).collect::<Vec<_>>()
-            );
-            vector(&v)
-        }
+        Vector(ra, dec) => vector(&oracle::radec_to_unit(ra, dec)),
         RollOf(sun) => {
             let o = Oracle::new(&plan(&[sun], 0.0), &[0]);
             roll(if o.not_free()[0] == 1 { Optimal::At(o.named_values()[0]) } else { Optimal::Free })

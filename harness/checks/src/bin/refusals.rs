@@ -1,5 +1,5 @@
-//! What each call says no to, and in which order: faulty inputs, often several faults at once, against the plain model. That a
-//! refused call changes nothing, and an accepted one nothing beyond its answer, is looked at in every call.
+//! What each call says no to, and in which order: faulty inputs, often several faults at once, against the plain model. That a refused call
+//! changes nothing, and an accepted one nothing beyond its answer, is looked at in every call.
 //! `refusals [FACTOR]` multiplies the number of inputs.
 use cases::catalogue::{positions, DEC, RA};
 use cases::{plans, rows, Seeded};
@@ -260,7 +260,8 @@ fn of_cells(s: &mut Seeded, t: &mut Tally) {
 fn vectors(t: &mut Tally, ra: &[f64], dec: &[f64], lent: usize) -> Answer<Vec<u64>> {
     let of = |c: &dyn Calls| floats(c.radec_to_unit_vectors_batch(ra, dec, lent));
     let theirs = of(&Model);
-    t.same("catalogue", of(&Library), theirs.clone(), &|| format!("{ra:?} {dec:?} {lent}"));
+    let shown = || if ra.len() > 300 { format!("{} positions", ra.len()) } else { format!("{ra:?} {dec:?} {lent}") };
+    t.same("catalogue", of(&Library), theirs.clone(), &shown);
     theirs
 }
 
@@ -303,6 +304,11 @@ fn of_ends(t: &mut Tally) {
         assert_eq!(said(t, &ras, &decs, 6), 16);
     }
     assert_eq!([said(t, &[], &[], 0), said(t, &[], &[], 4), said(t, &[], &[1.0], 0)], [0, 0, 1]);
+    // More than a plan takes, and no 2.
+    for count in [65_536, 65_537, 400_000] {
+        let (ra, dec) = (vec![123.0; count], vec![-45.0; count]);
+        assert_eq!([said(t, &ra, &dec, 3 * count), said(t, &ra, &dec, 3 * count - 1)], [0, 7]);
+    }
 }
 
 const LATE: [i64; 4] = [4_000_000_000_000_000_001, -4_000_000_000_000_000_001, i64::MAX, i64::MIN];
