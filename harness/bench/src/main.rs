@@ -14,6 +14,7 @@ mod rows;
 mod sweeps;
 
 use case::{Case, Limit, Side};
+use catalogue::Original::{Batch, Libm, Single};
 use rows::Listing::{Violation, Visibility};
 use std::collections::HashMap;
 use std::hint::black_box;
@@ -47,8 +48,9 @@ const ENTRIES: &[Entry] = &[
     ("arctangent-chained", |name, _| floats::angle_case(name, true, Limit::Ratio(4.0))),
     ("sine", |name, _| floats::turn_case(name, Limit::None)),
     ("cosine", |name, _| floats::turn_case(name, Limit::None)),
-    ("catalogue", |name, _| catalogue::vectors_case(name, true, Limit::Ratio(1.0))),
-    ("catalogue-libm", |name, _| catalogue::vectors_case(name, false, Limit::None)),
+    ("catalogue", |name, _| catalogue::vectors_case(name, Batch, Limit::Ratio(1.0))),
+    ("catalogue-single", |name, _| catalogue::vectors_case(name, Single, Limit::None)),
+    ("catalogue-libm", |name, _| catalogue::vectors_case(name, Libm, Limit::None)),
     ("right-check", |name, _| journals::right_check_case(name, true, Limit::Rate(1.0))),
     ("right-check-shuffled", |name, _| journals::right_check_case(name, false, Limit::Rate(1.0))),
     ("collect", |name, _| journals::collect_case(name, false, Limit::Ratio(3.0))),

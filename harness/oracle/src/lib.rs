@@ -273,6 +273,15 @@ pub fn radec_to_unit(ra: f64, dec: f64) -> [f64; 3] {
     patch::without(&patch::VECTORS, || solar_roll::radec_to_unit(ra, dec))
 }
 
+/// The same for one position after the other.
+pub fn units(ra: &[f64], dec: &[f64], out: &mut [[f64; 3]]) {
+    patch::without(&patch::VECTORS, || {
+        for ((&ra, &dec), out) in ra.iter().zip(dec).zip(out) {
+            *out = solar_roll::radec_to_unit(ra, dec);
+        }
+    })
+}
+
 /// Of vector_math.rs, as the original hands it over: a row a position.
 pub fn radec_to_unit_vectors_batch(ra: &[f64], dec: &[f64]) -> Array2<f64> {
     patch::without(&patch::VECTORS, || vector_math::radec_to_unit_vectors_batch(ra, dec))
