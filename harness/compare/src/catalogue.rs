@@ -14,6 +14,10 @@ pub fn run(calls: &dyn Calls, t: &mut Tally, factor: u64) {
         let count = s.index(most + 1);
         vectors(calls, t, &mut s, count);
     }
+    // Beyond the Rust's own chunks of 65,536 cells, then many small ones.
+    t.uncounted = true;
+    of_plan(calls, t, &mut s, (1400, 50), 3);
+    t.uncounted = false;
     while t.cells < 300_000 * factor {
         let n = samples(&mut s);
         let most = (100_000 / n).clamp(20, 3000);

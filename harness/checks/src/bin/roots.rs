@@ -198,8 +198,8 @@ fn main() {
         let (ours, machine) = (time(&positive, wait, wilfnusk::sqrt), time(&positive, wait, f64::sqrt));
         println!("root of random positive doubles, {kind}: {ours:.1} ns, the machine's {machine:.1} ns, ratio {:.1}", ours / machine);
     }
-    // The header's word on how near the true ones they are; the C library's are nearer than half of it.
-    let near = t.gap < 1e-15;
+    // The header says within 1e-15 of the true ones; the C library's are nearer to them than half of that.
+    let near = t.gap < 5e-16;
     if r.differ + a.differ + t.differ > 0 || r.compared < 10_000_000 || !near {
         exit(1);
     }
