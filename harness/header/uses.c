@@ -1,4 +1,5 @@
-/* Uses include/wilfnusk.h as a program in C or C++ does: document 01's examples. Prints the example's journal. */
+/* Uses include/wilfnusk.h as a program in C or C++ does: the examples of document 01, and of document 02's request One. Prints the example's
+ * journal. */
 #include <stdio.h>
 #include <string.h>
 
@@ -12,6 +13,40 @@ static void expect(int holds, const char *what)
         printf("FAILED %s\n", what);
         failed = 1;
     }
+}
+
+static uint64_t bits_of(double x)
+{
+    uint64_t bits;
+    memcpy(&bits, &x, 8);
+    return bits;
+}
+
+/* The quarter turns at declination 0, and a pole; a place beyond them; each refusal leaves every place as it was. */
+static void catalogue(void)
+{
+    const double eighth = 0.78539816339744828; /* P/4 */
+    const double ra[5] = {0, 90, 180, 270, 360}, dec[5] = {0, 0, 0, 0, 90};
+    const double beyond[5] = {0, 90, 180, 270, 360.00000000000006};
+    const double vectors[15] = {1, 0, 0, -0.0, 1, 0, -1, -0.0, 0, 0, -1, 0, -0.0, -0.0, 1};
+    double out[16], untouched[16];
+    int k;
+
+    expect(bits_of(wilfnusk_sin(eighth)) == 0x3fe6a09e667f3bccULL, "sine of P/4");
+    expect(bits_of(wilfnusk_cos(eighth)) == 0x3fe6a09e667f3bcdULL, "cosine of P/4");
+    expect(bits_of(wilfnusk_sin(-0.0)) == 0 && wilfnusk_cos(-0.0) == 1, "sine of -0 is +0");
+
+    for (k = 0; k < 16; k++)
+        untouched[k] = -77.125;
+    memcpy(out, untouched, sizeof out);
+    expect(wilfnusk_radec_to_unit_vectors_batch(ra, 5, dec, 4, out, 16) == -1, "positions: lists of different lengths");
+    expect(wilfnusk_radec_to_unit_vectors_batch(beyond, 5, dec, 5, out, 14) == -16, "positions: a last right ascension beyond 360, before 7");
+    expect(wilfnusk_radec_to_unit_vectors_batch(ra, 5, beyond, 5, out, 16) == -16, "positions: a declination beyond 90");
+    expect(wilfnusk_radec_to_unit_vectors_batch(ra, 5, dec, 5, out, 14) == -7, "positions: no room for the last");
+    expect(memcmp(out, untouched, sizeof out) == 0, "positions: refused, and every byte as it was");
+    expect(wilfnusk_radec_to_unit_vectors_batch(ra, 5, dec, 5, out, 16) == 0, "five positions");
+    expect(memcmp(out, vectors, sizeof vectors) == 0, "their vectors, byte by byte");
+    expect(memcmp(&out[15], &untouched[15], sizeof out[15]) == 0, "the place beyond the vectors as it was");
 }
 
 int main(void)
@@ -34,6 +69,7 @@ int main(void)
     memcpy(&bits, &root, 8);
     expect(bits == 0x3ff6a09e667f3bcdULL, "root of 2");
     expect(wilfnusk_circular_diff_deg(350, 10) == 20, "difference of 350 and 10");
+    catalogue();
 
     expect(wilfnusk_cell(1, 0, 0, 1, 0, 0, 0, 0, 0, 0, 1, 0, &roll) == 0 && roll == -1, "Sun on the boresight: Free, roll unwritten");
     expect(wilfnusk_cell(1, 0, 0, 0, 0, 1, 0, 0, 0, 0, 1, 0, &roll) == 1 && roll == 90, "Sun [0,0,1]: At 90");

@@ -2,7 +2,7 @@
 //! WILFNUSK_ORACLE_SRC names the folder that holds src/constraints/core.rs; else it is ../shared/docs/src beside the repository.
 use std::{env, fs, path::PathBuf, process::exit};
 
-/// Each can be switched off again while the program runs (src/patch.rs).
+/// Each that changes an answer can be switched off again while the program runs (src/patch.rs).
 struct Patch {
     file: &'static str,
     from: &'static str,
@@ -10,14 +10,26 @@ struct Patch {
     times: usize,
 }
 
-const PATCHES: [Patch; 4] = [
+const PATCHES: [Patch; 10] = [
     // Document 01, section 1: the harness patches f64::atan2.
     Patch { file: "src/constraints/solar_roll.rs", from: "f64::atan2(", to: "crate::patch::atan2(", times: 2 },
-    // Document 01, known differences: both hand over the vector.
+    // Document 02, request One: the harness patches `sin_cos`, `sin` and `cos`. Each file gets the trait that has them.
+    Patch { file: "src/constraints/solar_roll.rs", from: ".sin_cos()", to: ".patched_sin_cos()", times: 2 },
+    Patch {
+        file: "src/constraints/solar_roll.rs",
+        from: "use ndarray::Array2;",
+        to: "use crate::patch::Trig; use ndarray::Array2;",
+        times: 1,
+    },
+    Patch { file: "src/utils/vector_math.rs", from: ".cos()", to: ".patched_cos()", times: 4 },
+    Patch { file: "src/utils/vector_math.rs", from: ".sin()", to: ".patched_sin()", times: 4 },
+    Patch { file: "src/utils/vector_math.rs", from: ".sin_cos()", to: ".patched_sin_cos()", times: 3 },
+    Patch { file: "src/utils/vector_math.rs", from: "use ndarray::Array2;", to: "use crate::patch::Trig; use ndarray::Array2;", times: 1 },
+    // Document 01, known differences: both hand over the vector. The first is made public, to be asked by itself.
     Patch {
         file: "src/constraints/solar_roll.rs",
         from: "fn radec_to_unit(ra_deg: f64, dec_deg: f64) -> [f64; 3] {",
-        to: "fn radec_to_unit(ra_deg: f64, dec_deg: f64) -> [f64; 3] { if let Some(v) = crate::patch::vector(ra_deg) { return v; }",
+        to: "pub fn radec_to_unit(ra_deg: f64, dec_deg: f64) -> [f64; 3] { if let Some(v) = crate::patch::vector(ra_deg) { return v; }",
         times: 1,
     },
     Patch {

@@ -1,8 +1,8 @@
-//! The root against the machine's, the arctangent against the same rule with the machine's root (the plain model's), each called, not inlined,
-//! on 4,096 random operands. Chained: each call waits for the answer of the one before.
+//! The root against the machine's, the arctangent against the same rule with the machine's root, sine and cosine against the same rule (all three
+//! the plain model's), each called, not inlined, on 4,096 random operands. Chained: each call waits for the answer of the one before.
 use crate::case::{side, Case, Limit, Side};
 use cases::Seeded;
-use model::arithmetic::arctangent;
+use model::arithmetic::{arctangent, sin_cos, P};
 use std::hint::black_box;
 
 const COUNT: usize = 4096;
@@ -17,6 +17,16 @@ fn machine_root(x: f64) -> f64 {
 #[inline(never)]
 fn machine_angle(y: f64, z: f64) -> f64 {
     arctangent(y, z)
+}
+
+#[inline(never)]
+fn model_sine(r: f64) -> f64 {
+    sin_cos(r).0
+}
+
+#[inline(never)]
+fn model_cosine(r: f64) -> f64 {
+    sin_cos(r).1
 }
 
 /// Every answer kept.
@@ -83,5 +93,21 @@ pub fn angle_case(name: &'static str, chain: bool, limit: Limit) -> Case {
         mask: false,
         port: one(&operands, chain, wilfnusk::atan2),
         other: Some(one(&operands, chain, machine_angle)),
+    }
+}
+
+/// Angles within a turn either way.
+pub fn turn_case(name: &'static str, limit: Limit) -> Case {
+    let operands = operands(|s| (s.between(-2.0 * P, 2.0 * P), 0.0));
+    let (port, other): (fn(f64) -> f64, fn(f64) -> f64) =
+        if name == "sine" { (wilfnusk::sin, model_sine) } else { (wilfnusk::cos, model_cosine) };
+    Case {
+        name,
+        title: name.into(),
+        unit: "call",
+        limit,
+        mask: false,
+        port: one(&operands, false, move |r, _| port(r)),
+        other: Some(one(&operands, false, move |r, _| other(r))),
     }
 }

@@ -5,6 +5,7 @@
 //!
 //! `bench --case NAME --side port|original [--targets COUNT]`: one run of one side, for counting instructions: those of `bench_measured`.
 mod case;
+mod catalogue;
 mod clock;
 mod floats;
 mod inputs;
@@ -13,6 +14,7 @@ mod rows;
 mod sweeps;
 
 use case::{Case, Limit, Side};
+use catalogue::Original::{Batch, Libm, Single};
 use rows::Listing::{Violation, Visibility};
 use std::collections::HashMap;
 use std::hint::black_box;
@@ -44,6 +46,11 @@ const ENTRIES: &[Entry] = &[
     ("root-chained", |name, _| floats::root_case(name, true, Limit::Ratio(5.0))),
     ("arctangent", |name, _| floats::angle_case(name, false, Limit::Ratio(4.0))),
     ("arctangent-chained", |name, _| floats::angle_case(name, true, Limit::Ratio(4.0))),
+    ("sine", |name, _| floats::turn_case(name, Limit::None)),
+    ("cosine", |name, _| floats::turn_case(name, Limit::None)),
+    ("catalogue", |name, _| catalogue::vectors_case(name, Batch, Limit::Ratio(1.0))),
+    ("catalogue-single", |name, _| catalogue::vectors_case(name, Single, Limit::None)),
+    ("catalogue-libm", |name, _| catalogue::vectors_case(name, Libm, Limit::None)),
     ("right-check", |name, _| journals::right_check_case(name, true, Limit::Rate(1.0))),
     ("right-check-shuffled", |name, _| journals::right_check_case(name, false, Limit::Rate(1.0))),
     ("collect", |name, _| journals::collect_case(name, false, Limit::Ratio(3.0))),

@@ -1,7 +1,7 @@
 //! Document 01's examples: what is asked, and the answer that it prints. Beside its own list, the bits and roots that section 1 names, and
-//! what it rules out.
+//! what it rules out. Apart from them what document 02's request One says of sine, cosine and catalogue positions, worked out by hand.
 use crate::Calls;
-use model::arithmetic::bits;
+use model::arithmetic::{bits, P};
 use model::plan::Rolls;
 use model::windows::Window;
 use model::{Answer, Optimal, Plan, Roll};
@@ -13,6 +13,12 @@ pub enum Asked {
     Root(f64),
     RootBits(f64),
     ArctangentBits(f64, f64),
+    Sine(f64),
+    SineBits(f64),
+    Cosine(f64),
+    CosineBits(f64),
+    /// Of a right ascension and a declination.
+    Vector(f64, f64),
     /// The roll with the Sun there.
     RollOf([f64; 3]),
     /// The mark at roll 0 with the Sun there and this tolerance.
@@ -81,6 +87,38 @@ pub const EXAMPLES: [(Asked, &str); 29] = [
     (Expansion((10, 20), &[20, 0, 10, 30, 10]), "10101"),
 ];
 
+pub const REQUEST_ONE: [(Asked, &str); 26] = [
+    (Vector(0.0, 0.0), "1 0 0"),
+    (Vector(90.0, 0.0), "-0 1 0"),
+    (Vector(180.0, 0.0), "-1 -0 0"),
+    (Vector(270.0, 0.0), "0 -1 0"),
+    (Vector(360.0, 0.0), "1 0 0"),
+    (Vector(0.0, 90.0), "-0 -0 1"),
+    (Vector(180.0, -90.0), "0 0 -1"),
+    // -0 is within the ranges and not below 0; a degree of 28 of the smallest steps is 0 in radians, and a negative one -0.
+    (Vector(-0.0, -0.0), "1 0 0"),
+    (Vector(28.0 * 5e-324, -28.0 * 5e-324), "1 0 0"),
+    // 45 degrees are P/4, which is not below itself.
+    (SineBits(P / 4.0), "3fe6a09e667f3bcc"),
+    (CosineBits(P / 4.0), "3fe6a09e667f3bcd"),
+    (SineBits(3.0 * P / 4.0), "3fe6a09e667f3bcd"),
+    (CosineBits(3.0 * P / 4.0), "bfe6a09e667f3bcc"),
+    (SineBits(7.0 * P / 4.0), "bfe6a09e667f3bcd"),
+    (CosineBits(7.0 * P / 4.0), "3fe6a09e667f3bcc"),
+    (SineBits(-P / 4.0), "bfe6a09e667f3bcc"),
+    (CosineBits(-P / 4.0), "3fe6a09e667f3bcd"),
+    (Sine(-0.0), "0"),
+    (Sine(-P / 2.0), "-1"),
+    (Cosine(-P / 2.0), "-0"),
+    // Every number has an answer, by the rule alone.
+    (Sine(f64::NAN), "NaN"),
+    (Cosine(f64::NAN), "NaN"),
+    (Sine(f64::INFINITY), "inf"),
+    (Cosine(f64::INFINITY), "inf"),
+    (Sine(f64::NEG_INFINITY), "-inf"),
+    (Cosine(f64::NEG_INFINITY), "inf"),
+];
+
 /// The examples' target and panel, with a Sun a time, seen from 0; n is 1.
 pub fn plan(suns: &[[f64; 3]], tolerance_deg: f64) -> Plan {
     Plan {
@@ -113,6 +151,10 @@ pub fn windows(list: &[Window]) -> String {
     list.iter().map(shown).collect::<Vec<_>>().join(" ")
 }
 
+pub fn vector(v: &[f64]) -> String {
+    v.iter().map(|x| x.to_string()).collect::<Vec<_>>().join(" ")
+}
+
 pub fn roll(optimal: Optimal) -> String {
     match optimal {
         Optimal::Free => "Free".to_string(),
@@ -127,6 +169,11 @@ pub fn answer(calls: &dyn Calls, asked: Asked) -> Answer<String> {
         Root(x) => calls.root(x).to_string(),
         RootBits(x) => format!("{:016x}", bits(calls.root(x))),
         ArctangentBits(y, z) => format!("{:016x}", bits(calls.arctangent(y, z))),
+        Sine(r) => calls.sine(r).to_string(),
+        SineBits(r) => format!("{:016x}", bits(calls.sine(r))),
+        Cosine(r) => calls.cosine(r).to_string(),
+        CosineBits(r) => format!("{:016x}", bits(calls.cosine(r))),
+        Vector(ra, dec) => vector(&calls.radec_to_unit_vectors_batch(&[ra], &[dec], 3)?),
         RollOf(sun) => roll(calls.cell([1.0, 0.0, 0.0], sun, [0.0; 3], [0.0, 1.0, 0.0])?),
         Mark(sun, tolerance) => marks(&calls.in_constraint_batch_at_roll(&plan(&[sun], tolerance), Roll::Sweep(0.0), 1)?),
         Violations(marks) => {
@@ -150,13 +197,15 @@ pub fn answer(calls: &dyn Calls, asked: Asked) -> Answer<String> {
 /// Holds an implementation's answers against the printed ones: how many differ.
 pub fn run(who: &str, answer: impl Fn(Asked) -> Answer<String>) -> usize {
     let mut differ = 0;
-    for (asked, printed) in EXAMPLES {
-        let said = answer(asked);
-        if said.as_deref() != Ok(printed) {
-            println!("DIFFERS {asked:?}: document 01 {printed:?}, {who} {said:?}");
-            differ += 1;
+    for (source, list) in [("document 01", &EXAMPLES[..]), ("request One", &REQUEST_ONE)] {
+        for &(asked, printed) in list {
+            let said = answer(asked);
+            if said.as_deref() != Ok(printed) {
+                println!("DIFFERS {asked:?}: {source} {printed:?}, {who} {said:?}");
+                differ += 1;
+            }
         }
     }
-    println!("examples: {} of document 01, {differ} differ in {who}", EXAMPLES.len());
+    println!("examples: {} of document 01, {} of request One, {differ} differ in {who}", EXAMPLES.len(), REQUEST_ONE.len());
     differ
 }

@@ -1,5 +1,5 @@
 //! The calls as one trait, so that the library and the plain model can be asked the same: `Library` calls the C names, `Model` is
-//! document 01 in plain Rust.
+//! document 01, and document 02's request One, in plain Rust.
 pub mod examples;
 mod library;
 
@@ -14,7 +14,10 @@ use std::ops::Range;
 pub trait Calls {
     fn root(&self, x: f64) -> f64;
     fn arctangent(&self, y: f64, z: f64) -> f64;
+    fn sine(&self, r: f64) -> f64;
+    fn cosine(&self, r: f64) -> f64;
     fn difference(&self, a: f64, b: f64) -> f64;
+    fn radec_to_unit_vectors_batch(&self, ra: &[f64], dec: &[f64], lent: usize) -> Answer<Vec<f64>>;
     fn cell(&self, target: [f64; 3], sun: [f64; 3], observer: [f64; 3], panel: [f64; 3]) -> Answer<Optimal>;
     fn named_values(&self, plan: &Plan, lent: usize) -> Answer<Vec<f64>>;
     fn in_constraint_batch(&self, plan: &Plan, lent: usize) -> Answer<Vec<u8>>;
@@ -46,8 +49,17 @@ impl Calls for Model {
     fn arctangent(&self, y: f64, z: f64) -> f64 {
         model::arithmetic::arctangent(y, z)
     }
+    fn sine(&self, r: f64) -> f64 {
+        model::arithmetic::sin_cos(r).0
+    }
+    fn cosine(&self, r: f64) -> f64 {
+        model::arithmetic::sin_cos(r).1
+    }
     fn difference(&self, a: f64, b: f64) -> f64 {
         model::roll::difference(a, b)
+    }
+    fn radec_to_unit_vectors_batch(&self, ra: &[f64], dec: &[f64], lent: usize) -> Answer<Vec<f64>> {
+        model::catalogue::radec_to_unit_vectors_batch(ra, dec, lent)
     }
     fn cell(&self, target: [f64; 3], sun: [f64; 3], observer: [f64; 3], panel: [f64; 3]) -> Answer<Optimal> {
         model::roll::cell(target, sun, observer, panel)

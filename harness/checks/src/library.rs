@@ -153,8 +153,17 @@ impl Calls for Library {
     fn arctangent(&self, y: f64, z: f64) -> f64 {
         wilfnusk::atan2(y, z)
     }
+    fn sine(&self, r: f64) -> f64 {
+        wilfnusk::sin(r)
+    }
+    fn cosine(&self, r: f64) -> f64 {
+        wilfnusk::cos(r)
+    }
     fn difference(&self, a: f64, b: f64) -> f64 {
         wilfnusk::circular_diff_deg(a, b)
+    }
+    fn radec_to_unit_vectors_batch(&self, ra: &[f64], dec: &[f64], room: usize) -> Answer<Vec<f64>> {
+        output(room, FLOAT, 3 * ra.len(), |out| wilfnusk::radec_to_unit_vectors_batch(ra, dec, out))
     }
     fn cell(&self, target: [f64; 3], sun: [f64; 3], observer: [f64; 3], panel: [f64; 3]) -> Answer<Optimal> {
         let answer = match wilfnusk::cell(target, sun, observer, panel) {

@@ -1,5 +1,6 @@
-//! Document 01's examples against the customer's Rust. What it does not have, root, arctangent, header and recovery, is the plain model's.
-use checks::examples::{self, journal_plan, marks, plan, roll, row, windows, Asked, Asked::*};
+//! The examples of document 01 and of request One against the customer's Rust. What it does not have, root, arctangent, sine, cosine, header
+//! and recovery, is the plain model's.
+use checks::examples::{self, journal_plan, marks, plan, roll, row, vector, windows, Asked, Asked::*};
 use checks::Model;
 use model::{Answer, Optimal, Roll};
 use oracle::Oracle;
@@ -7,6 +8,7 @@ use oracle::Oracle;
 fn answer(asked: Asked) -> Answer<String> {
     Ok(match asked {
         Difference(a, b) => oracle::circular_diff_deg(a, b).to_string(),
+        Vector(ra, dec) => vector(&oracle::radec_to_unit(ra, dec)),
         RollOf(sun) => {
             let o = Oracle::new(&plan(&[sun], 0.0), &[0]);
             roll(if o.not_free()[0] == 1 { Optimal::At(o.named_values()[0]) } else { Optimal::Free })
@@ -30,7 +32,9 @@ fn answer(asked: Asked) -> Answer<String> {
             let (mask, tried) = Oracle::new(&journal_plan(), &[0, 1]).sweep();
             format!("{} {}", marks(&mask), tried.iter().sum::<u64>())
         }
-        Root(_) | RootBits(_) | ArctangentBits(..) | Recovered(_) => return examples::answer(&Model, asked),
+        Root(_) | RootBits(_) | ArctangentBits(..) | Sine(_) | SineBits(_) | Cosine(_) | CosineBits(_) | Recovered(_) => {
+            return examples::answer(&Model, asked);
+        }
     })
 }
 

@@ -16,6 +16,8 @@ pub fn run(calls: &dyn Calls, t: &mut Tally) {
     refused(calls, t);
     arctangent(calls, t);
     field_of_regard(calls, t);
+    sine_and_cosine(calls, t);
+    position_refused(calls, t);
     nanoseconds(calls, t);
     every_roll(calls, t);
 }
@@ -52,9 +54,38 @@ fn field_of_regard(calls: &dyn Calls, t: &mut Tally) {
         ("3: field of regard, unit target", plan([0.0, 0.8, 0.6], [0.0, 0.6, 0.8], 90.0, Some(180.0))),
         ("3: field of regard, short target", plan([0.5, 0.5, 0.0], [0.0, 0.6, 0.8], 10.0, Some(45.0))),
     ] {
-        let theirs = patch::without(&patch::VECTORS, || Oracle::new(&p, &[0]).field_of_regard_violated_at_roll(0, 0.0));
+        // Of the original as it is, with its own sine and cosine.
+        let asked = || Oracle::new(&p, &[0]).field_of_regard_violated_at_roll(0, 0.0);
+        let theirs = patch::without(&patch::TRIG, || patch::without(&patch::VECTORS, asked));
         t.known(what, (calls.field_of_regard_violated_at_roll(&p, 0, 0.0, 1), theirs), (Ok(vec![0]), vec![1]));
     }
+}
+
+/// A quarter turn, and a tolerance met exactly by the vector that document 02's rule gives and missed by the C library's.
+fn sine_and_cosine(calls: &dyn Calls, t: &mut Tally) {
+    let bits_of = |v: &[f64]| v.iter().map(|&x| bits(x)).collect::<Vec<u64>>();
+    let position = (&[90.0][..], &[0.0][..]);
+    let ours = calls.radec_to_unit_vectors_batch(position.0, position.1, 3);
+    let listed = (Ok(bits_of(&[-0.0, 1.0, 0.0])), bits_of(&[6.123233995736766e-17, 1.0, 0.0]));
+    for what in ["4: vector of (90, 0), radec_to_unit", "4: vector of (90, 0), batch"] {
+        let theirs = patch::without(&patch::TRIG, || match what.ends_with("batch") {
+            true => oracle::radec_to_unit_vectors_batch(position.0, position.1).iter().copied().collect(),
+            false => oracle::radec_to_unit(90.0, 0.0).to_vec(),
+        });
+        t.known(what, (ours.clone().map(|v| bits_of(&v)), bits_of(&theirs)), listed.clone());
+    }
+    let Ok(Ok(target)) = ours.map(<[f64; 3]>::try_from) else { return };
+    let p = plan(target, [-1.0, -2.0, -2.0], f64::from_bits(0x404f_b7ac_672c_f11e), Some(0.0));
+    let theirs = patch::without(&patch::TRIG, || Oracle::new(&p, &[0]).at_positions(position).in_constraint_batch());
+    t.known("4: mark of (90, 0)", (calls.in_constraint_batch(&p, 1), theirs), (Ok(vec![0]), vec![1]));
+}
+
+/// A right ascension below 0, which is 270 to the original.
+fn position_refused(calls: &dyn Calls, t: &mut Tally) {
+    let ours = calls.radec_to_unit_vectors_batch(&[-90.0], &[0.0], 3);
+    let ours = ours.map(|v| v.into_iter().map(bits).collect());
+    let theirs = oracle::radec_to_unit(-90.0, 0.0).map(bits).to_vec();
+    t.known("5: a right ascension of -90", (ours, theirs), (Err(16), [-0.0, -1.0, 0.0].map(bits).to_vec()));
 }
 
 /// One clear sample at 1 ns, and at -1 ns.
@@ -63,7 +94,7 @@ fn nanoseconds(calls: &dyn Calls, t: &mut Tally) {
         let ours = calls.visibility_windows(&[0], &[time], [1; 6]).map(|l| l.iter().map(|w| w.first_time).collect());
         let theirs = patch::without(&patch::NANOSECONDS, || oracle::visibility_windows(&[0], &[time]));
         let theirs = theirs.iter().map(|w| w.first_time).collect();
-        t.known("4: nanoseconds", (ours, theirs), (Ok(vec![time]), vec![read_back]));
+        t.known("6: nanoseconds", (ours, theirs), (Ok(vec![time]), vec![read_back]));
     }
 }
 

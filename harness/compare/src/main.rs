@@ -1,6 +1,7 @@
 //! Same inputs to the library and to the customer's Rust, every result compared.
 //!
 //! `compare [model] [FACTOR]`: FACTOR times as many inputs; `model` compares the plain model in the library's place.
+mod catalogue;
 mod examples;
 mod findings;
 mod plans;
@@ -22,8 +23,13 @@ fn main() {
     plans::run(calls, &mut tally, factor);
     let plans = start.elapsed();
     rows::run(calls, &mut tally, factor);
-    let good = tally.report();
-    println!("{:.1} s for plans, {:.1} s for rows", plans.as_secs_f64(), (start.elapsed() - plans).as_secs_f64());
+    let rows = start.elapsed() - plans;
+    let mut positions = Tally::default();
+    catalogue::run(calls, &mut positions, factor);
+    let catalogue = start.elapsed() - plans - rows;
+    let good = [tally.report(), positions.report_catalogue()] == [true; 2];
+    let [plans, rows, catalogue] = [plans, rows, catalogue].map(|t| t.as_secs_f64());
+    println!("{plans:.1} s for plans, {rows:.1} s for rows, {catalogue:.1} s for catalogue positions");
     if !good || examples > 0 {
         exit(1);
     }

@@ -7,6 +7,9 @@ use model::journal::HEADER;
 use model::{Optimal, Plan, Roll};
 use oracle::Oracle;
 
+/// Right ascensions and declinations in degrees.
+pub type Positions<'a> = (&'a [f64], &'a [f64]);
+
 /// The original, asked row by row and by one evaluator for all rows, as its users ask it; that one goes through the original's own chunks of
 /// 65,536 cells. While a plan has one tolerance and one panel, both say the same.
 struct Original<'a> {
@@ -16,8 +19,13 @@ struct Original<'a> {
 }
 
 impl Original<'_> {
-    fn new<'a>(plan: &'a Plan, instants: &[i64]) -> Original<'a> {
-        Original { plan, by_row: Oracle::new(plan, instants), whole: Oracle::whole(plan, instants) }
+    /// `told`: the targets' positions, where the original makes the vectors of them itself.
+    fn new<'a>(plan: &'a Plan, instants: &[i64], told: Option<Positions>) -> Original<'a> {
+        let at = |oracle: Oracle| match told {
+            Some(positions) => oracle.at_positions(positions),
+            None => oracle,
+        };
+        Original { plan, by_row: at(Oracle::new(plan, instants)), whole: at(Oracle::whole(plan, instants)) }
     }
     fn says<T: Shape>(&self, t: &mut Tally, what: &str, answer: impl Fn(&Oracle) -> T) -> T {
         let (by_row, whole) = (answer(&self.by_row), answer(&self.whole));
@@ -36,15 +44,15 @@ pub fn run(calls: &dyn Calls, t: &mut Tally, factor: u64) {
     differences(calls, t, &mut s, 300_000 * factor);
     // Plans beyond the Rust's own chunks of 65,536 cells, then many small ones.
     t.uncounted = true;
-    one(calls, t, &mut s, (301, 401), 3, Targets::Unit);
-    one(calls, t, &mut s, (65_536, 2), 1, Targets::Unit);
+    random(calls, t, &mut s, (301, 401), 3, Targets::Unit);
+    random(calls, t, &mut s, (65_536, 2), 1, Targets::Unit);
     if factor > 1 {
-        one(calls, t, &mut s, (1024, 1024), 8, Targets::Unit);
-        one(calls, t, &mut s, (16, 65_536), 2, Targets::Any);
+        random(calls, t, &mut s, (1024, 1024), 8, Targets::Unit);
+        random(calls, t, &mut s, (16, 65_536), 2, Targets::Any);
     }
     // Where work over a range changes how it works out the Sun's units: at 8,784 times.
     for (rows, times) in [(1, 8784), (2, 8784), (3, 8784), (1, 8785), (2, 8785), (3, 8785)] {
-        one(calls, t, &mut s, (rows, times), 1 + rows as u64, Targets::Unit);
+        random(calls, t, &mut s, (rows, times), 1 + rows as u64, Targets::Unit);
     }
     t.uncounted = false;
     while t.cells < 2_200_000 * factor {
@@ -53,7 +61,7 @@ pub fn run(calls: &dyn Calls, t: &mut Tally, factor: u64) {
         let rows = s.within(1, 40.min(most)) as usize;
         let times = s.within(1, most / rows as u64 + 1) as usize;
         let targets = if s.once_in(3) { Targets::Any } else { Targets::Unit };
-        one(calls, t, &mut s, (rows, times), n, targets);
+        random(calls, t, &mut s, (rows, times), n, targets);
     }
 }
 
@@ -65,9 +73,14 @@ fn differences(calls: &dyn Calls, t: &mut Tally, s: &mut Seeded, count: u64) {
     }
 }
 
+fn random(calls: &dyn Calls, t: &mut Tally, s: &mut Seeded, (rows, times): (usize, usize), n: u64, targets: Targets) {
+    let p = plan(s, targets, rows, times);
+    one(calls, t, s, p, n, None);
+}
+
 /// One geometry: first with settings for sweeps of n rolls, then with settings for marks at one roll.
-fn one(calls: &dyn Calls, t: &mut Tally, s: &mut Seeded, (rows, times): (usize, usize), n: u64, targets: Targets) {
-    let mut p = plan(s, targets, rows, times);
+pub fn one(calls: &dyn Calls, t: &mut Tally, s: &mut Seeded, mut p: Plan, n: u64, told: Option<Positions>) {
+    let (rows, times) = (p.rows(), p.times());
     let instants = rows::times(s, times);
     let cells = p.cells();
     let room = cells + s.index(3);
@@ -76,7 +89,7 @@ fn one(calls: &dyn Calls, t: &mut Tally, s: &mut Seeded, (rows, times): (usize, 
     for_sweep(s, &mut p, n);
     t.plans += 1;
     t.telling += (p.roll_deg.is_some() || (0..rows).any(|i| p.tolerance(i) < 180.0 / n as f64)) as u64;
-    let o = Original::new(&p, &instants);
+    let o = Original::new(&p, &instants, told);
     let shown = || format!("{p:?}");
     rolls(calls, t, &p, &o, room);
     let swept = o.says(t, "sweep", Oracle::sweep);
@@ -100,7 +113,7 @@ fn one(calls: &dyn Calls, t: &mut Tally, s: &mut Seeded, (rows, times): (usize, 
 
     p.roll_deg = if s.once_in(4) { None } else { Some(roll(s, &p)) };
     for_roll(s, &mut p);
-    let o = Original::new(&p, &instants);
+    let o = Original::new(&p, &instants, told);
     let asked = roll(s, &p);
     let shown = || format!("roll {asked:e} {p:?}");
     for (kind, roll) in [("at a sweep's roll", Roll::Sweep(asked)), ("at a fixed roll", Roll::Fixed(asked))] {

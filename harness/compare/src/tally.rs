@@ -20,6 +20,8 @@ pub struct Tally {
     pub cells: u64,
     pub masks: u64,
     pub plans: u64,
+    /// Catalogue positions.
+    pub positions: u64,
     /// Plans whose tolerance is below 180 / n or that have a configured roll.
     pub telling: u64,
     /// Marks are not counted: one large plan would outweigh all others.
@@ -53,6 +55,12 @@ impl Shape for i64 {
     type Bits = i64;
     fn shape(&self) -> i64 {
         *self
+    }
+}
+impl Shape for [f64; 3] {
+    type Bits = [u64; 3];
+    fn shape(&self) -> [u64; 3] {
+        self.map(bits)
     }
 }
 impl<A: Shape, B: Shape> Shape for (A, B) {
@@ -111,10 +119,10 @@ impl Tally {
         }
         self.same(kind, ours, theirs, input)
     }
-    /// Prints the counts; false where something differs or too little was tried.
-    pub fn report(&self) -> bool {
+    /// Prints the counts and what is demanded of them in vain; false where something differs or is so.
+    fn table(&self, demanded: &[(bool, String)]) -> bool {
         let mut good = true;
-        let mut fail = |text: String| {
+        let mut fail = |text: &str| {
             println!("FAILED {text}");
             good = false;
         };
@@ -122,28 +130,45 @@ impl Tally {
         for (name, k) in &self.kinds {
             println!("{name:<38} {:>10} {:>11} {:>11} {:>8}", k.answers, k.marked, k.clear, k.differ);
             if k.differ > 0 {
-                fail(format!("{name}: {} of {} differ", k.differ, k.answers));
+                fail(&format!("{name}: {} of {} differ", k.differ, k.answers));
             }
             let all = k.marked + k.clear;
             if all > 0 && k.marked.min(k.clear) < all / 4 {
-                fail(format!("{name}: fewer than a quarter of the cells are {}", if k.marked < k.clear { "marked" } else { "clear" }));
+                fail(&format!("{name}: fewer than a quarter of the cells are {}", if k.marked < k.clear { "marked" } else { "clear" }));
             }
         }
+        for (_, text) in demanded.iter().filter(|(holds, _)| !holds) {
+            fail(text);
+        }
+        good
+    }
+    /// Of plans and rows.
+    pub fn report(&self) -> bool {
+        let mut demanded = vec![
+            (self.cells >= 2_000_000 && self.masks >= 1_000_000, "fewer than 2,000,000 cells or 1,000,000 masks".to_string()),
+            (
+                self.telling >= self.plans / 2,
+                "fewer than half of the plans have a tolerance below 180 / n or a configured roll".to_string(),
+            ),
+        ];
+        for name in RANGES {
+            demanded.push((self.kinds.get(name).map_or(0, |k| k.answers) >= 20, format!("fewer than 20 of {name}")));
+        }
+        let good = self.table(&demanded);
         println!(
             "{} cells of {} plans ({} with a tolerance below 180 / n or a configured roll), {} masks of rows",
             self.cells, self.plans, self.telling, self.masks
         );
-        if self.cells < 2_000_000 || self.masks < 1_000_000 {
-            fail("fewer than 2,000,000 cells or 1,000,000 masks".to_string());
-        }
-        for name in RANGES {
-            if self.kinds.get(name).map_or(0, |k| k.answers) < 20 {
-                fail(format!("fewer than 20 of {name}"));
-            }
-        }
-        if self.telling < self.plans / 2 {
-            fail("fewer than half of the plans have a tolerance below 180 / n or a configured roll".to_string());
-        }
+        good
+    }
+    /// Of catalogue positions, and of plans whose targets they are.
+    pub fn report_catalogue(&self) -> bool {
+        println!();
+        let good = self.table(&[
+            (self.positions >= 1_000_000, "fewer than 1,000,000 positions".to_string()),
+            (self.cells >= 200_000, "fewer than 200,000 cells with targets by their positions".to_string()),
+        ]);
+        println!("{} catalogue positions, {} cells of {} plans with targets by their positions", self.positions, self.cells, self.plans);
         good
     }
 }

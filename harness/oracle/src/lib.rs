@@ -8,7 +8,7 @@ pub use constraints::core::EvaluationRoll;
 use constraints::core::*;
 use constraints::roll_sweep::{self, PreparedRollEvaluator};
 pub use constraints::solar_roll::circular_diff_deg;
-use constraints::solar_roll::SolarRollConfig;
+use constraints::solar_roll::{self, SolarRollConfig};
 use ephemeris::ephemeris_common::{EphemerisBase, EphemerisData};
 use model::windows::Window;
 use model::Plan;
@@ -17,6 +17,7 @@ use pyo3::prelude::*;
 use std::cell::{Cell, RefCell};
 use std::ops::Range;
 use std::rc::Rc;
+use utils::vector_math;
 
 struct Ephemeris(EphemerisData);
 
@@ -77,6 +78,18 @@ impl Oracle {
         let row = |i| Whole::of(plan, i..i + 1, (plan.tolerance(i), plan.panel(i)), ephemeris.clone());
         Oracle((0..plan.rows()).map(row).collect())
     }
+    /// The same with its targets told by their catalogue positions, of which the original makes the vectors itself. Both fields of regard are
+    /// still handed the plan's vectors.
+    pub fn at_positions(self, (ra, dec): (&[f64], &[f64])) -> Oracle {
+        let mut first = 0;
+        let told = |mut part: Whole| {
+            let rows = first..first + part.vectors.len();
+            first = rows.end;
+            (part.ras, part.decs, part.degrees) = (ra[rows.clone()].to_vec(), dec[rows].to_vec(), true);
+            part
+        };
+        Oracle(self.0.into_iter().map(told).collect())
+    }
     /// One evaluator for all rows, which goes through the original's own chunks of 65,536 cells.
     pub fn whole(plan: &Plan, times: &[i64]) -> Oracle {
         Oracle(vec![Whole::new(plan, times)])
@@ -134,6 +147,8 @@ pub struct Whole {
     vectors: Vec<[f64; 3]>,
     ras: Vec<f64>,
     decs: Vec<f64>,
+    /// Right ascensions and declinations are degrees; else a right ascension is the number of a vector.
+    degrees: bool,
     times: usize,
     n: u64,
 }
@@ -151,6 +166,7 @@ impl Whole {
             config,
             ras: (0..rows.len()).map(|k| k as f64).collect(),
             decs: vec![0.0; rows.len()],
+            degrees: false,
             vectors: rows.map(|i| plan.target(i)).collect(),
             times: plan.times(),
             n: plan.even_n(),
@@ -159,23 +175,28 @@ impl Whole {
     fn targets(&self) -> Array2<f64> {
         array(&self.vectors.concat())
     }
+    /// What the original answers, told its targets as they are to be told.
+    fn told<A>(&self, answer: impl FnOnce() -> A) -> A {
+        if self.degrees {
+            return patch::without(&patch::VECTORS, answer);
+        }
+        patch::lend(&self.vectors);
+        answer()
+    }
     /// As the original hands it over, like the two below: harness/bench times these three.
     pub fn named_array(&self) -> Array2<f64> {
-        patch::lend(&self.vectors);
-        let mut named = self.evaluator.compute_named_values(&*self.ephemeris, &self.ras, &self.decs, None).unwrap();
+        let mut named = self.told(|| self.evaluator.compute_named_values(&*self.ephemeris, &self.ras, &self.decs, None).unwrap());
         named.remove("solar_optimal_roll_deg").unwrap()
     }
     pub fn array_at_roll(&self, roll: model::Roll) -> Array2<bool> {
-        patch::lend(&self.vectors);
         let roll = match roll {
             model::Roll::Sweep(r) => EvaluationRoll::Sweep(r),
             model::Roll::Fixed(r) => EvaluationRoll::Fixed(r),
         };
-        self.evaluator.in_constraint_batch_at_roll(&*self.ephemeris, &self.ras, &self.decs, None, roll).unwrap()
+        self.told(|| self.evaluator.in_constraint_batch_at_roll(&*self.ephemeris, &self.ras, &self.decs, None, roll).unwrap())
     }
     /// `sweep_chunks` from a mask all true, and the cells tried, counted once a roll and prepared chunk.
     pub fn swept_array(&self) -> (Array2<bool>, u64) {
-        patch::lend(&self.vectors);
         let mut mask = Array2::from_elem((self.vectors.len(), self.times), true);
         let tried = Rc::new(Cell::new(0));
         let prepare = |cells: &[roll_sweep::RollCell]| {
@@ -186,22 +207,21 @@ impl Whole {
                 inner.evaluate(cells, roll)
             }))
         };
-        roll_sweep::sweep_chunks(&mut mask, true, self.n as usize, prepare).unwrap();
+        self.told(|| roll_sweep::sweep_chunks(&mut mask, true, self.n as usize, prepare).unwrap());
         (mask, tried.get())
     }
     /// 1 where a cell is not Free: a tolerance below 0 violates every such cell.
     fn not_free(&self) -> Vec<u8> {
-        patch::lend(&self.vectors);
         let e = SolarRollConfig { tolerance_deg: -1.0, roll_deg: None, ..self.config.clone() }.to_evaluator();
-        bytes(&e.in_constraint_batch_at_roll(&*self.ephemeris, &self.ras, &self.decs, None, EvaluationRoll::Fixed(0.0)).unwrap())
+        let roll = EvaluationRoll::Fixed(0.0);
+        bytes(&self.told(|| e.in_constraint_batch_at_roll(&*self.ephemeris, &self.ras, &self.decs, None, roll).unwrap()))
     }
     fn in_constraint_batch(&self) -> Vec<u8> {
-        patch::lend(&self.vectors);
-        bytes(&self.evaluator.in_constraint_batch(&*self.ephemeris, &self.ras, &self.decs, None).unwrap())
+        bytes(&self.told(|| self.evaluator.in_constraint_batch(&*self.ephemeris, &self.ras, &self.decs, None).unwrap()))
     }
     fn constrained_at_every_roll(&self, n: u64) -> Vec<u8> {
-        patch::lend(&self.vectors);
-        let mask = self.evaluator.in_constraint_batch_constrained_at_every_roll(&*self.ephemeris, &self.ras, &self.decs, None, n as usize);
+        let (e, n) = (&*self.ephemeris, n as usize);
+        let mask = self.told(|| self.evaluator.in_constraint_batch_constrained_at_every_roll(e, &self.ras, &self.decs, None, n));
         bytes(&mask.unwrap())
     }
     fn field_of_regard_violated_batch(&self, time: usize, n: u64) -> Vec<u8> {
@@ -214,7 +234,6 @@ impl Whole {
     }
     /// The mask of `sweep_chunks` from a mask all true, and how often each cell is tried: counted around the prepared evaluator.
     fn sweep(&self) -> (Vec<u8>, Vec<u64>) {
-        patch::lend(&self.vectors);
         let times = self.times;
         let mut mask = Array2::from_elem((self.vectors.len(), times), true);
         let tried = Rc::new(RefCell::new(vec![0; mask.len()]));
@@ -229,26 +248,43 @@ impl Whole {
                 inner.evaluate(cells, roll)
             }))
         };
-        roll_sweep::sweep_chunks(&mut mask, true, self.n as usize, prepare).unwrap();
+        self.told(|| roll_sweep::sweep_chunks(&mut mask, true, self.n as usize, prepare).unwrap());
         let tried = tried.take();
         (bytes(&mask), tried)
     }
     /// Mask and severities of `evaluate`: one sample at a time, as its result gives severities by window only.
     fn row(&self, row: usize) -> (Vec<u8>, Vec<f64>) {
-        patch::lend(&self.vectors);
         let sample = |j: usize| {
-            let result = self.evaluator.evaluate(&*self.ephemeris, row as f64, 0.0, Some(&[j])).unwrap();
+            let result = self.evaluator.evaluate(&*self.ephemeris, self.ras[row], self.decs[row], Some(&[j])).unwrap();
             result.violations.first().map_or((0, 0.0), |v| (1, v.max_severity))
         };
-        (0..self.times).map(sample).unzip()
+        self.told(|| (0..self.times).map(sample).unzip())
     }
     /// The windows of `evaluate` over the whole row: first and last time, severity.
     fn row_windows(&self, row: usize) -> Vec<(i64, i64, f64)> {
-        patch::lend(&self.vectors);
-        let result = self.evaluator.evaluate(&*self.ephemeris, row as f64, 0.0, None).unwrap();
+        let result = self.told(|| self.evaluator.evaluate(&*self.ephemeris, self.ras[row], self.decs[row], None).unwrap());
         let window = |v: &ConstraintViolation| (nanoseconds(&v.start_time_internal), nanoseconds(&v.end_time_internal), v.max_severity);
         result.violations.iter().map(window).collect()
     }
+}
+
+/// Of solar_roll.rs.
+pub fn radec_to_unit(ra: f64, dec: f64) -> [f64; 3] {
+    patch::without(&patch::VECTORS, || solar_roll::radec_to_unit(ra, dec))
+}
+
+/// The same for one position after the other.
+pub fn units(ra: &[f64], dec: &[f64], out: &mut [[f64; 3]]) {
+    patch::without(&patch::VECTORS, || {
+        for ((&ra, &dec), out) in ra.iter().zip(dec).zip(out) {
+            *out = solar_roll::radec_to_unit(ra, dec);
+        }
+    })
+}
+
+/// Of vector_math.rs, as the original hands it over: a row a position.
+pub fn radec_to_unit_vectors_batch(ra: &[f64], dec: &[f64]) -> Array2<f64> {
+    patch::without(&patch::VECTORS, || vector_math::radec_to_unit_vectors_batch(ra, dec))
 }
 
 fn tracked(mask: &[u8], severities: &[f64], times: &[i64]) -> Vec<ConstraintViolation> {

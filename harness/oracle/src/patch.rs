@@ -6,16 +6,18 @@ use std::sync::atomic::{AtomicBool, Ordering::Relaxed};
 
 /// Section 1's arctangent instead of the C library's.
 pub static ATAN2: AtomicBool = AtomicBool::new(true);
+/// Document 02's sine and cosine instead of the C library's.
+pub static TRIG: AtomicBool = AtomicBool::new(true);
 /// Vectors handed over instead of right ascension and declination.
 pub static VECTORS: AtomicBool = AtomicBool::new(true);
 /// Whole instants instead of Python datetimes, which hold microseconds.
 pub static NANOSECONDS: AtomicBool = AtomicBool::new(true);
 
-/// The answer with a patch switched off.
+/// The answer with a patch switched off; afterwards it is as it was.
 pub fn without<A>(patch: &AtomicBool, answer: impl FnOnce() -> A) -> A {
-    patch.store(false, Relaxed);
+    let before = patch.swap(false, Relaxed);
     let a = answer();
-    patch.store(true, Relaxed);
+    patch.store(before, Relaxed);
     a
 }
 
@@ -60,5 +62,38 @@ pub fn atan2(y: f64, z: f64) -> f64 {
         model::arithmetic::arctangent(y, z)
     } else {
         f64::atan2(y, z)
+    }
+}
+
+pub trait Trig {
+    fn patched_sin(self) -> f64;
+    fn patched_cos(self) -> f64;
+    fn patched_sin_cos(self) -> (f64, f64);
+}
+
+impl Trig for f64 {
+    #[inline]
+    fn patched_sin(self) -> f64 {
+        if TRIG.load(Relaxed) {
+            model::arithmetic::sin_cos(self).0
+        } else {
+            self.sin()
+        }
+    }
+    #[inline]
+    fn patched_cos(self) -> f64 {
+        if TRIG.load(Relaxed) {
+            model::arithmetic::sin_cos(self).1
+        } else {
+            self.cos()
+        }
+    }
+    #[inline]
+    fn patched_sin_cos(self) -> (f64, f64) {
+        if TRIG.load(Relaxed) {
+            model::arithmetic::sin_cos(self)
+        } else {
+            self.sin_cos()
+        }
     }
 }

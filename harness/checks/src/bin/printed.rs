@@ -1,4 +1,4 @@
-//! Document 01's examples, printed answer by answer, against the library and against document 01 in plain Rust.
+//! The examples of document 01 and of request One, printed answer by answer, against the library and against both in plain Rust.
 use checks::{examples, Library, Model};
 use std::process::exit;
 

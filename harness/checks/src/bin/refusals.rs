@@ -1,6 +1,7 @@
-//! What each call says no to, and in which order: faulty inputs, often several faults at once, against document 01 in plain Rust. That a
-//! refused call changes nothing, and an accepted one nothing beyond its answer, is looked at in every call.
+//! What each call says no to, and in which order: faulty inputs, often several faults at once, against the plain model. That a refused call
+//! changes nothing, and an accepted one nothing beyond its answer, is looked at in every call.
 //! `refusals [FACTOR]` multiplies the number of inputs.
+use cases::catalogue::{positions, DEC, RA};
 use cases::{plans, rows, Seeded};
 use checks::{lent, work_range, Calls, Library, Model};
 use model::journal::{Sweep, HEADER, LINE};
@@ -29,8 +30,9 @@ impl Tally {
 }
 
 /// The numbers that each call lists.
-const LISTED: [(&str, &[u8]); 19] = [
+const LISTED: [(&str, &[u8]); 20] = [
     ("cell", &[0, 4, 5, 6]),
+    ("catalogue", &[0, 1, 7, 16]),
     ("named values", &[0, 1, 2, 4, 5, 6, 7]),
     ("batch", &[0, 1, 2, 4, 5, 6, 7]),
     ("at a roll", &[0, 1, 2, 4, 5, 6, 7]),
@@ -254,6 +256,61 @@ fn of_cells(s: &mut Seeded, t: &mut Tally) {
     t.same("cell", answer(&Library), answer(&Model), &|| format!("{target:?} {sun:?} {observer:?} {panel:?}"));
 }
 
+/// Both sides' answer for these lists, which it gives.
+fn vectors(t: &mut Tally, ra: &[f64], dec: &[f64], lent: usize) -> Answer<Vec<u64>> {
+    let of = |c: &dyn Calls| floats(c.radec_to_unit_vectors_batch(ra, dec, lent));
+    let theirs = of(&Model);
+    let shown = || if ra.len() > 300 { format!("{} positions", ra.len()) } else { format!("{ra:?} {dec:?} {lent}") };
+    t.same("catalogue", of(&Library), theirs.clone(), &shown);
+    theirs
+}
+
+fn of_positions(s: &mut Seeded, t: &mut Tally) {
+    let count = if s.once_in(20) { s.index(300) } else { s.index(9) };
+    let (mut ra, mut dec) = positions(s, count);
+    resized(s, &mut ra);
+    resized(s, &mut dec);
+    if s.once_in(6) {
+        spoil(s, &mut ra, &RA.outside());
+    }
+    if s.once_in(6) {
+        spoil(s, &mut dec, &DEC.outside());
+    }
+    let lent = room(s, 3 * count);
+    let _ = vectors(t, &ra, &dec, lent);
+}
+
+/// Each end and each number outside, at each place of three; then two faults at once, the first of which decides.
+fn of_ends(t: &mut Tally) {
+    let said = |t: &mut Tally, ra: &[f64], dec: &[f64], lent: usize| vectors(t, ra, dec, lent).err().unwrap_or(0);
+    for k in 0..3 {
+        let with = |ra: f64, dec: f64| {
+            let (mut ras, mut decs) = ([10.0, 359.5, 200.0], [-89.5, 0.5, 60.0]);
+            (ras[k], decs[k]) = (ra, dec);
+            (ras, decs)
+        };
+        for (ra, dec) in [(0.0, 0.0), (-0.0, -0.0), (360.0, 90.0), (0.0, -90.0), (360.0, -90.0)] {
+            let (ras, decs) = with(ra, dec);
+            assert_eq!([9, 10, 8, 0].map(|lent| said(t, &ras, &decs, lent)), [0, 0, 7, 7], "{ras:?} {decs:?}");
+        }
+        let bad = RA.outside().map(|ra| (ra, 5.0)).into_iter().chain(DEC.outside().map(|dec| (5.0, dec)));
+        for (ra, dec) in bad {
+            let (ras, decs) = with(ra, dec);
+            assert_eq!([9, 8, 0].map(|lent| said(t, &ras, &decs, lent)), [16; 3], "{ras:?} {decs:?}");
+            assert_eq!([said(t, &ras, &decs[..2], 9), said(t, &ras[1..], &decs, 0)], [1; 2], "{ras:?} {decs:?}");
+        }
+    }
+    for (ras, decs) in [([f64::NAN, 1.0], [1.0, f64::NAN]), ([1.0, 361.0], [91.0, 1.0])] {
+        assert_eq!(said(t, &ras, &decs, 6), 16);
+    }
+    assert_eq!([said(t, &[], &[], 0), said(t, &[], &[], 4), said(t, &[], &[1.0], 0)], [0, 0, 1]);
+    // More than a plan takes, and no 2.
+    for count in [65_536, 65_537, 400_000] {
+        let (ra, dec) = (vec![123.0; count], vec![-45.0; count]);
+        assert_eq!([said(t, &ra, &dec, 3 * count), said(t, &ra, &dec, 3 * count - 1)], [0, 7]);
+    }
+}
+
 const LATE: [i64; 4] = [4_000_000_000_000_000_001, -4_000_000_000_000_000_001, i64::MAX, i64::MIN];
 
 fn spoil_times(s: &mut Seeded, times: &mut [i64]) {
@@ -325,7 +382,10 @@ fn main() {
     let factor: u64 = std::env::args().nth(1).map_or(1, |a| a.parse().expect("a whole number"));
     let mut s = Seeded::new(5);
     let mut t = Tally::default();
+    of_ends(&mut t);
+    let mut of_catalogue = Seeded::new(6);
     for _ in 0..60_000 * factor {
+        of_positions(&mut of_catalogue, &mut t);
         of_cells(&mut s, &mut t);
         of_plans(&mut s, &mut t);
         of_rows(&mut s, &mut t);
@@ -344,7 +404,7 @@ fn main() {
             }
         }
     }
-    println!("refusals: {asked} answers, {} differ from document 01 in plain Rust", t.differ);
+    println!("refusals: {asked} answers, {} differ from the plain model's", t.differ);
     if !good {
         exit(1);
     }

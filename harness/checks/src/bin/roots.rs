@@ -1,14 +1,15 @@
-//! The root against the machine's own, the arctangent against section 1's rule in plain Rust, and the root's time.
+//! The root against the machine's own, arctangent, sine and cosine against their rules in plain Rust, and the root's time.
 //! `roots [FACTOR]` multiplies the number of inputs.
+use cases::catalogue::{angle, beside};
 use cases::Seeded;
-use model::arithmetic::{arctangent, bits};
+use model::arithmetic::{arctangent, bits, sin_cos, P};
 use std::{hint::black_box, process::exit, time::Instant};
 
 #[derive(Default)]
 struct Tally {
     compared: u64,
     differ: u64,
-    /// The largest distance to the C library's arctangent.
+    /// The largest distance to the C library's answer; of sine and cosine within a turn.
     gap: f64,
 }
 
@@ -38,6 +39,18 @@ impl Tally {
                 bits(ours),
                 bits(rule)
             ));
+        }
+    }
+    /// Sine and cosine.
+    fn turn(&mut self, r: f64) {
+        self.compared += 1;
+        let (ours, rule) = ((wilfnusk::sin(r), wilfnusk::cos(r)), sin_cos(r));
+        if r.abs() <= 2.0 * P {
+            self.gap = self.gap.max((ours.0 - r.sin()).abs()).max((ours.1 - r.cos()).abs());
+        }
+        let both = |(sine, cosine)| [bits(sine), bits(cosine)];
+        if both(ours) != both(rule) {
+            self.say(format!("sine and cosine of {:016x}: {:016x?}, by the rule {:016x?}", r.to_bits(), both(ours), both(rule)));
         }
     }
     fn say(&mut self, text: String) {
@@ -128,6 +141,31 @@ fn angles(s: &mut Seeded, factor: u64) -> Tally {
     t
 }
 
+fn turns(s: &mut Seeded, factor: u64) -> Tally {
+    let mut t = Tally::default();
+    for b in SPECIAL {
+        t.turn(f64::from_bits(b));
+        t.turn(f64::from_bits(b | 1 << 63));
+    }
+    // Where the rule changes its part, and where it would if it went on.
+    for n in 0..=64 {
+        for steps in -3..=3 {
+            let r = beside(n as f64 * P / 4.0, steps);
+            t.turn(r);
+            t.turn(-r);
+        }
+    }
+    for _ in 0..1000 * factor {
+        for exponent in 0..2047u64 {
+            t.turn(f64::from_bits(s.below(2) << 63 | exponent << 52 | s.bits() >> 12));
+        }
+    }
+    for _ in 0..2_000_000 * factor {
+        t.turn(angle(s));
+    }
+    t
+}
+
 /// Nanoseconds a call: of blocks of inputs, each timed once, the quickest tenth, so that other work on the machine does not count.
 /// `wait`: each call waits for the result of the one before.
 fn time(inputs: &[f64], wait: bool, f: impl Fn(f64) -> f64) -> f64 {
@@ -150,14 +188,19 @@ fn main() {
     let factor = std::env::args().nth(1).map_or(1, |a| a.parse().expect("a whole number"));
     let mut s = Seeded::new(1);
     let (r, a) = (roots(&mut s, factor), angles(&mut s, factor));
+    let t = turns(&mut Seeded::new(2), factor);
     println!("roots: {} inputs, {} differ from the machine's", r.compared, r.differ);
     println!("arctangents: {} pairs, {} differ from the rule; at most {:e} from the C library's", a.compared, a.differ, a.gap);
+    let within = "within a turn at most";
+    println!("sines and cosines: {} angles, {} differ from the rule; {within} {:e} from the C library's", t.compared, t.differ, t.gap);
     let positive: Vec<f64> = (0..1 << 22).map(|_| f64::from_bits(s.below(0x7ff0_0000_0000_0000))).collect();
     for (kind, wait) in [("one by one", true), ("independent", false)] {
         let (ours, machine) = (time(&positive, wait, wilfnusk::sqrt), time(&positive, wait, f64::sqrt));
         println!("root of random positive doubles, {kind}: {ours:.1} ns, the machine's {machine:.1} ns, ratio {:.1}", ours / machine);
     }
-    if r.differ + a.differ > 0 || r.compared < 10_000_000 {
+    // The header says within 1e-15 of the true ones; the C library's are nearer to them than half of that.
+    let near = t.gap < 5e-16;
+    if r.differ + a.differ + t.differ > 0 || r.compared < 10_000_000 || !near {
         exit(1);
     }
 }

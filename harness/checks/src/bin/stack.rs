@@ -1,5 +1,6 @@
 //! How much stack each C name takes at its largest inputs, and that include/wilfnusk.h's promise holds: a thread with that much runs them all.
 //! `stack [KIB]` takes KIB for the promise: with too little, the thread overflows its stack, which ends the program.
+use cases::catalogue::positions;
 use cases::plans::direction;
 use checks::{lent, Lists};
 use model::plan::{is_unit, Rolls};
@@ -25,6 +26,8 @@ fn promised(text: &str) -> usize {
 
 /// The largest lists that the calls take.
 struct Inputs {
+    ra: Vec<f64>,
+    dec: Vec<f64>,
     targets: Vec<f64>,
     suns: Vec<f64>,
     observers: Vec<f64>,
@@ -47,8 +50,11 @@ impl Inputs {
         let mut s = cases::Seeded::new(6);
         let targets: Vec<[f64; 3]> = (0..SAMPLES).map(|_| direction(&mut s)).collect();
         assert!(targets.iter().all(|&v| is_unit(v)), "targets of length 1");
+        let (ra, dec) = positions(&mut s, SAMPLES);
         let mut numbers = |count: usize, size: f64| (0..3 * count).map(|_| s.between(-size, size)).collect::<Vec<f64>>();
         Inputs {
+            ra,
+            dec,
             targets: targets.concat(),
             suns: numbers(SAMPLES, 1.5e8),
             observers: numbers(SAMPLES, 7000.0),
@@ -75,6 +81,13 @@ fn each(i: &mut Inputs, run: &mut dyn FnMut(&'static str, &mut dyn FnMut())) {
             black_box(wilfnusk::atan2(black_box(y), black_box(z)));
         }
     });
+    for (name, call) in [("wilfnusk_sin", wilfnusk::sin as fn(f64) -> f64), ("wilfnusk_cos", wilfnusk::cos)] {
+        run(name, &mut || {
+            for r in [0.7, -2.0, 3.5, 5.0, -6.2, 1e300, f64::NAN] {
+                black_box(call(black_box(r)));
+            }
+        });
+    }
     run("wilfnusk_circular_diff_deg", &mut || {
         for (a, b) in [(350.0, 10.0), (1e300, -7.0), (f64::NAN, 0.0)] {
             black_box(wilfnusk::circular_diff_deg(black_box(a), black_box(b)));
@@ -84,6 +97,9 @@ fn each(i: &mut Inputs, run: &mut dyn FnMut(&'static str, &mut dyn FnMut())) {
         for (target, sun) in [([0.6, 0.0, 0.8], [3.0, 4.0, 5.0]), ([0.0, 0.0, 1.0], [3.0, 4.0, 5.0]), ([1.0, 0.0, 0.0], [7.0, 0.0, 0.0])] {
             black_box(wilfnusk::cell(target, sun, [0.0; 3], [0.1, 0.9, -0.3])).expect("accepted");
         }
+    });
+    run("wilfnusk_radec_to_unit_vectors_batch", &mut || {
+        wilfnusk::radec_to_unit_vectors_batch(&i.ra, &i.dec, &mut i.values).expect("accepted");
     });
     // The most targets, the most times, and the most times for which work_range holds the Sun's units in a table.
     for (rows, times, roll_deg) in [(65_536, 1, Some(33.0)), (16, 65_536, None), (119, 8784, None), (119, 8784, Some(33.0))] {

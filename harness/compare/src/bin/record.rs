@@ -1,12 +1,13 @@
-//! Writes a sample of the customer's Rust's answers for the program `replay`: one file a section of document 01, and the answers for targets
-//! that are no unit vectors in a file of their own. The seeds stand here, so every run writes the same files. At the repository's root, after
-//! `harness/run`, which builds it:
+//! Writes a sample of the customer's Rust's answers for the program `replay`: one file a section of document 01, the answers for targets that
+//! are no unit vectors in a file of their own, and catalogue positions in another. The seeds stand here, so every run writes the same files. At
+//! the repository's root, after `harness/run`, which builds it:
 //!
 //!     target/cargo/release/record crates/replay/data
 //!
-//! A line is words of hexadecimal digits, the first its kind. A line of kind 0 gives a plan or a row of samples. Each other line asks about
-//! what was given last: two words of what is asked (0 where nothing is), then the Rust's answer up to the line's end. A float is its bits (every
+//! A line is words of hexadecimal digits, the first its kind. A line of kind 0 gives a plan, a row of samples or positions. Each other line
+//! asks about what was given last: two words of what is asked (0 where nothing is), then the Rust's answer up to the line's end. A float is its bits (every
 //! NaN 7ff8000000000000), a time its 64 bits, a mask a word a sample.
+use cases::catalogue::{beside, positions};
 use cases::plans::{for_roll, for_sweep, plan, roll, samples, Targets};
 use cases::{rows, Seeded};
 use model::arithmetic::bits;
@@ -20,6 +21,7 @@ use std::{env, fs, path::Path};
 // roll, panel; targets, Suns, observers.
 // A row: samples, windows; the words at which the times begin, the severities, the windows' first times, their last times; mask, times,
 // severities, first times, last times.
+// Positions: how many, at most 12; the word at which the declinations begin; right ascensions, declinations.
 const GIVEN: u64 = 0;
 const DIFFERENCE: u64 = 1; // a, b: their difference
 const CELL: u64 = 2; // target, time: 0 where Free, else 1 and the roll
@@ -38,6 +40,7 @@ const EXPAND: u64 = 14; // mask, at times that never fall
 const EXPAND_REORDERED: u64 = 15; // mask, at other times
 const RESULT: u64 = 16; // how many visibility windows of `ConstraintResult`, each one's first and last time
 const SECONDS: u64 = 17; // the seconds
+const VECTORS: u64 = 18; // x, y, z of each position
 
 #[derive(Default)]
 struct File(String);
@@ -182,6 +185,37 @@ fn any_targets() -> File {
     File(a.0 + &b.0 + &c.0)
 }
 
+fn catalogue() -> File {
+    let mut f = File::default();
+    let mut asked = |list: &[(f64, f64)]| {
+        let (ra, dec): (Vec<f64>, Vec<f64>) = list.iter().copied().unzip();
+        let vectors: Vec<f64> = oracle::radec_to_unit_vectors_batch(&ra, &dec).iter().copied().collect();
+        assert!(list.len() <= 12, "the program has room for it");
+        f.given(&[&[ra.len() as u64, 3 + ra.len() as u64], &floats(&ra), &floats(&dec)]);
+        f.asked(VECTORS, [0, 0], &floats(&vectors));
+    };
+    // Eighths of a turn and the numbers beside them, as far as they are accepted.
+    let eighths = |low: i64, high: i64| (low..=high).flat_map(|k| [-1, 0, 1].map(|steps| beside(45.0 * k as f64, steps)));
+    let ras: Vec<f64> = eighths(0, 8).filter(|ra| (0.0..=360.0).contains(ra)).collect();
+    let decs: Vec<f64> = eighths(-2, 2).filter(|dec| (-90.0..=90.0).contains(dec)).collect();
+    let mut list: Vec<(f64, f64)> = ras.iter().map(|&ra| (ra, 0.0)).collect();
+    list.extend(decs.iter().map(|&dec| (0.0, dec)));
+    list.extend(ras.iter().zip(decs.iter().cycle()).map(|(&ra, &dec)| (ra, dec)));
+    // 28 and 29 of the smallest steps: 0 and not 0 in radians.
+    for x in [5e-324, 28.0 * 5e-324, 29.0 * 5e-324, 1e-310, f64::MIN_POSITIVE] {
+        list.extend([(x, x), (x, -x)]);
+    }
+    list.chunks(12).for_each(&mut asked);
+    asked(&[(-0.0, -0.0), (-0.0, 90.0), (360.0, -90.0), (359.0, 89.0), (1.0, -1.0), (30.0, 60.0), (200.0, -45.0), (300.0, 10.0)]);
+    asked(&[]);
+    let mut s = Seeded::new(18);
+    for count in 1..=12 {
+        let (ra, dec) = positions(&mut s, count);
+        asked(&ra.into_iter().zip(dec).collect::<Vec<_>>());
+    }
+    f
+}
+
 fn main() {
     let folder = env::args().nth(1).expect("record FOLDER");
     for (name, file) in [
@@ -190,6 +224,7 @@ fn main() {
         ("section-5", section_5()),
         ("section-6", many(16, 50, Targets::Unit, others)),
         ("any-targets", any_targets()),
+        ("catalogue", catalogue()),
     ] {
         let longest = file.0.lines().map(|l| l.split(' ').count()).max().unwrap();
         assert!(longest <= 256 && file.0.len() < 65_536, "the program has room for it");
