@@ -1,8 +1,9 @@
 //! A plan as its files say it: a TOML file that names a CSV file of targets and one of positions.
 use crate::{
+    engine, explain,
     fault::Fault,
     files,
-    sheet::Sheet,
+    sheet::{Form, Sheet},
     source::{shown, Source},
     text::{excerpt, grouped},
 };
@@ -14,8 +15,10 @@ use std::{
 };
 use toml::{value::Value, Spanned};
 
-pub const TARGET_COLUMNS: &[&str] = &["name", "x", "y", "z"];
-pub const EPHEMERIS_COLUMNS: &[&str] = &["time", "sun_x", "sun_y", "sun_z", "observer_x", "observer_y", "observer_z"];
+/// A target is a catalogue position in degrees, or a direction as a unit vector.
+pub const POSITION_COLUMNS: Form = &["name", "ra", "dec"];
+pub const VECTOR_COLUMNS: Form = &["name", "x", "y", "z"];
+pub const EPHEMERIS_COLUMNS: Form = &["time", "sun_x", "sun_y", "sun_z", "observer_x", "observer_y", "observer_z"];
 const KEYS: &[&str] = &["targets", "ephemeris", "rolls", "tolerance", "panel", "configured_roll"];
 /// Far more than six keys and their comments take.
 const MOST_BYTES: u64 = 1 << 20;
@@ -32,7 +35,7 @@ pub struct Plan {
     pub configured_roll: Option<f64>,
     pub panel: [f64; 3],
     pub names: Vec<String>,
-    /// Three numbers a target.
+    /// Three numbers a target, whichever form the file has.
     pub targets: Vec<f64>,
     /// Nanoseconds since 1970, strictly increasing.
     pub times: Vec<i64>,
@@ -69,13 +72,19 @@ impl Plan {
                 Err(e) => Err(files::fault(&path, &e)),
             }
         };
-        let targets_sheet = Sheet::read(&beside("targets", &targets_file)?, TARGET_COLUMNS)?;
-        let ephemeris_sheet = Sheet::read(&beside("ephemeris", &ephemeris_file)?, EPHEMERIS_COLUMNS)?;
-        let (mut names, mut targets) = (Vec::new(), Vec::new());
+        let targets_sheet = Sheet::read(&beside("targets", &targets_file)?, &[POSITION_COLUMNS, VECTOR_COLUMNS])?;
+        let ephemeris_sheet = Sheet::read(&beside("ephemeris", &ephemeris_file)?, &[EPHEMERIS_COLUMNS])?;
+        let by_position = targets_sheet.form() == POSITION_COLUMNS;
+        let (mut names, mut ra, mut dec, mut vectors) = (Vec::new(), Vec::new(), Vec::new(), Vec::new());
         for fields in targets_sheet.fields() {
             names.push(fields[0].text().to_owned());
-            for f in &fields[1..] {
-                targets.push(f.number()?);
+            if by_position {
+                ra.push(fields[1].degrees()?);
+                dec.push(fields[2].degrees()?);
+            } else {
+                for f in &fields[1..] {
+                    vectors.push(f.number()?);
+                }
             }
         }
         let (mut times, mut suns, mut observers) = (Vec::new(), Vec::new(), Vec::new());
@@ -96,6 +105,11 @@ impl Plan {
                 observers.push(f.number()?);
             }
         }
+        // The library is asked once all files are read, as it is of the rest of the plan.
+        let targets = match by_position {
+            true => engine::unit_vectors(&ra, &dec).map_err(|refusal| explain::positions(&targets_sheet, refusal))?,
+            false => vectors,
+        };
         Ok(Plan {
             source,
             targets_file,
