@@ -112,6 +112,7 @@ fn ephemeris() -> String {
 mod tests {
     use super::*;
     use crate::{engine, plan::Plan};
+    use sha2::{Digest, Sha256};
 
     fn read() -> Plan {
         let folder = tempfile::tempdir().unwrap();
@@ -120,6 +121,21 @@ mod tests {
         Plan::read(&folder.path().join("plan.toml")).unwrap()
     }
 
+    /// Text of the program alone, and numbers of IEEE 754's operations and the library's sine, cut to some digits.
+    #[test]
+    fn is_the_same_on_every_machine() {
+        let texts =
+            [PLAN, &targets(), &ephemeris()].map(|text| Sha256::digest(text).iter().map(|b| format!("{:02x}", b)).collect::<String>());
+        assert_eq!(texts, ["", "", ""]);
+    }
+    #[test]
+    fn is_by_right_ascension_and_declination() {
+        assert!(targets().starts_with("name,ra,dec\nAndromeda Galaxy,10.685,41.269\nTycho's remnant,6.34,64.137\n"));
+        assert!(PLAN.contains("# name, ra, dec: right ascension and declination in degrees"));
+        let plan = read();
+        let (ra, dec): (Vec<_>, Vec<_>) = TARGETS.iter().map(|&(_, ra, dec)| (ra, dec)).unzip();
+        assert_eq!(plan.targets, engine::unit_vectors(&ra, &dec).unwrap());
+    }
     #[test]
     fn is_a_plan() {
         let plan = read();

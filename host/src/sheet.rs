@@ -115,33 +115,44 @@ fn allowed(forms: &[Form]) -> String {
 /// The form that the file's first record has, and where its columns stand there.
 fn find(source: &Source, header: &StringRecord, forms: &[Form]) -> Result<(Form, Vec<usize>), Fault> {
     let fault = |read: String| source.fault(start(source, header.position()), read, &allowed(forms));
-    let first_line = || excerpt(&header.iter().collect::<Vec<_>>().join(","));
-    let at = |name: &str| (0..header.len()).filter(|&i| header[i].eq_ignore_ascii_case(name)).collect::<Vec<_>>();
-    // What all forms have tells none from another.
-    let own = |form: Form| form.iter().copied().filter(|name| !forms.iter().all(|form| form.contains(name)));
-    let begun: Vec<(Form, Vec<&str>)> = forms.iter().map(|&form| (form, own(form).filter(|name| !at(name).is_empty()).collect())).collect();
-    let begun: Vec<_> = begun.into_iter().filter(|(_, found)| forms.len() == 1 || !found.is_empty()).collect();
-    let names = match begun[..] {
-        [(form, _)] => form,
-        [] => {
-            let all: Vec<_> = forms.iter().flat_map(|&form| own(form)).collect();
-            return Err(fault(format!("none of the columns {} in `{}`{}", all.join(","), first_line(), rename(header, &all))));
+    let names = form_of(header, forms).map_err(fault)?;
+    let column = |name: &&str| {
+        let mut found = (0..header.len()).filter(|&i| header[i].eq_ignore_ascii_case(name));
+        match (found.next(), found.next()) {
+            (Some(i), None) => Ok(i),
+            (None, _) => Err(fault(format!("no column `{}` in `{}`{}", name, columns(header), rename(header, &[name])))),
+            _ => Err(fault(format!("two columns `{}`", name))),
         }
-        _ => {
-            let found: Vec<_> = begun.iter().map(|(_, found)| found.join(",")).collect();
-            return Err(fault(format!(
-                "both {} in `{}`, and a file has one form: remove or rename the columns of the other",
-                found.join(" and "),
-                first_line()
-            )));
-        }
-    };
-    let column = |name: &&str| match at(name)[..] {
-        [i] => Ok(i),
-        [] => Err(fault(format!("no column `{}` in `{}`{}", name, first_line(), rename(header, &[name])))),
-        _ => Err(fault(format!("two columns `{}`", name))),
     };
     Ok((names, names.iter().map(column).collect::<Result<_, _>>()?))
+}
+
+/// The one form of which the first record has columns; where that is none or several, what is wrong.
+fn form_of(header: &StringRecord, forms: &[Form]) -> Result<Form, String> {
+    if let [only] = forms {
+        return Ok(only);
+    }
+    // A column of every form tells none from another.
+    let own = |form: Form| form.iter().copied().filter(|name| !forms.iter().all(|form| form.contains(name)));
+    let found = |form: Form| own(form).filter(|name| header.iter().any(|column| column.eq_ignore_ascii_case(name))).collect::<Vec<_>>();
+    let begun: Vec<_> = forms.iter().copied().filter(|form| !found(form).is_empty()).collect();
+    match begun[..] {
+        [form] => Ok(form),
+        [] => {
+            let all: Vec<_> = forms.iter().flat_map(|form| own(form)).collect();
+            Err(format!("none of the columns {} in `{}`{}", all.join(","), columns(header), rename(header, &all)))
+        }
+        _ => {
+            let begun: Vec<_> = begun.iter().map(|form| found(form).join(",")).collect();
+            let (begun, columns) = (begun.join(" and "), columns(header));
+            Err(format!("both {} in `{}`, and a file has one form: remove or rename the columns of the other", begun, columns))
+        }
+    }
+}
+
+/// The first record as a message shows it.
+fn columns(header: &StringRecord) -> String {
+    excerpt(&header.iter().collect::<Vec<_>>().join(","))
 }
 
 /// How catalogues name a column that we name otherwise, without capitals, spaces, signs and a unit at the end.
@@ -152,16 +163,17 @@ const OTHER_NAMES: [(&str, &[&str]); 2] = [
 
 /// What to do where the file has wanted columns by such names.
 fn rename(header: &StringRecord, wanted: &[&str]) -> String {
-    let meant = |column: &str| {
+    let is_one = |column: &str, others: &[&str]| {
         let plain: String = column.chars().filter(char::is_ascii_alphanumeric).map(|c| c.to_ascii_lowercase()).collect();
-        let plain = plain.strip_suffix("degrees").or(plain.strip_suffix("deg")).unwrap_or(&plain);
-        OTHER_NAMES.iter().find(|(name, others)| wanted.contains(name) && others.contains(&plain)).map(|(name, _)| name)
+        others.contains(&plain.strip_suffix("degrees").or(plain.strip_suffix("deg")).unwrap_or(&plain))
     };
-    let pairs = header.iter().filter_map(|column| Some(format!("`{}` to `{}`", excerpt(column), meant(column)?))).collect::<Vec<_>>();
-    match pairs.is_empty() {
-        true => String::new(),
-        false => format!("; rename {}", pairs.join(" and ")),
+    let mut text = String::new();
+    for (name, others) in OTHER_NAMES.iter().filter(|(name, _)| wanted.contains(name)) {
+        if let Some(column) = header.iter().find(|column| is_one(column, others)) {
+            text += &format!("{} `{}` to `{}`", if text.is_empty() { "; rename" } else { " and" }, excerpt(column), name);
+        }
     }
+    text
 }
 
 /// Where a record starts: after the line ends and the comments that the position still has before it.
