@@ -1,7 +1,8 @@
-//! Document 01 in plain Rust: a second implementation, written from its text for comparing, not for speed.
+//! Document 01, and document 02's request One, in plain Rust: a second implementation, written from their text for comparing, not for speed.
 //!
 //! A refusal is its number; `Answer` is what a call says.
 pub mod arithmetic;
+pub mod catalogue;
 pub mod journal;
 pub mod ledger;
 pub mod plan;
