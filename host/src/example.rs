@@ -3,7 +3,7 @@ use crate::{
     engine,
     fault::Fault,
     files, instant,
-    plan::{EPHEMERIS_COLUMNS, POSITION_COLUMNS},
+    plan::{CATALOGUE_COLUMNS, EPHEMERIS_COLUMNS},
 };
 use std::{f64::consts::PI, fmt::Write, fs, path::Path};
 
@@ -72,7 +72,7 @@ pub fn write(folder: &Path) -> Result<(), Fault> {
 }
 
 fn targets() -> String {
-    let mut text = POSITION_COLUMNS.join(",") + "\n";
+    let mut text = CATALOGUE_COLUMNS.join(",") + "\n";
     for (name, ra, dec) in TARGETS {
         let _ = writeln!(text, "{},{},{}", name, ra, dec);
     }

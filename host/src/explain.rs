@@ -60,7 +60,7 @@ pub fn plan(plan: &Plan, refusal: Refusal) -> Fault {
 }
 
 /// A refusal of the targets' catalogue positions, which are made vectors before there is a plan.
-pub fn positions(targets: &Sheet, refusal: Refusal) -> Fault {
+pub fn catalogue(targets: &Sheet, refusal: Refusal) -> Fault {
     let outside = |row: usize| {
         let wrong = |column, least, most| !matches!(targets.field(row, column).degrees(), Ok(x) if (least..=most).contains(&x));
         if wrong(1, 0.0, 360.0) {

@@ -16,7 +16,7 @@ use std::{
 use toml::{value::Value, Spanned};
 
 /// A target is a catalogue position in degrees, or a direction as a unit vector.
-pub const POSITION_COLUMNS: Form = &["name", "ra", "dec"];
+pub const CATALOGUE_COLUMNS: Form = &["name", "ra", "dec"];
 pub const VECTOR_COLUMNS: Form = &["name", "x", "y", "z"];
 pub const EPHEMERIS_COLUMNS: Form = &["time", "sun_x", "sun_y", "sun_z", "observer_x", "observer_y", "observer_z"];
 const KEYS: &[&str] = &["targets", "ephemeris", "rolls", "tolerance", "panel", "configured_roll"];
@@ -72,13 +72,13 @@ impl Plan {
                 Err(e) => Err(files::fault(&path, &e)),
             }
         };
-        let targets_sheet = Sheet::read(&beside("targets", &targets_file)?, &[POSITION_COLUMNS, VECTOR_COLUMNS])?;
+        let targets_sheet = Sheet::read(&beside("targets", &targets_file)?, &[CATALOGUE_COLUMNS, VECTOR_COLUMNS])?;
         let ephemeris_sheet = Sheet::read(&beside("ephemeris", &ephemeris_file)?, &[EPHEMERIS_COLUMNS])?;
-        let by_position = targets_sheet.form() == POSITION_COLUMNS;
+        let is_catalogue = targets_sheet.form() == CATALOGUE_COLUMNS;
         let (mut names, mut ra, mut dec, mut vectors) = (Vec::new(), Vec::new(), Vec::new(), Vec::new());
         for fields in targets_sheet.fields() {
             names.push(fields[0].text().to_owned());
-            if by_position {
+            if is_catalogue {
                 ra.push(fields[1].degrees()?);
                 dec.push(fields[2].degrees()?);
             } else {
@@ -106,8 +106,8 @@ impl Plan {
             }
         }
         // The library is asked once all files are read, as it is of the rest of the plan.
-        let targets = match by_position {
-            true => engine::unit_vectors(&ra, &dec).map_err(|refusal| explain::positions(&targets_sheet, refusal))?,
+        let targets = match is_catalogue {
+            true => engine::unit_vectors(&ra, &dec).map_err(|refusal| explain::catalogue(&targets_sheet, refusal))?,
             false => vectors,
         };
         Ok(Plan {
@@ -390,7 +390,7 @@ pub mod tests {
     };
 
     const TARGETS: &str = "name,x,y,z\nA,1,0,0\n";
-    const POSITIONS: &str = "name,ra,dec\nA,10,-20.5\n";
+    const CATALOGUE: &str = "name,ra,dec\nA,10,-20.5\n";
     const EPHEMERIS: &str = "time,sun_x,sun_y,sun_z,observer_x,observer_y,observer_z\n\
         2026-03-20T00:00:00Z,0,1,0,0,0,0\n2026-03-20T00:01:00Z,0,0,1,0,0,0\n";
     const TOML: &str = "targets = \"t.csv\"\nephemeris = \"e.csv\"\nrolls = 1\ntolerance = 1\n";
@@ -536,12 +536,12 @@ pub mod tests {
     #[test]
     fn texts_come_before_refusals() {
         let says = |targets: &str, ephemeris: &str| plan(TOML, targets, ephemeris).unwrap_err().to_string();
-        let outside = POSITIONS.replace("10", "370");
+        let outside = CATALOGUE.replace("10", "370");
         assert!(says(&outside, EPHEMERIS).contains("refused with 16: "));
         assert!(says(&outside, &EPHEMERIS.replace("0,1,0", "0,1,zero")).contains("e.csv, line 2, column 26: sun_z reads `zero`"));
-        let text = says(&POSITIONS.replace("10", "00:40:00"), EPHEMERIS);
+        let text = says(&CATALOGUE.replace("10", "00:40:00"), EPHEMERIS);
         assert!(text.contains("t.csv, line 2, column 3: ra reads `00:40:00`; allowed: degrees as one number, such as 83.633"), "{}", text);
-        let text = says(&POSITIONS.replace("ra", "right"), EPHEMERIS);
+        let text = says(&CATALOGUE.replace("ra", "right"), EPHEMERIS);
         assert!(text.contains("t.csv, line 1, column 1: no column `ra` in `name,right,dec`; allowed: "), "{}", text);
     }
     #[test]
@@ -760,7 +760,7 @@ pub mod tests {
 
     proptest! {
         #[test]
-        fn a_changed_plan_is_read_or_refused(targets in prop::sample::select(&[TARGETS, POSITIONS][..]), t in changes(), e in changes(), p in changes()) {
+        fn a_changed_plan_is_read_or_refused(targets in prop::sample::select(&[TARGETS, CATALOGUE][..]), t in changes(), e in changes(), p in changes()) {
             let toml = "targets = \"t.csv\"\nephemeris = \"e.csv\"\nrolls = 1\ntolerance = 10\npanel = [[0, 1, 0.5]]\n# ..\n";
             let told = match plan(changed(toml, &p), changed(targets, &t), changed(EPHEMERIS, &e)) {
                 Ok(plan) => {

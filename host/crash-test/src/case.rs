@@ -12,7 +12,7 @@ pub struct Case {
 }
 
 /// The first line of targets by right ascension and declination.
-pub const BY_POSITION: &str = "name,ra,dec\n";
+pub const CATALOGUE_HEAD: &str = "name,ra,dec\n";
 
 const FIRST_TIME: i64 = 1_774_000_000_000_000_000;
 const STEP: i64 = 60_000_000_000;
@@ -51,7 +51,7 @@ impl Case {
         Case::new(name, plan)
     }
     /// The same with other targets, by right ascension and declination; their vectors are the model's.
-    pub fn by_position(self, seed: u64) -> Case {
+    pub fn of_catalogue(self, seed: u64) -> Case {
         let mut plan = self.sweep.plan;
         let (ra, dec) = positions(&mut Seeded::new(seed), plan.rows());
         plan.targets = ra.iter().zip(&dec).flat_map(|(&ra, &dec)| radec_to_unit(ra, dec)).collect();
@@ -69,7 +69,7 @@ impl Case {
         if let Some(roll) = plan.roll_deg {
             let _ = writeln!(toml, "configured_roll = {}", toml_number(roll));
         }
-        let mut targets = String::from(if self.positions.is_some() { BY_POSITION } else { "name,x,y,z\n" });
+        let mut targets = String::from(if self.positions.is_some() { CATALOGUE_HEAD } else { "name,x,y,z\n" });
         for i in 0..plan.rows() {
             let [x, y, z] = plan.target(i);
             let _ = match &self.positions {

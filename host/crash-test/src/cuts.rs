@@ -122,8 +122,8 @@ pub fn every_byte(case: &Case, order: &[usize], folder: &Path, tally: &mut Tally
         whole(&machine, &ended);
     }
     tally.bytes += length as u64 + 1;
-    if machine.is_by_position() {
-        tally.by_position += tally.cuts - before;
+    if machine.is_catalogue() {
+        tally.catalogue += tally.cuts - before;
     }
 }
 
