@@ -9,7 +9,8 @@ use lib.IntN.{ℤ, pos}
 use lib.Dec.{ltb, eqb, lit<, lit≤}
 use lib.Ieee.{Float, nan, inf, fin, binary64, up, down, round, sub, mul, div, neg, lt, eq, ofBits, ofInt}
 use Rattle.float.specs.Arithmetic.{zero·0, one, two, eight, halfTurn, PI, signBitOf, absOf, finite, toDegrees}
-use Rattle.float.specs.Arctangent.{coefficient, halved, series, seriesAngle, ratio, quadrantAngle, arctangent}
+use Rattle.float.specs.Series.{coefficient, horner}
+use Rattle.float.specs.Arctangent.{oddNumber, halved, seriesAngle, ratio, quadrantAngle, arctangent}
 use Rattle.float.proofs.Bounds.{Within, within-add, within-mul, within-quotient, within-neg, within-sub, weaken, Size, Least, loose, size-of, div-sign, size-mul, size-add, size-div, size-one, least-round, least-add, root-keeps}
 
 -- ---- the steps of the arctangent
@@ -26,7 +27,7 @@ least-whole : (n j : ℕ) → j < 1024 → 1 ≤ n → n ≤ 2 ^ j → Least (of
 unfolding ofInt
 least-whole n j k l h = least-round n 1 j k (lit< tt) (omega (arith, mul-one (2 ^ j))) l
 
-within-coefficient : (k : ℕ) → k ≤ 8 → Within 0 (coefficient k)
+within-coefficient : (k : ℕ) → k ≤ 8 → Within 0 (coefficient oddNumber k)
 unfolding coefficient
 within-coefficient k h = go (eqb (k % 2) 1)
   where
@@ -40,11 +41,11 @@ within-coefficient k h = go (eqb (k % 2) 1)
     go true = within-neg 0 w
     go false = w
 
-within-series : (s : Float) → Within 0 s → (j : ℕ) → j ≤ 8 → Within j (series s j)
-unfolding series
+within-series : (s : Float) → Within 0 s → (j : ℕ) → j ≤ 8 → Within j (horner oddNumber s j)
+unfolding horner
 within-series s w zero h = within-coefficient 8 (lit≤ tt)
 within-series s w (suc j) h =
-    within-add j (omega arith) (weaken 0 j (omega arith) (within-coefficient (7 - j) (omega arith))) (subst (λ (i : ℕ). Within i (mul binary64 s (series s j))) (zero-add j) (within-mul 0 j (omega arith) w (within-series s w j (omega arith))))
+    within-add j (omega arith) (weaken 0 j (omega arith) (within-coefficient (7 - j) (omega arith))) (subst (λ (i : ℕ). Within i (mul binary64 s (horner oddNumber s j))) (zero-add j) (within-mul 0 j (omega arith) w (within-series s w j (omega arith))))
 
 eight-within : Within 3 eight
 unfolding ofBits

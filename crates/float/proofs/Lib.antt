@@ -15,6 +15,7 @@ mod Grid
 mod Guessed
 mod Isqrt
 mod Patterns
+mod Quadrants
 mod Rooted
 mod Scaling
 mod Steps

@@ -1,6 +1,7 @@
 // The arctangent of (y, z), by section 1's rule.
 ghost use mathlib.Core.Path.{_≡_};
-ghost use Rattle.float.specs.Arctangent.{halved, series, ratio, seriesAngle, quadrantAngle, turnedAngle, arctangent};
+ghost use Rattle.float.specs.Series.{horner};
+ghost use Rattle.float.specs.Arctangent.{oddNumber, halved, ratio, seriesAngle, quadrantAngle, turnedAngle, arctangent};
 use crate::PI;
 use crate::abs;
 use crate::arithmetic::is_finite;
@@ -53,7 +54,7 @@ fn halved_thrice(q: f64) -> f64
 
 // The series of the arctangent of q, divided by q, at s = q * q. Its literals are c(0) to c(8).
 fn series(s: f64) -> f64
-    ensures { λ r. ⌜ r ≡ series s 8 ⌝ }
+    ensures { λ r. ⌜ r ≡ horner oddNumber s 8 ⌝ }
 {
     let p7 = -0.06666666666666667 + s * 0.058823529411764705;
     let p6 = 0.07692307692307693 + s * p7;

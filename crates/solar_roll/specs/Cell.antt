@@ -5,8 +5,8 @@ use Prim.Native.Nat.{ℕ}
 use lib.Ieee.{Float, binary64, lt, le, ofBits}
 use Rattle.buffers.specs.Ranges.{any}
 use Rattle.buffers.specs.Refusal.{first, carried, Reply, refused, accepted}
-use Rattle.float.specs.Arithmetic.{one, absOf}
-use Rattle.solar_roll.specs.Vectors.{Vector}
+use Rattle.float.specs.Arithmetic.{_⊖_, one, absOf}
+use Rattle.solar_roll.specs.Vectors.{Vector, dot3}
 use Rattle.solar_roll.specs.Roll.{Axes, axis, sunAlongBoresight, rollIsUnconstrained, rollDegIn, solarOptimalRollDeg, circularDiffDeg}
 use Rattle.solar_roll.specs.declared.roll.Panel.{Panel}
 use Rattle.solar_roll.specs.declared.cell.CellRoll.{CellRoll}
@@ -59,6 +59,18 @@ badPosition = any (tooLarge LIMIT)
 -- 5: a component not within -1 to 1
 unfoldable pub badDirection : List Float → Bool
 badDirection = any (tooLarge one)
+
+-- a direction's squared length, summed left to right
+abbrev pub squaredLength : Vector → Float
+squaredLength v = dot3 v v
+
+-- 1e-9
+abbrev pub UNIT_TOLERANCE : Float
+UNIT_TOLERANCE = ofBits binary64 0x3e11_2e0b_e826_d695
+
+-- the squared length is not within 1e-9 of 1: so for NaN. No call refuses by it; what catalogue positions give passes it (catalogue: Directions)
+unfoldable pub notUnit : Vector → Bool
+notUnit v = not (le (absOf (squaredLength v ⊖ one)) UNIT_TOLERANCE)
 
 -- what is refused of directions, a flat list of triples or one triple; 0 for none
 unfoldable pub directionRefusal : List Float → ℕ

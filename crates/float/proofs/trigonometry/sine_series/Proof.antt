@@ -1,0 +1,14 @@
+-- `float::trigonometry::sine_series` meets its contract: each literal is 1 / (2k + 1)! rounded, negated for odd k. Assumes nothing.
+use mathlib.Core.Path.{refl}
+use lib.Ieee.{ofBits, neg, div, round, ofInt}
+use Rattle.float.specs.Series.{coefficient, horner}
+use Rattle.float.specs.Trigonometry.{factorial, sineDivisor}
+use Rattle.float.proofs.trigonometry.sine_series.Statement.{statement}
+use Rattle.float.proofs.trigonometry.sine_series.Tie as tie
+
+returns : tie.Need-returns
+unfolding horner coefficient sineDivisor factorial ofBits neg div round ofInt
+returns c = refl
+
+pub sine-series-spec : {M : Type 1} → statement M
+sine-series-spec = tie.close (tie.spec returns)
