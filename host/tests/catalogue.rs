@@ -2,6 +2,7 @@
 mod common;
 
 use common::Folder;
+use std::collections::BTreeSet;
 
 /// Name, right ascension and declination in degrees, the ends of both ranges among them.
 const TARGETS: [(&str, f64, f64); 5] =
@@ -72,7 +73,8 @@ fn every_command_does_the_same_by_either_form() {
     let mask = by_position.run(&["mask", "plan.toml"]).stdout;
     let rows: Vec<_> = mask.lines().map(|line| line.split(' ').next().unwrap()).collect();
     assert!(rows.len() == 5 && rows.iter().all(|row| row.contains('0') && row.contains('1')), "{}", mask);
-    assert!((0..5).all(|i| (0..i).all(|j| rows[i] != rows[j])), "{}", mask);
+    // To both poles the Sun is at rolls that the eight tell alike.
+    assert_eq!(rows.iter().collect::<BTreeSet<_>>().len(), 4, "{}", mask);
 }
 
 #[test]
