@@ -391,6 +391,7 @@ pub mod tests {
 
     const TARGETS: &str = "name,x,y,z\nA,1,0,0\n";
     const CATALOGUE: &str = "name,ra,dec\nA,10,-20.5\n";
+    const OUTSIDE: &str = "name,ra,dec\nA,360,-20.5\n\"B\",360,95\n";
     const EPHEMERIS: &str = "time,sun_x,sun_y,sun_z,observer_x,observer_y,observer_z\n\
         2026-03-20T00:00:00Z,0,1,0,0,0,0\n2026-03-20T00:01:00Z,0,0,1,0,0,0\n";
     const TOML: &str = "targets = \"t.csv\"\nephemeris = \"e.csv\"\nrolls = 1\ntolerance = 1\n";
@@ -526,10 +527,10 @@ pub mod tests {
             ("200,100", "column 10: dec of target `Vega` reads `100`; allowed: -90 to 90 degrees"),
             ("inf,nan", "column 6: ra of target `Vega` reads `inf`; allowed: 0 to 360 degrees"),
         ] {
-            let fault = plan(TOML, format!("name,ra,dec\nA,0,-90\nVega,{}\nB,-1,0\n", row), EPHEMERIS).unwrap_err();
+            let fault = plan(TOML, format!("name,ra,dec\nA,0,-90\nB,360,90\nVega,{}\nC,-1,0\n", row), EPHEMERIS).unwrap_err();
             let text = fault.to_string();
             let file = text.find("t.csv").unwrap();
-            assert_eq!((fault.status(), &text[file..]), (1, format!("t.csv, line 3, {}", says).as_str()));
+            assert_eq!((fault.status(), &text[file..]), (1, format!("t.csv, line 4, {}", says).as_str()));
             assert!(text.starts_with("refused with 16: "), "{}", text);
         }
     }
@@ -760,7 +761,7 @@ pub mod tests {
 
     proptest! {
         #[test]
-        fn a_changed_plan_is_read_or_refused(targets in prop::sample::select(&[TARGETS, CATALOGUE][..]), t in changes(), e in changes(), p in changes()) {
+        fn a_changed_plan_is_read_or_refused(targets in prop::sample::select(&[TARGETS, CATALOGUE, OUTSIDE][..]), t in changes(), e in changes(), p in changes()) {
             let toml = "targets = \"t.csv\"\nephemeris = \"e.csv\"\nrolls = 1\ntolerance = 10\npanel = [[0, 1, 0.5]]\n# ..\n";
             let told = match plan(changed(toml, &p), changed(targets, &t), changed(EPHEMERIS, &e)) {
                 Ok(plan) => {
