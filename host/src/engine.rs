@@ -1,8 +1,8 @@
-//! The proved library as this program calls it. Every line, mask and window comes from here, and nothing else calls it.
+//! The proved library as this program calls it. Every vector, line, mask and window comes from here, and nothing else calls it.
 use crate::plan::Plan;
 use std::ops::Range;
 use wilfnusk::Columns;
-pub use wilfnusk::{Refusal, Roll, Window, CHUNK_CELLS, HEADER_BYTES, LINE_BYTES};
+pub use wilfnusk::{cos, sin, Refusal, Roll, Window, CHUNK_CELLS, HEADER_BYTES, LINE_BYTES};
 
 fn lent(plan: &Plan) -> wilfnusk::Plan<'_> {
     wilfnusk::Plan {
@@ -13,6 +13,13 @@ fn lent(plan: &Plan) -> wilfnusk::Plan<'_> {
         roll_deg: plan.configured_roll,
         panel_normal: plan.panel,
     }
+}
+
+/// The unit vectors of catalogue positions in degrees, three numbers each.
+pub fn unit_vectors(ra: &[f64], dec: &[f64]) -> Result<Vec<f64>, Refusal> {
+    let mut vectors = vec![0.0; 3 * ra.len()];
+    wilfnusk::radec_to_unit_vectors_batch(ra, dec, &mut vectors)?;
+    Ok(vectors)
 }
 
 /// Whether the library takes this plan: recovery of an empty journal refuses as the plan does, and a listing as its times do.

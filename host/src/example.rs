@@ -1,16 +1,17 @@
 //! A plan to start from: ninety days of a telescope in low orbit, 90 minutes a step. The same numbers on every machine.
 use crate::{
+    engine,
     fault::Fault,
     files, instant,
-    plan::{EPHEMERIS_COLUMNS, TARGET_COLUMNS},
+    plan::{CATALOGUE_COLUMNS, EPHEMERIS_COLUMNS},
 };
-use std::{fmt::Write, fs, path::Path};
+use std::{f64::consts::PI, fmt::Write, fs, path::Path};
 
 const PLAN: &str = "\
 # Ninety days of a telescope in low orbit. Sweep it with: wilfnusk sweep plan.toml
 
 # One equatorial frame for all: X toward the equinox, Z toward celestial north.
-targets = \"targets.csv\"        # name and direction x, y, z (unit vectors)
+targets = \"targets.csv\"        # name, ra, dec: right ascension and declination in degrees
 ephemeris = \"ephemeris.csv\"    # time, Sun x, y, z and observer x, y, z (here km from the Earth's centre)
 
 # The bus settles at 24 rolls, 15 degrees apart. A target may be looked at while one of
@@ -71,23 +72,27 @@ pub fn write(folder: &Path) -> Result<(), Fault> {
 }
 
 fn targets() -> String {
-    let mut text = TARGET_COLUMNS.join(",") + "\n";
+    let mut text = CATALOGUE_COLUMNS.join(",") + "\n";
     for (name, ra, dec) in TARGETS {
-        let ((sr, cr), (sd, cd)) = (ra.to_radians().sin_cos(), dec.to_radians().sin_cos());
-        let _ = writeln!(text, "{},{:.12},{:.12},{:.12}", name, cd * cr, cd * sr, sd);
+        let _ = writeln!(text, "{},{},{}", name, ra, dec);
     }
     text
+}
+
+/// Sine and cosine by the library's rule, which is the same on every machine and made for angles within a turn.
+fn sin_cos(degrees: f64) -> (f64, f64) {
+    let radians = degrees.rem_euclid(360.0) * (PI / 180.0);
+    (engine::sin(radians), engine::cos(radians))
 }
 
 /// The Sun moves a degree a day along the ecliptic, the observer along a circle about the Earth.
 fn ephemeris() -> String {
     let start = instant::parse(START).expect("a time");
-    let (so, co) = OBLIQUITY_DEG.to_radians().sin_cos();
-    let (si, ci) = INCLINATION_DEG.to_radians().sin_cos();
+    let ((so, co), (si, ci)) = (sin_cos(OBLIQUITY_DEG), sin_cos(INCLINATION_DEG));
     let mut text = EPHEMERIS_COLUMNS.join(",") + "\n";
     for minute in (0..TIMES).map(|j| j * STEP_MINUTES) {
-        let (sl, cl) = (359.4 + minute as f64 / DAY_MINUTES * 360.0 / 365.25).to_radians().sin_cos();
-        let (su, cu) = (minute as f64 / ORBIT_MINUTES * 360.0).to_radians().sin_cos();
+        let (sl, cl) = sin_cos(359.4 + minute as f64 / DAY_MINUTES * 360.0 / 365.25);
+        let (su, cu) = sin_cos(minute as f64 / ORBIT_MINUTES * 360.0);
         let _ = writeln!(
             text,
             "{},{:.3},{:.3},{:.3},{:.6},{:.6},{:.6}",
@@ -107,6 +112,7 @@ fn ephemeris() -> String {
 mod tests {
     use super::*;
     use crate::{engine, plan::Plan};
+    use sha2::{Digest, Sha256};
 
     fn read() -> Plan {
         let folder = tempfile::tempdir().unwrap();
@@ -115,6 +121,20 @@ mod tests {
         Plan::read(&folder.path().join("plan.toml")).unwrap()
     }
 
+    /// What another program, in another language, makes by the library's rule. With the C library's sine three lines are others.
+    #[test]
+    fn is_the_same_on_every_machine() {
+        let digest: String = Sha256::digest(ephemeris()).iter().map(|b| format!("{:02x}", b)).collect();
+        assert_eq!(digest, "7a1e006277dec6bd901238cec9b93c7b8b689f69b5d74ff71e9fb4e9f1e3c806");
+    }
+    #[test]
+    fn is_by_right_ascension_and_declination() {
+        assert!(targets().starts_with("name,ra,dec\nAndromeda Galaxy,10.685,41.269\nTycho's remnant,6.34,64.137\n"));
+        assert!(PLAN.contains("# name, ra, dec: right ascension and declination in degrees"));
+        let plan = read();
+        let (ra, dec): (Vec<_>, Vec<_>) = TARGETS.iter().map(|&(_, ra, dec)| (ra, dec)).unzip();
+        assert_eq!(plan.targets, engine::unit_vectors(&ra, &dec).unwrap());
+    }
     #[test]
     fn is_a_plan() {
         let plan = read();

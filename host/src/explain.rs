@@ -5,7 +5,8 @@ use crate::{
     fault::Fault,
     instant,
     journal::{chunk_of, hex, lines},
-    plan::Plan,
+    plan::{Plan, VECTOR_COLUMNS},
+    sheet::Sheet,
     text::{grouped, quoted},
 };
 use std::path::{Path, PathBuf};
@@ -32,11 +33,11 @@ pub fn plan(plan: &Plan, refusal: Refusal) -> Fault {
         )),
         3 => Some(format!("{}: rolls reads {}; allowed: 1 to 3600", plan.at("rolls"), plan.rolls)),
         4 => position(plan),
-        5 => plan.targets.iter().position(|x| !(-1.0..=1.0).contains(x)).map(|i| {
-            let field = plan.targets_sheet.field(i / 3, 1 + i % 3);
-            let name = plan.targets_sheet.field(i / 3, 0).shown();
-            format!("{}: {} of target `{}` reads `{}`; allowed: -1 to 1", field.at(), field.name(), name, field.shown())
-        }),
+        // The vectors that the library makes of positions are never refused with 5.
+        5 if plan.targets_sheet.form() == VECTOR_COLUMNS => {
+            let wrong = plan.targets.iter().position(|x| !(-1.0..=1.0).contains(x));
+            wrong.map(|i| target(&plan.targets_sheet, i / 3, 1 + i % 3, "-1 to 1"))
+        }
         6 => Some(format!("{}: panel reads {:?}; allowed: three finite numbers of at most 1e100 in size", plan.at("panel"), plan.panel)),
         8 => {
             let most = 4_000_000_000_000_000_000;
@@ -56,6 +57,28 @@ pub fn plan(plan: &Plan, refusal: Refusal) -> Fault {
         _ => None,
     };
     Fault::Refused(refusal.number(), found.unwrap_or_else(|| refusal.sentence().to_owned()))
+}
+
+/// A refusal of the targets' catalogue positions, which are made vectors before there is a plan.
+pub fn catalogue(targets: &Sheet, refusal: Refusal) -> Fault {
+    let outside = |row: usize| {
+        let wrong = |column, least, most| !matches!(targets.field(row, column).degrees(), Ok(x) if (least..=most).contains(&x));
+        if wrong(1, 0.0, 360.0) {
+            Some(target(targets, row, 1, "0 to 360 degrees"))
+        } else if wrong(2, -90.0, 90.0) {
+            Some(target(targets, row, 2, "-90 to 90 degrees"))
+        } else {
+            None
+        }
+    };
+    let found = if refusal.number() == 16 { (0..targets.fields().count()).find_map(outside) } else { None };
+    Fault::Refused(refusal.number(), found.unwrap_or_else(|| refusal.sentence().to_owned()))
+}
+
+/// A number of a target that is refused.
+fn target(targets: &Sheet, row: usize, column: usize, allowed: &str) -> String {
+    let (field, name) = (targets.field(row, column), targets.field(row, 0).shown());
+    format!("{}: {} of target `{}` reads `{}`; allowed: {}", field.at(), field.name(), name, field.shown(), allowed)
 }
 
 fn position(plan: &Plan) -> Option<String> {

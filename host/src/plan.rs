@@ -1,8 +1,9 @@
 //! A plan as its files say it: a TOML file that names a CSV file of targets and one of positions.
 use crate::{
+    engine, explain,
     fault::Fault,
     files,
-    sheet::Sheet,
+    sheet::{Form, Sheet},
     source::{shown, Source},
     text::{excerpt, grouped},
 };
@@ -14,8 +15,10 @@ use std::{
 };
 use toml::{value::Value, Spanned};
 
-pub const TARGET_COLUMNS: &[&str] = &["name", "x", "y", "z"];
-pub const EPHEMERIS_COLUMNS: &[&str] = &["time", "sun_x", "sun_y", "sun_z", "observer_x", "observer_y", "observer_z"];
+/// A target is a catalogue position in degrees, or a direction as a unit vector.
+pub const CATALOGUE_COLUMNS: Form = &["name", "ra", "dec"];
+pub const VECTOR_COLUMNS: Form = &["name", "x", "y", "z"];
+pub const EPHEMERIS_COLUMNS: Form = &["time", "sun_x", "sun_y", "sun_z", "observer_x", "observer_y", "observer_z"];
 const KEYS: &[&str] = &["targets", "ephemeris", "rolls", "tolerance", "panel", "configured_roll"];
 /// Far more than six keys and their comments take.
 const MOST_BYTES: u64 = 1 << 20;
@@ -32,7 +35,7 @@ pub struct Plan {
     pub configured_roll: Option<f64>,
     pub panel: [f64; 3],
     pub names: Vec<String>,
-    /// Three numbers a target.
+    /// Three numbers a target, whichever form the file has.
     pub targets: Vec<f64>,
     /// Nanoseconds since 1970, strictly increasing.
     pub times: Vec<i64>,
@@ -69,13 +72,19 @@ impl Plan {
                 Err(e) => Err(files::fault(&path, &e)),
             }
         };
-        let targets_sheet = Sheet::read(&beside("targets", &targets_file)?, TARGET_COLUMNS)?;
-        let ephemeris_sheet = Sheet::read(&beside("ephemeris", &ephemeris_file)?, EPHEMERIS_COLUMNS)?;
-        let (mut names, mut targets) = (Vec::new(), Vec::new());
+        let targets_sheet = Sheet::read(&beside("targets", &targets_file)?, &[CATALOGUE_COLUMNS, VECTOR_COLUMNS])?;
+        let ephemeris_sheet = Sheet::read(&beside("ephemeris", &ephemeris_file)?, &[EPHEMERIS_COLUMNS])?;
+        let is_catalogue = targets_sheet.form() == CATALOGUE_COLUMNS;
+        let (mut names, mut ra, mut dec, mut vectors) = (Vec::new(), Vec::new(), Vec::new(), Vec::new());
         for fields in targets_sheet.fields() {
             names.push(fields[0].text().to_owned());
-            for f in &fields[1..] {
-                targets.push(f.number()?);
+            if is_catalogue {
+                ra.push(fields[1].degrees()?);
+                dec.push(fields[2].degrees()?);
+            } else {
+                for f in &fields[1..] {
+                    vectors.push(f.number()?);
+                }
             }
         }
         let (mut times, mut suns, mut observers) = (Vec::new(), Vec::new(), Vec::new());
@@ -96,6 +105,11 @@ impl Plan {
                 observers.push(f.number()?);
             }
         }
+        // The library is asked once all files are read, as it is of the rest of the plan.
+        let targets = match is_catalogue {
+            true => engine::unit_vectors(&ra, &dec).map_err(|refusal| explain::catalogue(&targets_sheet, refusal))?,
+            false => vectors,
+        };
         Ok(Plan {
             source,
             targets_file,
@@ -368,7 +382,7 @@ fn number(value: &Value) -> Option<f64> {
 #[cfg(test)]
 pub mod tests {
     use super::*;
-    use crate::{digest::Digest, engine, explain};
+    use crate::{digest::Digest, engine, explain, text::excerpt};
     use proptest::prelude::*;
     use std::{
         fs,
@@ -376,8 +390,11 @@ pub mod tests {
     };
 
     const TARGETS: &str = "name,x,y,z\nA,1,0,0\n";
+    const CATALOGUE: &str = "name,ra,dec\nA,10,-20.5\n";
+    const OUTSIDE: &str = "name,ra,dec\nA,360,-20.5\n\"B\",360,95\n";
     const EPHEMERIS: &str = "time,sun_x,sun_y,sun_z,observer_x,observer_y,observer_z\n\
         2026-03-20T00:00:00Z,0,1,0,0,0,0\n2026-03-20T00:01:00Z,0,0,1,0,0,0\n";
+    const TOML: &str = "targets = \"t.csv\"\nephemeris = \"e.csv\"\nrolls = 1\ntolerance = 1\n";
 
     /// A plan made of these three texts.
     pub fn plan(toml: impl AsRef<[u8]>, targets: impl AsRef<[u8]>, ephemeris: impl AsRef<[u8]>) -> Result<Plan, Fault> {
@@ -467,6 +484,66 @@ pub mod tests {
         assert!(says(TARGETS, &late).contains("e.csv, line 3, column 1: time reads `2026-03-20T00:00:00.000Z`, which is not after"));
         let bad = EPHEMERIS.replace("00:01:00Z", "00:61:00Z");
         assert!(says(TARGETS, &bad).contains("e.csv, line 3, column 15: time reads `2026-03-20T00:61:00Z`; allowed: a minute"));
+    }
+    /// Each direction in the form of x, y, z, so that it reads as the same bits.
+    fn as_vectors(names: &[&str], ra: &[f64], dec: &[f64]) -> String {
+        let vectors = engine::unit_vectors(ra, dec).unwrap();
+        let rows = names.iter().zip(vectors.chunks(3)).map(|(name, v)| format!("\"{}\",{},{},{}\n", name, v[0], v[1], v[2]));
+        format!("name,x,y,z\n{}", rows.collect::<String>())
+    }
+    fn bits(list: &[f64]) -> Vec<u64> {
+        list.iter().map(|x| x.to_bits()).collect()
+    }
+    #[test]
+    fn positions_are_the_library_s_vectors() {
+        let (names, ra, dec) = (["Crab, M 1", "S", "N"], [83.633, 360.0, 0.0], [22.0145, -90.0, 90.0]);
+        let vectors = engine::unit_vectors(&ra, &dec).unwrap();
+        assert!((vectors[0] - 0.1027).abs() < 1e-3 && (vectors[1] - 0.9214).abs() < 1e-3 && (vectors[2] - 0.3748).abs() < 1e-3);
+        for targets in [
+            "name,ra,dec\n\"Crab, M 1\",83.633,22.0145\nS,360,-90\nN,0,90\n",
+            "\u{feff}# of ..\r\n mag ,DEC,\"Name\",Ra\r\n8.4, +22.0145 ,\"Crab, M 1\",\"83.633\"\r\n\r\n,-9e1,S,360.0\r\n#\r\n,90,N,0",
+            &as_vectors(&names, &ra, &dec),
+        ] {
+            let p = plan(TOML, targets, EPHEMERIS).unwrap();
+            assert_eq!((&p.names[..], bits(&p.targets)), (&names.map(str::to_owned)[..], bits(&vectors)), "{}", targets);
+            assert_eq!(Digest::of(&p), Digest::of(&plan(TOML, as_vectors(&names, &ra, &dec), EPHEMERIS).unwrap()));
+            engine::check(&p).unwrap();
+        }
+        assert_eq!(plan(TOML, "name,ra,dec\n", EPHEMERIS).unwrap().cells(), 0);
+    }
+    #[test]
+    fn a_position_that_is_refused_is_named() {
+        for (row, says) in [
+            ("370,0", "column 6: ra of target `Vega` reads `370`; allowed: 0 to 360 degrees"),
+            ("-10,0", "column 6: ra of target `Vega` reads `-10`; allowed: 0 to 360 degrees"),
+            ("360.00000000000006,0", "column 6: ra of target `Vega` reads `360.00000000000006`; allowed: 0 to 360 degrees"),
+            ("NaN,0", "column 6: ra of target `Vega` reads `NaN`; allowed: 0 to 360 degrees"),
+            ("0,90.5", "column 8: dec of target `Vega` reads `90.5`; allowed: -90 to 90 degrees"),
+            ("10,\"-90.01\"", "column 10: dec of target `Vega` reads `-90.01`; allowed: -90 to 90 degrees"),
+            ("0,-inf", "column 8: dec of target `Vega` reads `-inf`; allowed: -90 to 90 degrees"),
+            ("0,nan", "column 8: dec of target `Vega` reads `nan`; allowed: -90 to 90 degrees"),
+            // Each is another's range.
+            ("-45,0", "column 6: ra of target `Vega` reads `-45`; allowed: 0 to 360 degrees"),
+            ("200,100", "column 10: dec of target `Vega` reads `100`; allowed: -90 to 90 degrees"),
+            ("inf,nan", "column 6: ra of target `Vega` reads `inf`; allowed: 0 to 360 degrees"),
+        ] {
+            let fault = plan(TOML, format!("name,ra,dec\nA,0,-90\nB,360,90\nVega,{}\nC,-1,0\n", row), EPHEMERIS).unwrap_err();
+            let text = fault.to_string();
+            let file = text.find("t.csv").unwrap();
+            assert_eq!((fault.status(), &text[file..]), (1, format!("t.csv, line 4, {}", says).as_str()));
+            assert!(text.starts_with("refused with 16: "), "{}", text);
+        }
+    }
+    #[test]
+    fn texts_come_before_refusals() {
+        let says = |targets: &str, ephemeris: &str| plan(TOML, targets, ephemeris).unwrap_err().to_string();
+        let outside = CATALOGUE.replace("10", "370");
+        assert!(says(&outside, EPHEMERIS).contains("refused with 16: "));
+        assert!(says(&outside, &EPHEMERIS.replace("0,1,0", "0,1,zero")).contains("e.csv, line 2, column 26: sun_z reads `zero`"));
+        let text = says(&CATALOGUE.replace("10", "00:40:00"), EPHEMERIS);
+        assert!(text.contains("t.csv, line 2, column 3: ra reads `00:40:00`; allowed: degrees as one number, such as 83.633"), "{}", text);
+        let text = says(&CATALOGUE.replace("ra", "right"), EPHEMERIS);
+        assert!(text.contains("t.csv, line 1, column 1: no column `ra` in `name,right,dec`; allowed: "), "{}", text);
     }
     #[test]
     fn deep_plans_are_refused_before_they_are_read() {
@@ -577,10 +654,72 @@ pub mod tests {
 
     /// What a reader may trip over, beside bytes that are no text.
     const PIECES: &[&str] = &[
-        "[", "[[", "]", "{", "}", "=", ".", ",", "\"", "\"\"\"", "'", "'''", "\\", "\\u0000", "#", "\n", "\r", "\r\n", " ", "\t", "\0",
-        "\u{1b}", "\u{a0}", "\u{3000}", "\u{feff}", "é", "targets", "rolls", "panel", "rolls=", "a.b", "0", "-1", "1.5", "1e999", "0x1f",
-        "1_000", "nan", "-inf", "true", "A,1,0,0", "9e99", ";", "00:00Z", "99:99",
+        "[",
+        "[[",
+        "]",
+        "{",
+        "}",
+        "=",
+        ".",
+        ",",
+        "\"",
+        "\"\"\"",
+        "'",
+        "'''",
+        "\\",
+        "\\u0000",
+        "#",
+        "\n",
+        "\r",
+        "\r\n",
+        " ",
+        "\t",
+        "\0",
+        "\u{1b}",
+        "\u{a0}",
+        "\u{3000}",
+        "\u{feff}",
+        "é",
+        "targets",
+        "rolls",
+        "panel",
+        "rolls=",
+        "a.b",
+        "0",
+        "-1",
+        "1.5",
+        "1e999",
+        "0x1f",
+        "1_000",
+        "nan",
+        "-inf",
+        "true",
+        "A,1,0,0",
+        "9e99",
+        ";",
+        "00:00Z",
+        "99:99",
+        "ra",
+        "dec",
+        ",x",
+        "ra_deg",
+        "A,1,0",
+        "360",
+        "-90",
+        "5h",
+        "05:34:31.9",
+        "°",
     ];
+    /// An angle within a range, at its ends, just beyond them, or any number.
+    fn angle(least: f64, most: f64) -> impl Strategy<Value = f64> {
+        let beyond = |x: f64| if x == 0.0 { -5e-324 } else { f64::from_bits(x.to_bits() + 1) };
+        prop_oneof![
+            12 => least..=most,
+            2 => prop::sample::select(vec![least, most, -0.0]),
+            1 => prop::sample::select(vec![beyond(least), beyond(most), f64::NAN, f64::INFINITY]),
+            1 => any::<f64>(),
+        ]
+    }
     /// Changes of a text: where, how many bytes are cut there, and what is put in their place.
     fn changes() -> impl Strategy<Value = Vec<(usize, usize, Vec<u8>)>> {
         let piece = prop_oneof![
@@ -622,9 +761,9 @@ pub mod tests {
 
     proptest! {
         #[test]
-        fn a_changed_plan_is_read_or_refused(t in changes(), e in changes(), p in changes()) {
+        fn a_changed_plan_is_read_or_refused(targets in prop::sample::select(&[TARGETS, CATALOGUE, OUTSIDE][..]), t in changes(), e in changes(), p in changes()) {
             let toml = "targets = \"t.csv\"\nephemeris = \"e.csv\"\nrolls = 1\ntolerance = 10\npanel = [[0, 1, 0.5]]\n# ..\n";
-            let told = match plan(changed(toml, &p), changed(TARGETS, &t), changed(EPHEMERIS, &e)) {
+            let told = match plan(changed(toml, &p), changed(targets, &t), changed(EPHEMERIS, &e)) {
                 Ok(plan) => {
                     Digest::of(&plan);
                     plan.warnings();
@@ -634,6 +773,35 @@ pub mod tests {
             };
             if let Some(fault) = told {
                 prop_assert!(!fault.to_string().contains(|c: char| c.is_control()), "{}", fault);
+            }
+        }
+        /// Positions are the vectors that the library makes of them, or the first that it cannot take is told.
+        #[test]
+        fn any_positions_are_vectors_or_refused(list in prop::collection::vec((angle(0.0, 360.0), angle(-90.0, 90.0)), 0..6)) {
+            let rows = list.iter().enumerate().map(|(i, (ra, dec))| format!("T{},{},{}\n", i, dec, ra));
+            let read = plan(TOML, format!("name,dec,ra\n{}", rows.collect::<String>()), EPHEMERIS);
+            let wrong = list.iter().enumerate().find_map(|(i, &(ra, dec))| {
+                let (ra_at, dec_at) = (5 + dec.to_string().len(), 4);
+                if !(ra >= 0.0 && ra <= 360.0) {
+                    Some((i, ra_at, "ra", ra, "0 to 360"))
+                } else if !(dec >= -90.0 && dec <= 90.0) {
+                    Some((i, dec_at, "dec", dec, "-90 to 90"))
+                } else {
+                    None
+                }
+            });
+            match (read, wrong) {
+                (Ok(plan), None) => {
+                    let (ra, dec): (Vec<_>, Vec<_>) = list.into_iter().unzip();
+                    prop_assert_eq!(bits(&plan.targets), bits(&engine::unit_vectors(&ra, &dec).unwrap()));
+                    prop_assert!(engine::check(&plan).is_ok());
+                }
+                (Err(fault), Some((i, at, name, value, allowed))) => {
+                    let (line, value) = (i + 2, excerpt(&value.to_string()));
+                    let says = format!("t.csv, line {line}, column {at}: {name} of target `T{i}` reads `{value}`; allowed: {allowed} degrees");
+                    prop_assert!(fault.to_string().starts_with("refused with 16: ") && fault.to_string().ends_with(&says), "{} {}", fault, says);
+                }
+                (read, wrong) => prop_assert!(false, "{:?} {:?}", read.map(|p| p.targets), wrong),
             }
         }
         #[test]

@@ -14,10 +14,14 @@ const MOST_ROWS: usize = 65_536;
 const MOST_BYTES: u64 = 1024 * MOST_ROWS as u64;
 const MOST_LINE_BYTES: usize = 65_536;
 
+/// Columns that a file must have together.
+pub type Form = &'static [&'static str];
+
 #[derive(Debug)]
 pub struct Sheet {
     pub source: Source,
-    names: &'static [&'static str],
+    /// The wanted columns, in the form that the file has.
+    names: Form,
     /// For each wanted column, its number in the file.
     columns: Vec<usize>,
     /// The wanted columns of the first rows: one row more than is allowed, so that the library sees it and refuses.
@@ -34,11 +38,12 @@ pub struct Field<'a> {
 }
 
 impl Sheet {
-    /// Reads a file with these columns, which may stand in any order and among others. A line that starts with # is a comment.
-    pub fn read(path: &Path, names: &'static [&'static str]) -> Result<Sheet, Fault> {
-        Sheet::of(Source::read(path, MOST_BYTES)?, names)
+    /// Reads a file with the columns of one of these forms, which may stand in any order and among others. A line that starts with # is a
+    /// comment.
+    pub fn read(path: &Path, forms: &[Form]) -> Result<Sheet, Fault> {
+        Sheet::of(Source::read(path, MOST_BYTES)?, forms)
     }
-    pub fn of(mut source: Source, names: &'static [&'static str]) -> Result<Sheet, Fault> {
+    pub fn of(mut source: Source, forms: &[Form]) -> Result<Sheet, Fault> {
         if !source.text.contains('\n') {
             // csv takes a carriage return for a line's end, but not for a comment's.
             source.text = source.text.replace('\r', "\n");
@@ -49,9 +54,9 @@ impl Sheet {
         let mut reader = builder().from_reader(text);
         let mut record = StringRecord::new();
         let mut next = |record: &mut StringRecord| reader.read_record(record).map_err(|e| csv_fault(&source, e));
-        let columns = match next(&mut record)? {
-            true => find(&source, &record, names)?,
-            false => return Err(source.fault(0, "the file is empty", &allowed(names))),
+        let (names, columns) = match next(&mut record)? {
+            true => find(&source, &record, forms)?,
+            false => return Err(source.fault(0, "the file is empty", &allowed(forms))),
         };
         let (mut records, mut rows) = (Vec::new(), 0);
         let mut last = record.position().cloned();
@@ -68,6 +73,9 @@ impl Sheet {
             return Err(fault);
         }
         Ok(Sheet { source, names, columns, records, rows })
+    }
+    pub fn form(&self) -> Form {
+        self.names
     }
     /// How many rows the file has.
     pub fn len(&self) -> usize {
@@ -99,22 +107,73 @@ fn short_lines(source: &Source) -> Result<(), Fault> {
     Ok(())
 }
 
-fn allowed(names: &[&str]) -> String {
-    format!("a first line that names the columns {}, with commas between them; a line that starts with # is a comment", names.join(","))
+fn allowed(forms: &[Form]) -> String {
+    let forms: Vec<_> = forms.iter().map(|names| names.join(",")).collect();
+    format!("a first line that names the columns {}, with commas between them; a line that starts with # is a comment", forms.join(" or "))
 }
 
-/// Where the wanted columns stand in the file's first record.
-fn find(source: &Source, header: &StringRecord, names: &[&str]) -> Result<Vec<usize>, Fault> {
-    let fault = |read: String| source.fault(start(source, header.position()), read, &allowed(names));
+/// The form that the file's first record has, and where its columns stand there.
+fn find(source: &Source, header: &StringRecord, forms: &[Form]) -> Result<(Form, Vec<usize>), Fault> {
+    let fault = |read: String| source.fault(start(source, header.position()), read, &allowed(forms));
+    let names = form_of(header, forms).map_err(fault)?;
     let column = |name: &&str| {
         let mut found = (0..header.len()).filter(|&i| header[i].eq_ignore_ascii_case(name));
         match (found.next(), found.next()) {
             (Some(i), None) => Ok(i),
-            (None, _) => Err(fault(format!("no column `{}` in `{}`", name, excerpt(&header.iter().collect::<Vec<_>>().join(","))))),
+            (None, _) => Err(fault(format!("no column `{}` in `{}`{}", name, columns(header), rename(header, &[name])))),
             _ => Err(fault(format!("two columns `{}`", name))),
         }
     };
-    names.iter().map(column).collect()
+    Ok((names, names.iter().map(column).collect::<Result<_, _>>()?))
+}
+
+/// The one form of which the first record has columns; where that is none or several, what is wrong.
+fn form_of(header: &StringRecord, forms: &[Form]) -> Result<Form, String> {
+    if let [only] = forms {
+        return Ok(only);
+    }
+    // A column of every form tells none from another.
+    let own = |form: Form| form.iter().copied().filter(|name| !forms.iter().all(|form| form.contains(name)));
+    let found = |form: Form| own(form).filter(|name| header.iter().any(|column| column.eq_ignore_ascii_case(name))).collect::<Vec<_>>();
+    let begun: Vec<_> = forms.iter().copied().filter(|form| !found(form).is_empty()).collect();
+    match begun[..] {
+        [form] => Ok(form),
+        [] => {
+            let all: Vec<_> = forms.iter().flat_map(|form| own(form)).collect();
+            Err(format!("none of the columns {} in `{}`{}", all.join(","), columns(header), rename(header, &all)))
+        }
+        _ => {
+            let begun: Vec<_> = begun.iter().map(|form| found(form).join(",")).collect();
+            let (begun, columns) = (begun.join(" and "), columns(header));
+            Err(format!("both {} in `{}`, and a file has one form: remove or rename the columns of the other", begun, columns))
+        }
+    }
+}
+
+/// The first record as a message shows it.
+fn columns(header: &StringRecord) -> String {
+    excerpt(&header.iter().collect::<Vec<_>>().join(","))
+}
+
+/// How catalogues name a column that we name otherwise, without capitals, spaces, signs and a unit at the end.
+const OTHER_NAMES: [(&str, &[&str]); 2] = [
+    ("ra", &["ra", "raicrs", "raj2000", "ra2000", "rightascension"]),
+    ("dec", &["dec", "decicrs", "decj2000", "dec2000", "declination", "decl", "de", "deicrs", "dej2000", "de2000"]),
+];
+
+/// What to do where the file has wanted columns by such names.
+fn rename(header: &StringRecord, wanted: &[&str]) -> String {
+    let is_one = |column: &str, others: &[&str]| {
+        let plain: String = column.chars().filter(char::is_ascii_alphanumeric).map(|c| c.to_ascii_lowercase()).collect();
+        others.contains(&plain.strip_suffix("degrees").or(plain.strip_suffix("deg")).unwrap_or(&plain))
+    };
+    let mut text = String::new();
+    for (name, others) in OTHER_NAMES.iter().filter(|(name, _)| wanted.contains(name)) {
+        if let Some(column) = header.iter().find(|column| is_one(column, others)) {
+            text += &format!("{} `{}` to `{}`", if text.is_empty() { "; rename" } else { " and" }, excerpt(column), name);
+        }
+    }
+    text
 }
 
 /// Where a record starts: after the line ends and the comments that the position still has before it.
@@ -209,6 +268,22 @@ fn csv_fault(source: &Source, e: csv::Error) -> Fault {
     }
 }
 
+/// Whether a text is an angle of several numbers, such as 05:34:31.94, -5 23 28 or 5h34m, or of hours.
+fn is_sexagesimal(text: &str) -> bool {
+    const MARKS: [char; 17] = [':', ' ', 'h', 'H', 'd', 'D', 'm', 'M', 's', 'S', '\'', '"', '°', '′', '″', '’', '”'];
+    let text = text.trim_start_matches(['+', '-', '\u{2212}', '\u{2013}']);
+    let parts: Vec<_> = text.split(MARKS).filter(|part| !part.is_empty()).collect();
+    let digits = |part: &str| part.chars().all(|c| c.is_ascii_digit() || c == '.');
+    // Minutes and seconds are below 60.
+    let is_small = |part: &&str| part.split('.').next().map_or(true, |whole| whole.len() <= 2);
+    let has_marks = match parts[..] {
+        [] => false,
+        [_] => text.ends_with(['h', 'H']),
+        [_, ..] => parts[1..].iter().all(is_small),
+    };
+    has_marks && parts.into_iter().all(digits)
+}
+
 impl<'a> Field<'a> {
     pub fn text(self) -> &'a str {
         &self.sheet.records[self.record][self.column]
@@ -239,19 +314,29 @@ impl<'a> Field<'a> {
         self.sheet.source.fault(self.byte(inside), format!("{} reads `{}`", self.name(), self.shown()), allowed)
     }
     pub fn number(self) -> Result<f64, Fault> {
+        self.parsed("a number such as -0.5 or 1.5e8", |_| "")
+    }
+    /// An angle in degrees.
+    pub fn degrees(self) -> Result<f64, Fault> {
+        self.parsed("degrees as one number, such as 83.633 or -5.391", |text| match is_sexagesimal(text) {
+            true => " (this has hours, minutes or seconds; an hour of right ascension is 15 degrees)",
+            false => "",
+        })
+    }
+    fn parsed(self, allowed: &str, hint: impl Fn(&str) -> &'static str) -> Result<f64, Fault> {
         let text = self.text();
         let would_read = |from: &[char], to| text.replace(from, to).parse::<f64>().is_ok();
         text.parse().map_err(|_| {
-            let allowed = if would_read(&['\u{2212}', '\u{2013}'], "-") {
-                "a number such as -0.5 or 1.5e8 (this has a dash for its minus)"
+            let hint = if would_read(&['\u{2212}', '\u{2013}'], "-") {
+                " (this has a dash for its minus)"
             } else if would_read(&[','], ".") {
-                "a number such as -0.5 or 1.5e8 (this has a comma for its point)"
+                " (this has a comma for its point)"
             } else if would_read(&['d', 'D'], "e") {
-                "a number such as -0.5 or 1.5e8 (this has a D for its exponent)"
+                " (this has a D for its exponent)"
             } else {
-                "a number such as -0.5 or 1.5e8"
+                hint(text)
             };
-            self.fault(0, allowed)
+            self.fault(0, &format!("{}{}", allowed, hint))
         })
     }
     /// An RFC 3339 time.
@@ -266,7 +351,7 @@ mod tests {
     use proptest::prelude::*;
 
     fn sheet(text: &str) -> Result<Sheet, Fault> {
-        Sheet::of(Source::of(Path::new("t.csv"), text.into()).unwrap(), &["name", "x"])
+        Sheet::of(Source::of(Path::new("t.csv"), text.into()).unwrap(), &[&["name", "x"]])
     }
     fn fault(text: &str) -> String {
         sheet(text).unwrap_err().to_string()
@@ -318,6 +403,96 @@ mod tests {
             fault("name,x\r\na,1\r\nb,1,5\r\n"),
             "t.csv, line 3, column 1: 3 fields; allowed: 2 fields, as many as the first line has"
         );
+    }
+    /// Two forms, as targets have them.
+    fn in_forms(text: &str) -> Result<Sheet, Fault> {
+        Sheet::of(Source::of(Path::new("t.csv"), text.into()).unwrap(), &[&["name", "ra", "dec"], &["name", "x", "y", "z"]])
+    }
+    #[test]
+    fn a_file_has_one_form() {
+        for (head, form, columns) in [
+            ("name,ra,dec", &["name", "ra", "dec"][..], vec![0, 1, 2]),
+            ("mag, DEC ,Name,\"Ra\"", &["name", "ra", "dec"], vec![2, 3, 1]),
+            ("name,x,y,z", &["name", "x", "y", "z"], vec![0, 1, 2, 3]),
+            ("z,ra_deg,y,name,x", &["name", "x", "y", "z"], vec![3, 4, 2, 0]),
+        ] {
+            let s = in_forms(&format!("# of\n{}\n", head)).unwrap();
+            assert_eq!((s.form(), s.columns), (form, columns), "{}", head);
+        }
+    }
+    #[test]
+    fn both_forms_neither_and_half_of_one() {
+        const ALLOWED: &str =
+            "; allowed: a first line that names the columns name,ra,dec or name,x,y,z, with commas between them; a line that starts with # is a comment";
+        for (head, says) in [
+            (
+                "name,x,y,z,ra,dec",
+                "both ra,dec and x,y,z in `name,x,y,z,ra,dec`, and a file has one form: remove or rename the columns of the other",
+            ),
+            ("name,ra,dec,Z", "both ra,dec and z in `name,ra,dec,Z`, and a file has one form: remove or rename the columns of the other"),
+            ("dec,name,y,x", "both dec and x,y in `dec,name,y,x`, and a file has one form: remove or rename the columns of the other"),
+            ("name,l,b", "none of the columns ra,dec,x,y,z in `name,l,b`"),
+            ("name;ra;dec", "none of the columns ra,dec,x,y,z in `name;ra;dec`"),
+            ("name,ra", "no column `dec` in `name,ra`"),
+            ("dec,name", "no column `ra` in `dec,name`"),
+            ("name,x,z", "no column `y` in `name,x,z`"),
+            ("id,ra,dec", "no column `name` in `id,ra,dec`"),
+            ("name,ra,dec,RA", "two columns `ra`"),
+            // What catalogues call them.
+            (
+                "name,RA_ICRS,DE_ICRS",
+                "none of the columns ra,dec,x,y,z in `name,RA_ICRS,DE_ICRS`; rename `RA_ICRS` to `ra` and `DE_ICRS` to `dec`",
+            ),
+            (
+                "name,ra_deg,dec_deg",
+                "none of the columns ra,dec,x,y,z in `name,ra_deg,dec_deg`; rename `ra_deg` to `ra` and `dec_deg` to `dec`",
+            ),
+            (
+                "name,Right Ascension (deg),Dec",
+                "no column `ra` in `name,Right Ascension (deg),Dec`; rename `Right Ascension (deg)` to `ra`",
+            ),
+            ("name,RA [deg],Dec", "no column `ra` in `name,RA [deg],Dec`; rename `RA [deg]` to `ra`"),
+            ("name,ra,_DEJ2000", "no column `dec` in `name,ra,_DEJ2000`; rename `_DEJ2000` to `dec`"),
+            ("name,radius,ra_h,deg", "none of the columns ra,dec,x,y,z in `name,radius,ra_h,deg`"),
+            ("name,x,y,ra_deg", "no column `z` in `name,x,y,ra_deg`"),
+        ] {
+            let text = in_forms(&format!("# of\n{}\n", head)).unwrap_err().to_string();
+            assert_eq!(text, format!("t.csv, line 2, column 1: {}{}", says, ALLOWED));
+        }
+        assert_eq!(in_forms("").unwrap_err().to_string(), format!("t.csv, line 1, column 1: the file is empty{}", ALLOWED));
+    }
+    #[test]
+    fn angles_that_are_not_degrees_are_recognised() {
+        const ALLOWED: &str = "; allowed: degrees as one number, such as 83.633 or -5.391";
+        const PARTS: &str = " (this has hours, minutes or seconds; an hour of right ascension is 15 degrees)";
+        for (angle, hint) in [
+            ("05:34:31.94", PARTS),
+            ("05:34", PARTS),
+            ("-05:23:28", PARTS),
+            ("+22 00 52.2", PARTS),
+            ("5h34m31.94s", PARTS),
+            ("5h", PARTS),
+            ("5.575 h", PARTS),
+            ("\u{2212}5°23′28″", PARTS),
+            ("22d00m52s", PARTS),
+            ("22d0'52\"", PARTS),
+            ("83,633", " (this has a comma for its point)"),
+            ("\u{2212}5.391", " (this has a dash for its minus)"),
+            ("1 000", ""),
+            ("83.633 deg", ""),
+            ("83.633°", ""),
+            ("M 31", ""),
+            ("h", ""),
+            ("", ""),
+        ] {
+            let text = in_forms(&format!("name,ra,dec\nA,0,\"{}\"\n", angle.replace('"', "\"\""))).unwrap();
+            let text = text.field(0, 2).degrees().unwrap_err().to_string();
+            let shown = text.find(": dec reads `").unwrap();
+            assert_eq!(&text[shown..], format!(": dec reads `{}`{}{}", angle, ALLOWED, hint));
+        }
+        for (angle, degrees) in [("83.633", 83.633), ("+5", 5.0), ("-0", 0.0), ("1e2", 100.0), ("inf", f64::INFINITY)] {
+            assert_eq!(in_forms(&format!("name,ra,dec\nA,{},0\n", angle)).unwrap().field(0, 1).degrees().unwrap(), degrees);
+        }
     }
     #[test]
     fn no_records_are_no_fault() {
@@ -408,9 +583,29 @@ mod tests {
         fn any_text_is_a_sheet_or_a_fault(head in "(name,x\n)?", text in "(\\PC|\\s|[\",#\n]|[0-9a-z]{1,3},[0-9.]{1,3}\n){0,40}") {
             if let Ok(s) = sheet(&(head + &text)) {
                 for f in s.fields().flatten() {
-                    let faults = [f.number().err(), f.time().err()].map(|e| e.map_or(String::new(), |e| e.to_string()));
+                    let faults = [f.number().err(), f.degrees().err(), f.time().err()].map(|e| e.map_or(String::new(), |e| e.to_string()));
                     prop_assert!(faults.iter().all(|text| text.len() < 800));
                     prop_assert!(f.line() <= s.source.text.lines().count());
+                }
+            }
+        }
+        /// Any columns are of one form, or told in a sentence that names both.
+        #[test]
+        fn any_first_line_has_a_form_or_a_fault(columns in prop::collection::vec("(name|x|y|z|ra|dec|RA|Dec|ra_deg|de|\\PC{0,3})", 0..8)) {
+            let has = |name: &&str| columns.iter().filter(|column| column.trim().eq_ignore_ascii_case(name)).count();
+            let once = |form: &[&str]| form.iter().all(|name| has(name) == 1);
+            let (position, vector) = (&["ra", "dec"][..], &["x", "y", "z"][..]);
+            let any = |form: &[&str]| form.iter().any(|name| has(name) > 0);
+            let quoted: Vec<_> = columns.iter().map(|column| format!("\"{}\"", column.replace('"', "\"\""))).collect();
+            let right = has(&"name") == 1 && (once(position) && !any(vector) || once(vector) && !any(position));
+            match in_forms(&format!("{}\n", quoted.join(","))) {
+                Ok(s) => {
+                    prop_assert!(right, "{:?}", columns);
+                    prop_assert_eq!(&s.form()[1..], if any(position) { position } else { vector });
+                }
+                Err(fault) => {
+                    prop_assert!(!right, "{:?}", columns);
+                    prop_assert!(fault.to_string().contains("name,ra,dec or name,x,y,z"), "{}", fault);
                 }
             }
         }

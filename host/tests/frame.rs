@@ -1,8 +1,8 @@
 //! Where roll 0 is and which way a roll turns, as docs/HOST.md and include/wilfnusk.h say it: by right ascension and declination, not by the
 //! library's own axes.
 use proptest::prelude::*;
-use std::{fs, process::Command};
-use wilfnusk::{cell, circular_diff_deg, OptimalRoll};
+use std::{fs, path::Path, process::Command};
+use wilfnusk::{cell, circular_diff_deg, radec_to_unit_vectors_batch, OptimalRoll};
 
 type Vector = [f64; 3];
 
@@ -54,20 +54,50 @@ fn the_numbers_of_the_document() {
 fn the_program_turns_so() {
     let folder = tempfile::tempdir().unwrap();
     let put = |name: &str, text: &str| fs::write(folder.path().join(name), text).unwrap();
-    put("t.csv", "name,x,y,z\nA,1,0,0\n");
     put("e.csv", "time,sun_x,sun_y,sun_z,observer_x,observer_y,observer_z\n2026-03-20T00:00:00Z,7000,866025403.784,500000000,7000,0,0\n");
     put("plan.toml", "targets = \"t.csv\"\nephemeris = \"e.csv\"\nrolls = 24\ntolerance = 0.001\n");
-    for (roll, mask) in [("30", "0 A\n"), ("29", "1 A\n"), ("31", "1 A\n"), ("-30", "1 A\n"), ("390", "0 A\n")] {
-        let out = Command::new(env!("CARGO_BIN_EXE_wilfnusk"))
-            .args(["mask", "--fixed-roll", roll])
-            .arg(folder.path().join("plan.toml"))
-            .output()
-            .unwrap();
-        assert_eq!(String::from_utf8(out.stdout).unwrap(), mask, "{}", roll);
+    for targets in ["name,x,y,z\nA,1,0,0\n", "name,ra,dec\nA,0,0\n", "name,ra,dec\nA,360,0\n"] {
+        put("t.csv", targets);
+        for (roll, mask) in [("30", "0 A\n"), ("29", "1 A\n"), ("31", "1 A\n"), ("-30", "1 A\n"), ("390", "0 A\n")] {
+            assert_eq!(mask_at(folder.path(), roll), mask, "{} {}", targets, roll);
+        }
     }
 }
 
+/// Targets by right ascension and declination, with the Sun east, north and south of each: the roll is 0, 90 and -90.
+#[test]
+fn the_program_knows_right_ascension_and_declination() {
+    let folder = tempfile::tempdir().unwrap();
+    let put = |name: &str, text: &str| fs::write(folder.path().join(name), text).unwrap();
+    put("plan.toml", "targets = \"t.csv\"\nephemeris = \"e.csv\"\nrolls = 24\ntolerance = 0.001\n");
+    for (ra, dec) in [(90.0, 0.0), (30.0, 60.0), (83.633, 22.0145), (269.639, 66.633), (201.365, -43.019), (359.0, -89.0)] {
+        put("t.csv", &format!("name,ra,dec\nA,{},{}\n", ra, dec));
+        let [target, east, north] = sky(ra, dec);
+        let suns = [east, north, north.map(|x| -x)].map(|side| mix(0.3, target, 1.0, side));
+        let rows = suns.iter().enumerate().map(|(j, [x, y, z])| format!("2026-03-20T00:0{}:00Z,{},{},{},0,0,0\n", j, x, y, z));
+        put("e.csv", &format!("time,sun_x,sun_y,sun_z,observer_x,observer_y,observer_z\n{}", rows.collect::<String>()));
+        for (roll, mask) in [("0", "011 A\n"), ("90", "101 A\n"), ("-90", "110 A\n")] {
+            assert_eq!(mask_at(folder.path(), roll), mask, "{} {} at {}", ra, dec, roll);
+        }
+    }
+}
+
+/// What `mask --fixed-roll` prints of the plan in a folder.
+fn mask_at(folder: &Path, roll: &str) -> String {
+    let plan = folder.join("plan.toml");
+    let out = Command::new(env!("CARGO_BIN_EXE_wilfnusk")).args(["mask", "--fixed-roll", roll]).arg(plan).output().unwrap();
+    String::from_utf8(out.stdout).unwrap()
+}
+
 proptest! {
+    /// The library's vector is that of the words, by another sine.
+    #[test]
+    fn the_vectors_of_positions((ra, dec) in (0.0..=360.0, -90.0..=90.0)) {
+        let mut vector = [0.0; 3];
+        radec_to_unit_vectors_batch(&[ra], &[dec], &mut vector).unwrap();
+        let [expected, ..] = sky(ra, dec);
+        prop_assert!((0..3).all(|k| (vector[k] - expected[k]).abs() < 1e-14), "{:?} {:?}", vector, expected);
+    }
     /// At the optimal roll the panel's normal, across the boresight, points where the Sun is, if roll 0 has y east and z north and a roll
     /// turns y toward z.
     #[test]

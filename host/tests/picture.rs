@@ -40,6 +40,16 @@ fn labels<'a>(svg: &'a Document) -> Vec<(f64, Vec<(f64, &'a str)>)> {
 
 const DIGIT: f64 = 7.64;
 
+/// The example is the same on every machine, and so is its picture.
+#[test]
+fn the_picture_of_the_documents() {
+    let f = Folder::new(&[], "", "");
+    f.run(&["example", "season"]).says(0, &[]);
+    f.run(&["sweep", "season/plan.toml", "--svg", "w.svg"]).says(0, &["wrote w.svg"]);
+    let of_docs = std::fs::read_to_string(concat!(env!("CARGO_MANIFEST_DIR"), "/../docs/windows.svg")).unwrap();
+    assert!(f.read("w.svg") == of_docs, "docs/windows.svg is not what ./demo draws: put build/demo/windows.svg in its place");
+}
+
 #[test]
 fn an_axis_above_and_below_with_labels_that_leave_each_other_room() {
     for (first, second) in [

@@ -1,13 +1,18 @@
 //! Plans to sweep: their files for the program, and what document 01 says of them, worked out by the model.
-use cases::{plans::direction, Seeded};
-use model::{journal::Sweep, plan::Rolls, Plan};
+use cases::{catalogue::positions, plans::direction, Seeded};
+use model::{catalogue::radec_to_unit, journal::Sweep, plan::Rolls, Plan};
 use std::{fmt::Write, fs, path::Path};
 
 pub struct Case {
     pub name: &'static str,
     pub sweep: Sweep,
     pub times: Vec<i64>,
+    /// Right ascensions and declinations, where the targets file has those in place of vectors.
+    positions: Option<(Vec<f64>, Vec<f64>)>,
 }
+
+/// The first line of targets by right ascension and declination.
+pub const CATALOGUE_HEAD: &str = "name,ra,dec\n";
 
 const FIRST_TIME: i64 = 1_774_000_000_000_000_000;
 const STEP: i64 = 60_000_000_000;
@@ -15,7 +20,7 @@ const STEP: i64 = 60_000_000_000;
 impl Case {
     fn new(name: &'static str, plan: Plan) -> Case {
         let times = (0..plan.times() as i64).map(|j| FIRST_TIME + STEP * j).collect();
-        Case { name, sweep: Sweep::new(plan).expect("an accepted plan"), times }
+        Case { name, sweep: Sweep::new(plan).expect("an accepted plan"), times, positions: None }
     }
     /// Document 01's example.
     pub fn example() -> Case {
@@ -45,6 +50,13 @@ impl Case {
         }
         Case::new(name, plan)
     }
+    /// The same with other targets, by right ascension and declination; their vectors are the model's.
+    pub fn of_catalogue(self, seed: u64) -> Case {
+        let mut plan = self.sweep.plan;
+        let (ra, dec) = positions(&mut Seeded::new(seed), plan.rows());
+        plan.targets = ra.iter().zip(&dec).flat_map(|(&ra, &dec)| radec_to_unit(ra, dec)).collect();
+        Case { positions: Some((ra, dec)), ..Case::new(self.name, plan) }
+    }
     pub fn chunks(&self) -> usize {
         self.sweep.chunks()
     }
@@ -57,10 +69,13 @@ impl Case {
         if let Some(roll) = plan.roll_deg {
             let _ = writeln!(toml, "configured_roll = {}", toml_number(roll));
         }
-        let mut targets = String::from("name,x,y,z\n");
+        let mut targets = String::from(if self.positions.is_some() { CATALOGUE_HEAD } else { "name,x,y,z\n" });
         for i in 0..plan.rows() {
             let [x, y, z] = plan.target(i);
-            let _ = writeln!(targets, "T{},{:?},{:?},{:?}", i, x, y, z);
+            let _ = match &self.positions {
+                Some((ra, dec)) => writeln!(targets, "T{},{:?},{:?}", i, ra[i], dec[i]),
+                None => writeln!(targets, "T{},{:?},{:?},{:?}", i, x, y, z),
+            };
         }
         let mut ephemeris = String::from("time,sun_x,sun_y,sun_z,observer_x,observer_y,observer_z\n");
         for j in 0..plan.times() {

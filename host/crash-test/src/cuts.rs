@@ -89,6 +89,7 @@ pub fn every_byte(case: &Case, order: &[usize], folder: &Path, tally: &mut Tally
     assert!(machine.windows_csv() == case.windows_csv(), "the windows are not those of section 5");
     let length = machine.journal().len();
     let ascending: Vec<_> = (0..case.chunks()).collect();
+    let before = tally.cuts;
     for byte in 0..=length {
         machine.without_journal();
         let mut ledger = Ledger::new(&case.sweep);
@@ -121,6 +122,9 @@ pub fn every_byte(case: &Case, order: &[usize], folder: &Path, tally: &mut Tally
         whole(&machine, &ended);
     }
     tally.bytes += length as u64 + 1;
+    if machine.is_catalogue() {
+        tally.catalogue += tally.cuts - before;
+    }
 }
 
 /// The power fails while the digest is written, before the first byte of the journal: at every byte of it.

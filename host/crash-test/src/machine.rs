@@ -1,5 +1,5 @@
 //! A machine: a folder with a plan and its journal, on which the program runs until its power is cut.
-use crate::case::Case;
+use crate::case::{Case, CATALOGUE_HEAD};
 use std::{
     env, fs, io,
     os::unix::process::{CommandExt, ExitStatusExt},
@@ -37,6 +37,10 @@ impl<'a> Machine<'a> {
     }
     pub fn path(&self) -> PathBuf {
         self.folder.join("plan.journal")
+    }
+    /// Whether the program is given targets by right ascension and declination.
+    pub fn is_catalogue(&self) -> bool {
+        fs::read_to_string(self.folder.join("targets.csv")).unwrap().starts_with(CATALOGUE_HEAD)
     }
     /// The journal's bytes; none if the file is not there.
     pub fn journal(&self) -> Vec<u8> {

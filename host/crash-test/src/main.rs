@@ -26,6 +26,8 @@ use std::{
 pub struct Tally {
     /// Power cuts.
     pub cuts: u64,
+    /// Those of plans whose targets are right ascensions and declinations.
+    pub catalogue: u64,
     /// Bytes of journals at which it was cut.
     pub bytes: u64,
     /// System calls at which it was cut.
@@ -65,10 +67,11 @@ fn main() {
     let tally = run(&folder, seconds, seed);
     fs::remove_dir_all(&folder).unwrap();
     println!(
-        "{} power cuts ({} of them took bytes that were not synced), up to {} in a row on one journal, {} split sweeps, {} damaged journals \
-         ({} refused, the rest still right): nothing was lost",
+        "{} power cuts ({} of them took bytes that were not synced, {} were on targets by right ascension and declination), up to {} in a row on \
+         one journal, {} split sweeps, {} damaged journals ({} refused, the rest still right): nothing was lost",
         tally.cuts + tally.unsynced,
         tally.unsynced,
+        tally.catalogue,
         tally.longest,
         tally.splits,
         tally.damaged,
@@ -87,7 +90,8 @@ fn run(folder: &Path, seconds: u64, seed: u64) -> Tally {
     let four = Case::drawn("3 targets, 70 times, 8 rolls", 2, 3, 70, 8, 15.0, None);
     let fixed = Case::drawn("2 targets, 50 times, a configured roll", 3, 2, 50, 3, 30.0, Some(-40.5));
     let none = Case::drawn("no targets", 4, 0, 5, 360, f64::NAN, None);
-    for case in [&example, &four, &fixed, &none] {
+    let catalogue = Case::drawn("3 targets by ra and dec, 40 times, 24 rolls", 7, 3, 40, 24, 5.0, None).of_catalogue(5);
+    for case in [&example, &four, &fixed, &none, &catalogue] {
         let chunks = case.chunks();
         let mut orders = vec![(0..chunks).collect::<Vec<_>>()];
         if chunks > 1 {
@@ -104,6 +108,7 @@ fn run(folder: &Path, seconds: u64, seed: u64) -> Tally {
         }
         done(format!("every byte: {}, orders of chunks: {}, cuts: {}", case.name, orders.len(), tally.cuts - before));
     }
+    assert!(tally.catalogue > 0, "no plan by right ascension and declination was cut");
     let missed = syncs::missed(&four, &at("missed"));
     done(format!("a sync that is missing: {} of {} told", missed, missed));
     cuts::every_byte_of_the_digest(&example, &at("digest"), &mut tally);
