@@ -68,7 +68,14 @@ extern "C" {
         panel_z: c_double,
         roll: *mut f64,
     ) -> i64;
-    pub fn wilfnusk_radec_to_unit_vectors_batch(ra: *const f64, ra_len: usize, dec: *const f64, dec_len: usize, out: *mut f64, out_len: usize) -> i64;
+    pub fn wilfnusk_radec_to_unit_vectors_batch(
+        ra: *const f64,
+        ra_len: usize,
+        dec: *const f64,
+        dec_len: usize,
+        out: *mut f64,
+        out_len: usize,
+    ) -> i64;
     pub fn wilfnusk_violation_windows(
         mask: *const u8,
         mask_len: usize,
