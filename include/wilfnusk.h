@@ -50,7 +50,8 @@
  *
  * Calls about a plan begin with the same parameters, in the same order:
  *
- *    targets        directions from the satellite, three numbers each: unit vectors, in the frame of the positions
+ *    targets        directions from the satellite, three numbers each: unit vectors, in the frame of the positions. From right ascension and
+ *                   declination wilfnusk_radec_to_unit_vectors_batch makes them
  *    suns           the Sun's position at each time, three numbers each
  *    observers      the satellite's position at each time, three numbers each, in the unit and from the origin of suns
  *    tolerance_deg  how far, in degrees, a roll may be from the optimal one; any double. NaN: no cell is violated. Below 0: every cell
@@ -121,7 +122,7 @@ double wilfnusk_circular_diff_deg(double a, double b);
 /* ---- Catalogue positions --------------------------------------------------------------------------------------------------------- */
 
 /* Writes the unit vector of each position, from its right ascension and declination in degrees: x, y, z one position after the other, as a
- * plan's targets. Answers 0. What it writes is never refused as targets.
+ * plan's targets. Answers 0. No vector that it writes is refused as a target: each number is within -1 to 1, the length 1 but for rounding.
  * Refuses: -1 if ra and dec are not equally long; -16; -7 if out_len is below 3 a position. */
 int64_t wilfnusk_radec_to_unit_vectors_batch(const double *ra, size_t ra_len, const double *dec, size_t dec_len, double *out,
                                              size_t out_len);

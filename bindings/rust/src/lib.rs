@@ -179,7 +179,7 @@ pub fn cell(target: [f64; 3], sun: [f64; 3], observer: [f64; 3], panel_normal: [
 }
 
 /// Writes the unit vector of each catalogue position, right ascension and declination in degrees: x, y, z a position. Places beyond stay.
-/// What it writes is accepted as targets of a [`Plan`].
+/// No vector that it writes is refused as a target of a [`Plan`].
 ///
 /// ```
 /// let mut targets = [0.0; 6];

@@ -121,11 +121,12 @@ small-difference m n e d h g = go (ltb (m * up e * down d) (n * up d * down e)) 
     go true j = small true _ (down e * down d) (mul-pos (down-pos e) (down-pos d)) (omega arith)
     go false j = small false _ (down e * down d) (mul-pos (down-pos e) (down-pos d)) (omega arith)
 
--- P/4 is this many parts of 2^-50
+-- P/4, in parts of 2^-50
 abbrev eighth : ℕ
 eighth = 884279719003555
 
-thresholds : (quarters 1 ≡ fin false (1 * eighth) (negsuc 49)) × (quarters 3 ≡ fin false (3 * eighth) (negsuc 49)) × (quarters 5 ≡ fin false (5 * eighth) (negsuc 49)) × (quarters 7 ≡ fin false (7 * eighth) (negsuc 49))
+-- the thresholds are odd multiples of it, exactly
+pub thresholds : (quarters 1 ≡ fin false (1 * eighth) (negsuc 49)) × (quarters 3 ≡ fin false (3 * eighth) (negsuc 49)) × (quarters 5 ≡ fin false (5 * eighth) (negsuc 49)) × (quarters 7 ≡ fin false (7 * eighth) (negsuc 49))
 unfolding quarters ofInt ofBits mul div round
 thresholds = (refl, refl, refl, refl)
 
@@ -152,21 +153,21 @@ nearest K X h = elim (le-or-lt X (1 * K)) [
     under : (n : ℕ) → X ≤ n * K → flag (ltb (n * K) X) ≡ 0
     under n l = ap flag (le-ltb (n * K) X l)
 
--- q·(P/2), of parts of 2^-50
-record Half (q : ℕ) : Type 0 where
-  n : ℕ
-  d : ℤ
-  is : ofInt binary64 (pos q) ⊗ (PI ⊘ two) ≡ fin false n d
-  at : n * up d * 1125899906842624 ≡ 2 * q * eighth * down d
+-- q·(P/2) is 2q of it, exactly
+pub record Half (q : ℕ) : Type 0 where
+  pub n : ℕ
+  pub d : ℤ
+  pub is : ofInt binary64 (pos q) ⊗ (PI ⊘ two) ≡ fin false n d
+  pub at : n * up d * 1125899906842624 ≡ 2 * q * eighth * down d
 
-half : (q : ℕ) → q ≤ 4 → Half q
+pub halves : (q : ℕ) → q ≤ 4 → Half q
 unfolding ofInt ofBits mul div round
-half zero l = record { n = 0; d = pos 0; is = refl; at = refl }
-half (suc zero) l = record { n = 884279719003555; d = negsuc 48; is = refl; at = refl }
-half (suc (suc zero)) l = record { n = 884279719003555; d = negsuc 47; is = refl; at = refl }
-half (suc (suc (suc zero))) l = record { n = 2652839157010665; d = negsuc 48; is = refl; at = refl }
-half (suc (suc (suc (suc zero)))) l = record { n = 884279719003555; d = negsuc 46; is = refl; at = refl }
-half (suc (suc (suc (suc (suc q))))) l = absurd (let z : ⊥ = omega arith in z)
+halves zero l = record { n = 0; d = pos 0; is = refl; at = refl }
+halves (suc zero) l = record { n = 884279719003555; d = negsuc 48; is = refl; at = refl }
+halves (suc (suc zero)) l = record { n = 884279719003555; d = negsuc 47; is = refl; at = refl }
+halves (suc (suc (suc zero))) l = record { n = 2652839157010665; d = negsuc 48; is = refl; at = refl }
+halves (suc (suc (suc (suc zero)))) l = record { n = 884279719003555; d = negsuc 46; is = refl; at = refl }
+halves (suc (suc (suc (suc (suc q))))) l = absurd (let z : ⊥ = omega arith in z)
 
 -- A and B, over c, are within 1 of each other where they are within K of the parts of 2^-50
 within-one : (A B X Y E F K : ℕ) → A * K ≡ X * F → B * K ≡ Y * E * F → X ≤ Y * E + K * E → Y * E ≤ X + K * E → 0 < K → (A ≤ B + E * F) × (B ≤ A + E * F)
@@ -206,7 +207,7 @@ module _ (m : ℕ) (e : ℤ) (top : m * up e ≤ 7 * down e) where
 
   reduced : Small (a ⊖ ofInt binary64 (pos q) ⊗ (PI ⊘ two))
   reduced =
-      let f = half q (near-X .0) in
+      let f = halves q (near-X .0) in
       let w = apart q (down e) (down (f .d)) (m * up e) (f .n * up (f .d)) (f .at) (near-X .1) (near-X .2) in
       rw (f .is) (small-difference m (f .n) e (f .d) (w .0) (w .1))
     where
