@@ -110,7 +110,7 @@ double wilfnusk_sqrt(double x);
 double wilfnusk_atan2(double y, double z);
 
 /* The sine and the cosine of r radians, by a rule of their own, the same on every machine. Made for r from -2 pi to 2 pi, where they are
- * within 1e-15 of the true ones; further out they are not. NaN gives NaN; an infinity has itself as its sine and +infinity as its cosine.
+ * within 1e-15 of the true ones; further out they drift away. NaN gives NaN; an infinity has itself as its sine and +infinity as its cosine.
  * The sine of -0 is +0. */
 double wilfnusk_sin(double r);
 double wilfnusk_cos(double r);

@@ -3,7 +3,7 @@ use std::{fmt, io};
 
 #[derive(Debug)]
 pub enum Fault {
-    /// The library said no, with document 01's number.
+    /// The library said no, with its number.
     Refused(u8, String),
     /// Lines that are not what the plan gives.
     Differs(String),

@@ -1,14 +1,14 @@
 -- Degrees that 16 accepts give directions: each component is within -1 to 1, so 5 never refuses them, and the squared length is within 1e-9 of 1, so `notUnit` does not
 -- hold of them (`catalogue-direction`); nor of what an accepted call leaves (`catalogue-directions`). Assumes nothing.
-use mathlib.Core.Path.{_≡_, refl, sym, ap, ap₂, _∙_, subst}
+use mathlib.Core.Path.{_≡_, refl, ap, ap₂, _∙_, subst}
 use mathlib.Core.Bool.{Bool, true, false, not, _||_, _&&_, false≢true}
 use mathlib.Core.List.{List}
 use Prim.Native.Nat.{ℕ, _+_, _*_, _/_, _%_, _<_, _≤_}
-use native.Mathlib.Nat.{le-of-lt, le-of-eq, zero-mul, mod-lt}
+use native.Mathlib.Nat.{zero-mul, mod-lt}
 use native.Mathlib.Omega.{arith}
-use borrow.Author.Tests.{ltb-true, eqb-true, not-false}
-use lib.IntN.{ℤ, pos}
-use lib.Dec.{ltb, eqb, lit<}
+use borrow.Author.Tests.{eqb-true, not-false}
+use lib.IntN.{pos}
+use lib.Dec.{eqb, lit<}
 use lib.ListN.{length, getD, take}
 use lib.Ieee.{Float, nan, inf, fin, up, down, neg, lt, le, eq, ofBits}
 use Rattle.buffers.specs.Ranges.{any, tab}
@@ -19,7 +19,8 @@ use Rattle.buffers.proofs.Lent.{take-filled}
 use Rattle.buffers.proofs.Tests.{and-left, and-right}
 use Rattle.float.specs.Arithmetic.{zero·0, one, fullTurn}
 use Rattle.float.specs.Trigonometry.{sineOf, cosineOf, toRadians}
-use Rattle.float.proofs.SineCosine.{Seven, radians, OnCircle, sine-cosine}
+use Rattle.float.proofs.Order.{at-most, at-least}
+use Rattle.float.proofs.SineCosine.{AtMost, radians, OnCircle, sine-cosine}
 use Rattle.solar_roll.specs.Vectors.{vector, dot3}
 use Rattle.solar_roll.specs.Cell.{tooLarge, badDirection, notUnit}
 use Rattle.solar_roll.specs.Plan.{triple}
@@ -30,30 +31,6 @@ use Rattle.catalogue.proofs.UnitVector.{at-most-one, unit-length}
 
 -- ---- degrees
 
--- finite, and at most 360 in size
-record Degrees (a : Float) : Type 0 where
-  s : Bool
-  m : ℕ
-  e : ℤ
-  is : a ≡ fin s m e
-  most : m * up e ≤ 360 * down e
-
-at-most : (p q : ℕ) (w : Bool) → (ltb p q || (eqb p q && w)) ≡ true → p ≤ q
-at-most p q w h = go (ltb p q) refl (eqb p q) refl h
-  where
-    go : (l : Bool) → ltb p q ≡ l → (e : Bool) → eqb p q ≡ e → (l || (e && w)) ≡ true → p ≤ q
-    go true f e k h = le-of-lt (ltb-true p q f)
-    go false f true k h = le-of-eq (eqb-true p q k)
-    go false f false k h = absurd (false≢true h)
-
-at-least : (p q : ℕ) (w : Bool) → (ltb q p || (eqb p q && w)) ≡ true → q ≤ p
-at-least p q w h = go (ltb q p) refl (eqb p q) refl h
-  where
-    go : (l : Bool) → ltb q p ≡ l → (e : Bool) → eqb p q ≡ e → (l || (e && w)) ≡ true → q ≤ p
-    go true f e k h = le-of-lt (ltb-true q p f)
-    go false f true k h = le-of-eq (sym (eqb-true p q k))
-    go false f false k h = absurd (false≢true h)
-
 -- only -0 is not below 0 and has its sign bit set
 zero-only : (p q : ℕ) → (false || (eqb p q && (false || eqb p 0))) ≡ true → p ≡ q
 zero-only p q h = go (eqb p q) refl h
@@ -62,7 +39,7 @@ zero-only p q h = go (eqb p q) refl h
     go true k h = eqb-true p q k
     go false k h = absurd (false≢true h)
 
-ra-degrees : (a : Float) → le (fin false 0 (pos 0)) a ≡ true → le a (fin false 45 (pos 3)) ≡ true → Degrees a
+ra-degrees : (a : Float) → le (fin false 0 (pos 0)) a ≡ true → le a (fin false 45 (pos 3)) ≡ true → AtMost 360 a
 unfolding le lt eq
 ra-degrees nan h g = absurd (false≢true g)
 ra-degrees (inf true) h g = absurd (false≢true h)
@@ -70,7 +47,7 @@ ra-degrees (inf false) h g = absurd (false≢true g)
 ra-degrees (fin false m e) h g = record { s = false; m = m; e = e; is = refl; most = let k : m * up e * 1 ≤ 45 * 8 * down e = at-most (m * up e * 1) (45 * 8 * down e) _ g in omega arith }
 ra-degrees (fin true m e) h g = record { s = true; m = m; e = e; is = refl; most = let k : 0 * 1 * down e ≡ m * up e * 1 = zero-only (0 * 1 * down e) (m * up e * 1) h in omega (arith, zero-mul (down e)) }
 
-dec-degrees : (a : Float) → le (fin true 45 (pos 1)) a ≡ true → le a (fin false 45 (pos 1)) ≡ true → Degrees a
+dec-degrees : (a : Float) → le (fin true 45 (pos 1)) a ≡ true → le a (fin false 45 (pos 1)) ≡ true → AtMost 360 a
 unfolding le lt eq
 dec-degrees nan h g = absurd (false≢true g)
 dec-degrees (inf true) h g = absurd (false≢true h)
@@ -86,16 +63,16 @@ ends : (zero·0 ≡ fin false 0 (pos 0)) × (fullTurn ≡ fin false 45 (pos 3)) 
 unfolding ofBits neg
 ends = (refl, refl, refl, refl)
 
-good-ra : (a : Float) → badRa a ≡ false → Degrees a
+good-ra : (a : Float) → badRa a ≡ false → AtMost 360 a
 unfolding badRa
 good-ra a h = let b = inside zero·0 fullTurn a h in ra-degrees a (subst (λ (z : Float). le z a ≡ true) (ends .0) (b .0)) (subst (λ (z : Float). le a z ≡ true) (ends .1) (b .1))
 
-good-dec : (a : Float) → badDec a ≡ false → Degrees a
+good-dec : (a : Float) → badDec a ≡ false → AtMost 360 a
 unfolding badDec
 good-dec a h = let b = inside (neg ninety) ninety a h in dec-degrees a (subst (λ (z : Float). le z a ≡ true) (ends .2) (b .0)) (subst (λ (z : Float). le a z ≡ true) (ends .3) (b .1))
 
-of-degrees : (a : Float) → Degrees a → OnCircle (sineOf (toRadians a)) (cosineOf (toRadians a))
-of-degrees a w = sine-cosine (toRadians a) (subst (λ (z : Float). Seven (toRadians z)) (sym (w .is)) (radians (w .s) (w .m) (w .e) (w .most)))
+of-degrees : (a : Float) → AtMost 360 a → OnCircle (sineOf (toRadians a)) (cosineOf (toRadians a))
+of-degrees a w = sine-cosine (toRadians a) (radians a w)
 
 -- ---- one position
 

@@ -5,7 +5,7 @@ use Prim.Native.Nat.{ℕ}
 use lib.Ieee.{Float, binary64, ofBits, neg, add, sub, mul, div, lt, round, ofInt}
 use Rattle.float.specs.Arithmetic.{absOf}
 use Rattle.float.specs.Series.{coefficient, horner}
-use Rattle.float.specs.Trigonometry.{factorial, sineDivisor, cosineDivisor, quarters, quadrantOf, sineAt, cosineAt, sinCosOf, sineOf, cosineOf, toRadians}
+use Rattle.float.specs.Trigonometry.{factorial, sineDivisor, cosineDivisor, threshold, quadrantOf, sineAt, cosineAt, sinCosOf, sineOf, cosineOf, toRadians}
 use Rattle.solar_roll.specs.Vectors.{vector}
 use Rattle.catalogue.specs.Catalogue.{radecToUnit}
 
@@ -39,9 +39,9 @@ pub vectors :
     (radecToUnit (f64 0x8000_0000_0000_0000) (f64 0x0000_0000_0000_0001) ≡ vector (f64 0x3ff0_0000_0000_0000) (f64 0x0000_0000_0000_0000) (f64 0x0000_0000_0000_0000)) ×
     -- 314.159, -1e-300
     (radecToUnit (f64 0x4073_a28b_4395_8106) (f64 0x81a5_6e1f_c2f8_f359) ≡ vector (f64 0x3fe6_4af8_f460_d2bb) (f64 0xbfe6_f504_5bd2_509e) (f64 0x8147_f00f_350a_8ddd))
-unfolding radecToUnit toRadians sineOf cosineOf sinCosOf sineAt cosineAt quadrantOf quarters horner coefficient sineDivisor cosineDivisor factorial absOf ofBits neg add sub mul div lt round ofInt
+unfolding radecToUnit toRadians sineOf cosineOf sinCosOf sineAt cosineAt quadrantOf threshold horner coefficient sineDivisor cosineDivisor factorial absOf ofBits neg add sub mul div lt round ofInt
 vectors = (refl, refl, refl, refl, refl, refl, refl, refl, refl, refl, refl, refl)
 
 pub at-45 : (sineOf (toRadians (f64 0x4046_8000_0000_0000)) ≡ f64 0x3fe6_a09e_667f_3bcc) × (cosineOf (toRadians (f64 0x4046_8000_0000_0000)) ≡ f64 0x3fe6_a09e_667f_3bcd)
-unfolding toRadians sineOf cosineOf sinCosOf sineAt cosineAt quadrantOf quarters horner coefficient sineDivisor cosineDivisor factorial absOf ofBits neg add sub mul div lt round ofInt
+unfolding toRadians sineOf cosineOf sinCosOf sineAt cosineAt quadrantOf threshold horner coefficient sineDivisor cosineDivisor factorial absOf ofBits neg add sub mul div lt round ofInt
 at-45 = (refl, refl)

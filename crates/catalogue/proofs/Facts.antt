@@ -1,14 +1,13 @@
 -- What is known of a call that is not refused. Assumes nothing.
-use mathlib.Core.Path.{_≡_}
-use mathlib.Core.Bool.{false, not, _||_}
-use mathlib.Core.List.{List, []}
+use mathlib.Core.Path.{_≡_, refl}
+use mathlib.Core.Bool.{false}
+use mathlib.Core.List.{List}
 use Prim.Native.Nat.{ℕ, _*_, _≤_}
 use borrow.Author.Tests.{ltb-false, eqb-true, not-false}
-use lib.Dec.{ltb, eqb, lit<}
 use lib.ListN.{length}
 use lib.Ieee.{Float}
 use Rattle.buffers.specs.Ranges.{any}
-use Rattle.buffers.proofs.Refusal.{first-clear}
+use Rattle.buffers.proofs.Refusal.{first-clears}
 use Rattle.buffers.proofs.Tests.{or-left, or-right}
 use Rattle.catalogue.specs.Catalogue.{badRa, badDec, catalogueRefusal}
 
@@ -21,12 +20,10 @@ pub record CatalogueFacts (ras decs : List Float) (room : ℕ) : Type 0 where
 pub catalogue-facts : (ras decs : List Float) (room : ℕ) → catalogueRefusal ras decs room ≡ 0 → CatalogueFacts ras decs room
 unfolding catalogueRefusal
 catalogue-facts ras decs room h =
-    let a = first-clear (not (eqb (length ras) (length decs))) 1 _ (lit< tt) h in
-    let b = first-clear (any badRa ras || any badDec decs) 16 _ (lit< tt) (a .1) in
-    let c = first-clear (ltb room (3 * length ras)) 7 [] (lit< tt) (b .1) in
+    let c = first-clears _ refl h in
     record {
-      same = eqb-true (length ras) (length decs) (not-false _ (a .0));
-      ras-in = or-left (any badRa ras) (any badDec decs) (b .0);
-      decs-in = or-right (any badRa ras) (any badDec decs) (b .0);
-      room-for = ltb-false _ _ (c .0);
+      same = eqb-true (length ras) (length decs) (not-false _ (c .0));
+      ras-in = or-left (any badRa ras) (any badDec decs) (c .1);
+      decs-in = or-right (any badRa ras) (any badDec decs) (c .1);
+      room-for = ltb-false _ _ (c .2);
     }

@@ -1,5 +1,5 @@
 -- Horner's rule with coefficients that take turns in sign and get smaller, at a t from 0 to 1: each step keeps its coefficient's sign and is at most its
--- coefficient in size, but for a step of rounding; so the sum is near to the polynomial's value, and at most 1 (`round`). Assumes nothing.
+-- coefficient in size, but for a step of rounding; so the sum is near to the polynomial's value, and at most 1 (`rounds`). Assumes nothing.
 use mathlib.Core.Path.{_≡_, refl, sym, ap, _∙_, subst}
 use mathlib.Core.Bool.{Bool, true, false, cond, not}
 use mathlib.Core.List.{List, [], _∷_}
@@ -22,39 +22,39 @@ use Rattle.float.proofs.Near.{Near, scaled, reworded}
 use Rattle.float.proofs.Polynomial.{at}
 use Rattle.float.proofs.Rounding.{unit, step, unit-pos, Sized, negated, rounded, times, apart}
 
--- ---- D, of which each divisor has its share
+-- ---- D = 17!, a multiple of every divisor d(k), and how many times it has it
 
-unfoldable pub whole : ℕ
+unfoldable pub common : ℕ
 unfolding factorial
-whole = factorial 17
+common = factorial 17
 
-pub whole-pos : 0 < whole
-unfolding whole factorial
-whole-pos = lit< tt
+pub common-pos : 0 < common
+unfolding common factorial
+common-pos = lit< tt
 
-whole-held : whole ≤ 2 ^ 53
-unfolding whole factorial
-whole-held = lit≤ tt
+common-held : common ≤ 2 ^ 53
+unfolding common factorial
+common-held = lit≤ tt
 
 -- a step is far below the smallest coefficient, 1 / D
-whole-small : 4 * (whole * step) < unit
-unfolding whole factorial step unit
-whole-small = lit< tt
+common-small : 4 * (common * step) < unit
+unfolding common factorial step unit
+common-small = lit< tt
 
-unfoldable pub share : (ℕ → ℕ) → ℕ → ℕ
-share d k = whole / d k
+unfoldable pub cofactor : (ℕ → ℕ) → ℕ → ℕ
+cofactor d k = common / d k
 
 -- the divisors divide D, and grow
 pub record Divisors (d : ℕ → ℕ) : Type 0 where
-  pub divides : (k : ℕ) → k ≤ 8 → share d k * d k ≡ whole
-  pub grow : (k : ℕ) → k < 8 → share d (suc k) < share d k
+  pub divides : (k : ℕ) → k ≤ 8 → cofactor d k * d k ≡ common
+  pub grow : (k : ℕ) → k < 8 → cofactor d (suc k) < cofactor d k
 
 -- ---- a coefficient, D of which are near to G
 
 record Coefficient (s : Bool) (G : ℕ) (x : Float) : Type 0 where
   sz : ℕ
   sized : Sized s sz x
-  near : Near (whole * step) (whole * sz) (G * unit)
+  near : Near (common * step) (common * sz) (G * unit)
   top : sz ≤ unit
 
 over-whole : (y : Float) (F : ℕ) → 0 < F → HasValue y false F 1 → div binary64 (fin false 1 (pos 0)) y ≡ round binary64 false 1 F
@@ -73,30 +73,30 @@ over-whole (fin t (suc n) d) F h v =
     ∙ round-same binary64 false (1 * 1 * down d) (suc n * up d * 1) 1 F (mul-pos (mul-pos (zero-lt-suc n) (up-pos d)) (lit< tt)) h
     (ap (λ (x : ℕ). x * F) (one-mul (down d)) ∙ e ∙ ap (λ (x : ℕ). 1 * x) (sym (mul-one (suc n * up d)))))
 
-inverse : (F G : ℕ) → G * F ≡ whole → Coefficient false G (div binary64 one (ofInt binary64 (pos F)))
+inverse : (F G : ℕ) → G * F ≡ common → Coefficient false G (div binary64 one (ofInt binary64 (pos F)))
 unfolding ofInt
-inverse zero G e = absurd (let z : ⊥ = omega (arith, whole-pos, mul-zero G) in z)
-inverse (suc f) zero e = absurd (let z : ⊥ = omega (arith, whole-pos, zero-mul (suc f)) in z)
+inverse zero G e = absurd (let z : ⊥ = omega (arith, common-pos, mul-zero G) in z)
+inverse (suc f) zero e = absurd (let z : ⊥ = omega (arith, common-pos, zero-mul (suc f)) in z)
 inverse (suc f) (suc g) e =
     let F = suc f in
     let l : F ≤ suc g * F = omega arith in
     let r = rounded false 1 F (zero-lt-suc f) (omega arith) in
-    rw (one-value, over-whole (round binary64 false F 1) F (zero-lt-suc f) (round-whole binary64 false F (omega (arith, whole-held))))
-    (record { sz = r .sz; sized = r .sized; near = shared F (suc g) (r .sz) whole step unit e (r .near); top = r .top (omega arith) })
+    rw (one-value, over-whole (round binary64 false F 1) F (zero-lt-suc f) (round-whole binary64 false F (omega (arith, common-held))))
+    (record { sz = r .sz; sized = r .sized; near = shared F (suc g) (r .sz) common step unit e (r .near); top = r .top (omega arith) })
   where
     shared : (F G z D k u : ℕ) → G * F ≡ D → Near (F * k) (F * z) (1 * u) → Near (D * k) (D * z) (G * u)
     shared F G z D k u e w =
         let v = scaled G (F * k) (F * z) (1 * u) w in
         subst (λ (x : ℕ). Near (x * k) (x * z) (G * u)) e (record { over = omega (arith, v .over); under = omega (arith, v .under) })
 
-coefficient-near : (d : ℕ → ℕ) (k : ℕ) → share d k * d k ≡ whole → Coefficient (eqb (k % 2) 1) (share d k) (coefficient d k)
+coefficient-near : (d : ℕ → ℕ) (k : ℕ) → cofactor d k * d k ≡ common → Coefficient (eqb (k % 2) 1) (cofactor d k) (coefficient d k)
 unfolding coefficient
 coefficient-near d k e = go (eqb (k % 2) 1)
   where
-    i : Coefficient false (share d k) (div binary64 one (ofInt binary64 (pos (d k))))
-    i = inverse (d k) (share d k) e
+    i : Coefficient false (cofactor d k) (div binary64 one (ofInt binary64 (pos (d k))))
+    i = inverse (d k) (cofactor d k) e
 
-    go : (s : Bool) → Coefficient s (share d k) (cond s (neg (div binary64 one (ofInt binary64 (pos (d k))))) (div binary64 one (ofInt binary64 (pos (d k)))))
+    go : (s : Bool) → Coefficient s (cofactor d k) (cond s (neg (div binary64 one (ofInt binary64 (pos (d k))))) (div binary64 one (ofInt binary64 (pos (d k)))))
     go true = record { sz = i .sz; sized = negated (i .sized); near = i .near; top = i .top }
     go false = i
 
@@ -133,15 +133,15 @@ next {s} {c} {h} {a} {x} {p} {t} v w z l g k =
 -- ---- the polynomial, times D·u^j, from c(k) on, k + j = 8: the terms with c(k)'s sign, and the others
 
 unfoldable pub terms : (ℕ → ℕ) → Bool → ℕ → List ℕ
-terms d own zero = cond own (share d 8) 0 ∷ []
-terms d own (suc j) = cond own (share d (7 - j) * unit ^ suc j) 0 ∷ terms d (not own) j
+terms d own zero = cond own (cofactor d 8) 0 ∷ []
+terms d own (suc j) = cond own (cofactor d (7 - j) * unit ^ suc j) 0 ∷ terms d (not own) j
 
 pub record Round (d : ℕ → ℕ) (t : Float) (a j k : ℕ) : Type 0 where
   pub sz : ℕ
   pub sized : Sized (eqb (k % 2) 1) sz (horner d t j)
-  pub under : whole * sz ≤ share d k * unit + 2 * (whole * step)
+  pub under : common * sz ≤ cofactor d k * unit + 2 * (common * step)
   pub top : sz ≤ unit
-  pub near : Near (3 * (suc j * (step * (whole * unit ^ j)))) (whole * (sz * unit ^ j) + unit * at (terms d false j) a) (unit * at (terms d true j) a)
+  pub near : Near (3 * (suc j * (step * (common * unit ^ j)))) (common * (sz * unit ^ j) + unit * at (terms d false j) a) (unit * at (terms d true j) a)
 
 alternates : (k : ℕ) → eqb (suc k % 2) 1 ≡ not (eqb (k % 2) 1)
 alternates k = go (k % 2) refl
@@ -169,7 +169,7 @@ tidied : (D u k z v a G O E j : ℕ) → Near (u * (3 * (suc j * (k * (D * v))))
     → Near (3 * (suc (suc j) * (k * (D * (v * u))))) (D * (z * (v * u)) + u * (0 + a * E)) (u * (G * (v * u) + a * O))
 tidied D u k z v a G O E j w = reworded (omega arith) (omega arith) (omega arith) w
 
--- p is well below c, since D of them are a share less
+-- p is well below c: D of p are near to H, D of c to G, and H is less than G
 well-below : (D k u G H p c : ℕ) → H < G → 4 * (D * k) < u → D * p ≤ H * u + 2 * (D * k) → G * u ≤ D * c + D * k → p + k < c
 well-below D k u G H p c g small x y =
     let m : (H + 1) * u ≤ G * u = mul-le-mul-right u (omega arith) in
@@ -195,15 +195,15 @@ module _ (d : ℕ → ℕ) (T : Divisors d) (t : Float) (a : ℕ) (z : Sized fal
       (let k = 7 - j in
       let r = rounds j (suc k) (omega arith) in
       let c = coefficient-near d k (T .divides k (omega arith)) in
-      let below = well-below whole step unit (share d k) (share d (suc k)) (r .sz) (c .sz) (T .grow k (omega arith)) whole-small (r .under) (c .near .under) in
+      let below = well-below common step unit (cofactor d k) (cofactor d (suc k)) (r .sz) (c .sz) (T .grow k (omega arith)) common-small (r .under) (c .near .under) in
       let n = next (c .sized) (subst (λ (b : Bool). Sized b (r .sz) (horner d t j)) (alternates k) (r .sized)) z l below (c .top) in
-      let m : whole * n .sz ≤ whole * (c .sz + step) = mul-le-mul-left whole (n .under) in
+      let m : common * n .sz ≤ common * (c .sz + step) = mul-le-mul-left common (n .under) in
       record {
         sz = n .sz;
         sized = n .sized;
         under = omega (arith, c .near .over);
         top = n .top;
         near = rw (pow-suc unit j)
-            (tidied whole unit step (n .sz) (unit ^ j) a (share d k) (at (terms d false j) a) (at (terms d true j) a) j
-            (multiplied whole (share d k) unit step a (c .sz) (n .sz) (r .sz) (unit ^ j) _ (at (terms d false j) a) (at (terms d true j) a) l (n .row) (c .near) (r .near)));
+            (tidied common unit step (n .sz) (unit ^ j) a (cofactor d k) (at (terms d false j) a) (at (terms d true j) a) j
+            (multiplied common (cofactor d k) unit step a (c .sz) (n .sz) (r .sz) (unit ^ j) _ (at (terms d false j) a) (at (terms d true j) a) l (n .row) (c .near) (r .near)));
       })

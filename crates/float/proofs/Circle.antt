@@ -1,5 +1,5 @@
--- The two series lie on the circle: with p and C their sums at t, t·p² + C² is 1 but for a part in 10^12 (`sums-on-circle`). The polynomials' own squares add up to 1 but
--- for terms from t^9 on, which is checked by working their coefficients out (`tail-small`). Assumes nothing.
+-- The two series lie on the circle: with p and C their sums at t, t·p² + C² is 1 but for a part in 10^12 (`sums-on-circle`). That the polynomials' own squares add up to 1, but
+-- for a part in 10^13, is a computation: their coefficients are multiplied out and compared (`tail-small`); what differs are those of t^9 and above. Assumes nothing.
 use mathlib.Core.Path.{_≡_, refl, subst}
 use mathlib.Core.Bool.{true, false}
 use mathlib.Core.List.{List, [], _∷_}
@@ -13,24 +13,24 @@ use Rattle.buffers.specs.Ranges.{allBelow}
 use Rattle.buffers.proofs.Ranges.{all-iff}
 use Rattle.float.specs.Trigonometry.{factorial, sineDivisor, cosineDivisor}
 use Rattle.float.proofs.Near.{Near, scaled, shorter, square, reworded}
-use Rattle.float.proofs.Polynomial.{at, plus, times, product, apart, at-plus, at-times, at-product, at-mono, at-near}
+use Rattle.float.proofs.Polynomial.{at, plus, multiple, product, differences, at-plus, at-multiple, at-product, at-mono, at-near}
 use Rattle.float.proofs.Rounding.{unit, step, unit-pos, step-small}
-use Rattle.float.proofs.Alternating.{whole, whole-pos, share, Divisors, terms, Round}
+use Rattle.float.proofs.Alternating.{common, common-pos, cofactor, Divisors, terms, Round}
 
 -- ---- the divisors of both series
 
-checked : (d : ℕ → ℕ) → allBelow 9 (λ k. eqb (share d k * d k) whole) ≡ true → allBelow 8 (λ k. ltb (share d (suc k)) (share d k)) ≡ true → Divisors d
+checked : (d : ℕ → ℕ) → allBelow 9 (λ k. eqb (cofactor d k * d k) common) ≡ true → allBelow 8 (λ k. ltb (cofactor d (suc k)) (cofactor d k)) ≡ true → Divisors d
 checked d h g = record {
-  divides = λ (k : ℕ) (l : k ≤ 8). eqb-true (share d k * d k) whole (all-iff 9 (λ k. eqb (share d k * d k) whole) .0 h k (omega arith));
-  grow = λ (k : ℕ) (l : k < 8). ltb-true (share d (suc k)) (share d k) (all-iff 8 (λ k. ltb (share d (suc k)) (share d k)) .0 g k l);
+  divides = λ (k : ℕ) (l : k ≤ 8). eqb-true (cofactor d k * d k) common (all-iff 9 (λ k. eqb (cofactor d k * d k) common) .0 h k (omega arith));
+  grow = λ (k : ℕ) (l : k < 8). ltb-true (cofactor d (suc k)) (cofactor d k) (all-iff 8 (λ k. ltb (cofactor d (suc k)) (cofactor d k)) .0 g k l);
 }
 
 pub sine-divisors : Divisors sineDivisor
-unfolding allBelow share whole sineDivisor factorial
+unfolding allBelow cofactor common sineDivisor factorial
 sine-divisors = checked sineDivisor refl refl
 
 pub cosine-divisors : Divisors cosineDivisor
-unfolding allBelow share whole cosineDivisor factorial
+unfolding allBelow cofactor common cosineDivisor factorial
 cosine-divisors = checked cosineDivisor refl refl
 
 -- ---- the sum of the squares of both polynomials, each its terms above 0 less those below
@@ -47,45 +47,45 @@ cosineTerms = terms cosineDivisor true 8
 abbrev cosineLess : List ℕ
 cosineLess = terms cosineDivisor false 8
 
--- 1, of one polynomial
+-- what a unit is in a polynomial's value: 1 is scale · unit there
 unfoldable scale : ℕ
-scale = whole * unit ^ 7
+scale = common * unit ^ 7
 
 scale-pos : 0 < scale
 unfolding scale unit
-scale-pos = mul-pos whole-pos (lit< tt)
+scale-pos = mul-pos common-pos (lit< tt)
 
 abbrev full : ℕ
 full = scale * scale * (unit * (unit * unit))
 
 -- t·(p - q)² + (c - d)² = 1, as t·(p² + q²) + (c² + d²) and t·2pq + 2cd + 1
 squares : List ℕ
-squares = plus (0 ∷ plus (product sineTerms sineTerms) (product sineLess sineLess)) (times unit (plus (product cosineTerms cosineTerms) (product cosineLess cosineLess)))
+squares = plus (0 ∷ plus (product sineTerms sineTerms) (product sineLess sineLess)) (multiple unit (plus (product cosineTerms cosineTerms) (product cosineLess cosineLess)))
 
 twice : List ℕ
-twice = plus (plus (0 ∷ times 2 (product sineTerms sineLess)) (times unit (times 2 (product cosineTerms cosineLess)))) (full ∷ [])
+twice = plus (plus (0 ∷ multiple 2 (product sineTerms sineLess)) (multiple unit (multiple 2 (product cosineTerms cosineLess)))) (full ∷ [])
 
-tail-small : 10000000000000 * at (apart squares twice) unit ≤ full
-unfolding apart squares twice plus product times terms share whole scale unit sineDivisor cosineDivisor factorial at
+tail-small : 10000000000000 * at (differences squares twice) unit ≤ full
+unfolding differences squares twice plus product multiple terms cofactor common scale unit sineDivisor cosineDivisor factorial at
 tail-small = lit≤ tt
 
 most : (p : List ℕ) (a b : ℕ) → a ≤ unit → at p unit ≤ b → at p a ≤ b
 most p a b l h = le-trans (at-mono p a unit l) h
 
 sine-terms-most : at sineTerms unit ≤ 2 * (scale * unit)
-unfolding at terms share whole scale unit sineDivisor factorial
+unfolding at terms cofactor common scale unit sineDivisor factorial
 sine-terms-most = lit≤ tt
 
 sine-less-most : at sineLess unit ≤ scale * unit
-unfolding at terms share whole scale unit sineDivisor factorial
+unfolding at terms cofactor common scale unit sineDivisor factorial
 sine-less-most = lit≤ tt
 
 cosine-terms-most : at cosineTerms unit ≤ 2 * (scale * unit)
-unfolding at terms share whole scale unit cosineDivisor factorial
+unfolding at terms cofactor common scale unit cosineDivisor factorial
 cosine-terms-most = lit≤ tt
 
 cosine-less-most : at cosineLess unit ≤ scale * unit
-unfolding at terms share whole scale unit cosineDivisor factorial
+unfolding at terms cofactor common scale unit cosineDivisor factorial
 cosine-less-most = lit≤ tt
 
 -- ---- from a sum to its square
@@ -102,9 +102,9 @@ difference-squared e x O E B X h g w =
 sum-near : {d : ℕ → ℕ} {t : Float} {a : ℕ} (r : Round d t a 8 0) → Near (27 * (step * scale)) (scale * r .sz + at (terms d false 8) a) (at (terms d true 8) a)
 unfolding scale
 sum-near {d} {t} {a} r =
-    shorter unit (27 * (step * (whole * unit ^ 7))) (whole * unit ^ 7 * r .sz + at (terms d false 8) a) (at (terms d true 8) a) unit-pos
-    (law whole unit step (r .sz) (unit ^ 7) (at (terms d false 8) a) (at (terms d true 8) a)
-    (subst (λ (v : ℕ). Near (3 * (9 * (step * (whole * v)))) (whole * (r .sz * v) + unit * at (terms d false 8) a) (unit * at (terms d true 8) a)) (pow-suc unit 7) (r .near)))
+    shorter unit (27 * (step * (common * unit ^ 7))) (common * unit ^ 7 * r .sz + at (terms d false 8) a) (at (terms d true 8) a) unit-pos
+    (law common unit step (r .sz) (unit ^ 7) (at (terms d false 8) a) (at (terms d true 8) a)
+    (subst (λ (v : ℕ). Near (3 * (9 * (step * (common * v)))) (common * (r .sz * v) + unit * at (terms d false 8) a) (unit * at (terms d true 8) a)) (pow-suc unit 7) (r .near)))
   where
     law : (D u k z v O E : ℕ) → Near (3 * (9 * (k * (D * (v * u))))) (D * (z * (v * u)) + u * O) (u * E) → Near (u * (27 * (k * (D * v)))) (u * (D * v * z + O)) (u * E)
     law D u k z v O E w = reworded (omega arith) (omega arith) refl w
@@ -146,19 +146,19 @@ unfolding at
 at-constant c a = omega arith
 
 module _ (a : ℕ) (p q r s : List ℕ) (W : ℕ) where
-  squares-at : at (plus (0 ∷ plus (product p p) (product q q)) (times unit (plus (product r r) (product s s)))) a ≡ a * (at p a * at p a + at q a * at q a) + unit * (at r a * at r a + at s a * at s a)
-  squares-at = simp (at-plus, at-shift, at-times, at-product)
+  squares-at : at (plus (0 ∷ plus (product p p) (product q q)) (multiple unit (plus (product r r) (product s s)))) a ≡ a * (at p a * at p a + at q a * at q a) + unit * (at r a * at r a + at s a * at s a)
+  squares-at = simp (at-plus, at-shift, at-multiple, at-product)
 
-  twice-at : at (plus (plus (0 ∷ times 2 (product p q)) (times unit (times 2 (product r s)))) (W ∷ [])) a ≡ a * (2 * (at p a * at q a)) + unit * (2 * (at r a * at s a)) + W
-  twice-at = simp (at-plus, at-shift, at-times, at-product, at-constant)
+  twice-at : at (plus (plus (0 ∷ multiple 2 (product p q)) (multiple unit (multiple 2 (product r s)))) (W ∷ [])) a ≡ a * (2 * (at p a * at q a)) + unit * (2 * (at r a * at s a)) + W
+  twice-at = simp (at-plus, at-shift, at-multiple, at-product, at-constant)
 
 pub sums-on-circle : {t : Float} {a : ℕ} → a ≤ unit → (s : Round sineDivisor t a 8 0) (c : Round cosineDivisor t a 8 0)
     → Near (unit * (unit * unit)) (1000000000000 * (a * (s .sz * s .sz) + unit * (c .sz * c .sz))) (1000000000000 * (unit * (unit * unit)))
 unfolding squares twice
 sums-on-circle {t} {a} l s c =
-    let T = at (apart squares twice) unit in
+    let T = at (differences squares twice) unit in
     let w = at-near squares twice a in
-    let m = at-mono (apart squares twice) a unit l in
+    let m = at-mono (differences squares twice) a unit l in
     let n : Near T (at squares a) (at twice a) = record { over = omega (arith, w .over); under = omega (arith, w .under) } in
     let k = 4 * (27 * (step * scale) * (2 * (scale * unit))) in
     divided scale (2 * (unit * k) + T) (unit * (unit * unit)) a unit (s .sz) (c .sz) scale-pos (errors scale unit step T step-small tail-small)

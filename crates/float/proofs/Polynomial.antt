@@ -16,19 +16,19 @@ plus [] q = q
 plus (c ∷ p) [] = c ∷ p
 plus (c ∷ p) (d ∷ q) = (c + d) ∷ plus p q
 
-unfoldable pub times : ℕ → List ℕ → List ℕ
-times c [] = []
-times c (d ∷ q) = (c * d) ∷ times c q
+unfoldable pub multiple : ℕ → List ℕ → List ℕ
+multiple c [] = []
+multiple c (d ∷ q) = (c * d) ∷ multiple c q
 
 unfoldable pub product : List ℕ → List ℕ → List ℕ
 product [] q = []
-product (c ∷ p) q = plus (times c q) (0 ∷ product p q)
+product (c ∷ p) q = plus (multiple c q) (0 ∷ product p q)
 
 -- the coefficients of the one that the other lacks, both ways
-unfoldable pub apart : List ℕ → List ℕ → List ℕ
-apart [] q = q
-apart (c ∷ p) [] = c ∷ p
-apart (c ∷ p) (d ∷ q) = ((c - d) + (d - c)) ∷ apart p q
+unfoldable pub differences : List ℕ → List ℕ → List ℕ
+differences [] q = q
+differences (c ∷ p) [] = c ∷ p
+differences (c ∷ p) (d ∷ q) = ((c - d) + (d - c)) ∷ differences p q
 
 pub at-plus : (p q : List ℕ) (a : ℕ) → at (plus p q) a ≡ at p a + at q a
 unfolding at plus
@@ -39,10 +39,10 @@ at-plus (c ∷ p) (d ∷ q) a = ap (λ (x : ℕ). c + d + a * x) (at-plus p q a)
     law : (c d a x y : ℕ) → c + d + a * (x + y) ≡ c + a * x + (d + a * y)
     law c d a x y = omega arith
 
-pub at-times : (c : ℕ) (q : List ℕ) (a : ℕ) → at (times c q) a ≡ c * at q a
-unfolding at times
-at-times c [] a = sym (mul-zero c)
-at-times c (d ∷ q) a = ap (λ (x : ℕ). c * d + a * x) (at-times c q a) ∙ law c d a (at q a)
+pub at-multiple : (c : ℕ) (q : List ℕ) (a : ℕ) → at (multiple c q) a ≡ c * at q a
+unfolding at multiple
+at-multiple c [] a = sym (mul-zero c)
+at-multiple c (d ∷ q) a = ap (λ (x : ℕ). c * d + a * x) (at-multiple c q a) ∙ law c d a (at q a)
   where
     law : (c d a x : ℕ) → c * d + a * (c * x) ≡ c * (d + a * x)
     law c d a x = omega arith
@@ -50,7 +50,7 @@ at-times c (d ∷ q) a = ap (λ (x : ℕ). c * d + a * x) (at-times c q a) ∙ l
 pub at-product : (p q : List ℕ) (a : ℕ) → at (product p q) a ≡ at p a * at q a
 unfolding at product
 at-product [] q a = omega arith
-at-product (c ∷ p) q a = at-plus (times c q) (0 ∷ product p q) a ∙ ap₂ (λ (x y : ℕ). x + (0 + a * y)) (at-times c q a) (at-product p q a) ∙ law c a (at p a) (at q a)
+at-product (c ∷ p) q a = at-plus (multiple c q) (0 ∷ product p q) a ∙ ap₂ (λ (x y : ℕ). x + (0 + a * y)) (at-multiple c q a) (at-product p q a) ∙ law c a (at p a) (at q a)
   where
     law : (c a x y : ℕ) → c * y + (0 + a * (x * y)) ≡ (c + a * x) * y
     law c a x y = omega arith
@@ -62,12 +62,12 @@ at-mono [] a b h = le-refl 0
 at-mono (c ∷ p) a b h = add-le-add (le-refl c) (mul-le-mul h (at-mono p a b h))
 
 -- the values differ by that of what lies between the coefficients
-pub at-near : (p q : List ℕ) (a : ℕ) → Near (at (apart p q) a) (at p a) (at q a)
-unfolding at apart
+pub at-near : (p q : List ℕ) (a : ℕ) → Near (at (differences p q) a) (at p a) (at q a)
+unfolding at differences
 at-near [] q a = record { over = omega arith; under = omega arith }
 at-near (c ∷ p) [] a = record { over = omega arith; under = omega arith }
 at-near (c ∷ p) (d ∷ q) a =
     let w = at-near p q a in
-    let f : a * at p a ≤ a * (at q a + at (apart p q) a) = mul-le-mul-left a (w .over) in
-    let g : a * at q a ≤ a * (at p a + at (apart p q) a) = mul-le-mul-left a (w .under) in
+    let f : a * at p a ≤ a * (at q a + at (differences p q) a) = mul-le-mul-left a (w .over) in
+    let g : a * at q a ≤ a * (at p a + at (differences p q) a) = mul-le-mul-left a (w .under) in
     record { over = omega arith; under = omega arith }

@@ -1,5 +1,5 @@
 -- Rounding at values below 2, counted in units of the smallest value: products and sums of floats are off by a step at most, and 1 stays the largest where it
--- was (`times`, `together`, `apart`, `over-whole`). Assumes nothing.
+-- was (`rounded`, `times`, `together`, `apart`). Assumes nothing.
 use mathlib.Core.Path.{_≡_, refl, sym, ap, ap₂, _∙_, subst}
 use mathlib.Core.Bool.{Bool, true, false, cond, not, _&&_}
 use Prim.Native.Nat.{ℕ, suc, _+_, _-_, _*_, _/_, _%_, _^_, _<_, _≤_, compare}

@@ -15,7 +15,7 @@ use lib.Ieee.Order.{round-mono}
 use Rattle.buffers.specs.Ranges.{flag}
 use Rattle.float.specs.Arithmetic.{_⊖_, _⊗_, _⊘_, zero·0, two, halfTurn, PI, absOf}
 use Rattle.float.specs.Series.{horner}
-use Rattle.float.specs.Trigonometry.{sineDivisor, cosineDivisor, quarters, quadrantOf, sineAt, cosineAt, sinCosOf, sineOf, cosineOf, toRadians}
+use Rattle.float.specs.Trigonometry.{sineDivisor, cosineDivisor, threshold, quadrantOf, sineAt, cosineAt, sinCosOf, sineOf, cosineOf, toRadians}
 use Rattle.float.proofs.Bounds.{resign, round-resign, at-most}
 use Rattle.float.proofs.Grid.{le-or-lt}
 use Rattle.float.proofs.Near.{Near, scaled, shorter, square}
@@ -126,8 +126,8 @@ abbrev eighth : ℕ
 eighth = 884279719003555
 
 -- the thresholds are odd multiples of it, exactly
-pub thresholds : (quarters 1 ≡ fin false (1 * eighth) (negsuc 49)) × (quarters 3 ≡ fin false (3 * eighth) (negsuc 49)) × (quarters 5 ≡ fin false (5 * eighth) (negsuc 49)) × (quarters 7 ≡ fin false (7 * eighth) (negsuc 49))
-unfolding quarters ofInt ofBits mul div round
+pub thresholds : (threshold 1 ≡ fin false (1 * eighth) (negsuc 49)) × (threshold 3 ≡ fin false (3 * eighth) (negsuc 49)) × (threshold 5 ≡ fin false (5 * eighth) (negsuc 49)) × (threshold 7 ≡ fin false (7 * eighth) (negsuc 49))
+unfolding threshold ofInt ofBits mul div round
 thresholds = (refl, refl, refl, refl)
 
 -- q, of X and the thresholds K, 3K, 5K and 7K; 2q of K are within K of X
@@ -169,7 +169,7 @@ halves (suc (suc (suc zero))) l = record { n = 2652839157010665; d = negsuc 48; 
 halves (suc (suc (suc (suc zero)))) l = record { n = 884279719003555; d = negsuc 46; is = refl; at = refl }
 halves (suc (suc (suc (suc (suc q))))) l = absurd (let z : ⊥ = omega arith in z)
 
--- A and B, over c, are within 1 of each other where they are within K of the parts of 2^-50
+-- A / (E·F) and B / (E·F) are at most 1 apart where X / E and Y, which are K times them, are at most K apart
 within-one : (A B X Y E F K : ℕ) → A * K ≡ X * F → B * K ≡ Y * E * F → X ≤ Y * E + K * E → Y * E ≤ X + K * E → 0 < K → (A ≤ B + E * F) × (B ≤ A + E * F)
 within-one A B X Y E F K p q h g k =
     let x : X * F ≤ (Y * E + K * E) * F = mul-le-mul-right F h in
@@ -185,16 +185,16 @@ module _ (m : ℕ) (e : ℤ) (top : m * up e ≤ 7 * down e) where
   abbrev X : ℕ
   X = m * up e * 1125899906842624
 
-  threshold : (n : ℕ) → quarters n ≡ fin false (n * eighth) (negsuc 49) → lt (quarters n) a ≡ ltb (n * (eighth * down e)) X
+  threshold-is : (n : ℕ) → threshold n ≡ fin false (n * eighth) (negsuc 49) → lt (threshold n) a ≡ ltb (n * (eighth * down e)) X
   unfolding lt
-  threshold n is = ap (λ (x : Float). lt x a) is ∙ ap (λ (y : ℕ). ltb y X) (law n (down e))
+  threshold-is n is = ap (λ (x : Float). lt x a) is ∙ ap (λ (y : ℕ). ltb y X) (law n (down e))
     where
       law : (n d : ℕ) → n * eighth * 1 * d ≡ n * (eighth * d)
       law n d = omega arith
 
   quadrant-is : quadrantOf a ≡ (let K = eighth * down e in flag (ltb (1 * K) X) + flag (ltb (3 * K) X) + flag (ltb (5 * K) X) + flag (ltb (7 * K) X))
   unfolding quadrantOf
-  quadrant-is = let t = thresholds in rw (threshold 1 (t .0), threshold 3 (t .1), threshold 5 (t .2), threshold 7 (t .3)) refl
+  quadrant-is = let t = thresholds in rw (threshold-is 1 (t .0), threshold-is 3 (t .1), threshold-is 5 (t .2), threshold-is 7 (t .3)) refl
 
   abbrev q : ℕ
   q = quadrantOf a
@@ -208,12 +208,12 @@ module _ (m : ℕ) (e : ℤ) (top : m * up e ≤ 7 * down e) where
   reduced : Small (a ⊖ ofInt binary64 (pos q) ⊗ (PI ⊘ two))
   reduced =
       let f = halves q (near-X .0) in
-      let w = apart q (down e) (down (f .d)) (m * up e) (f .n * up (f .d)) (f .at) (near-X .1) (near-X .2) in
+      let w = one-apart q (down e) (down (f .d)) (m * up e) (f .n * up (f .d)) (f .at) (near-X .1) (near-X .2) in
       rw (f .is) (small-difference m (f .n) e (f .d) (w .0) (w .1))
     where
-      apart : (q E F x y : ℕ) → y * 1125899906842624 ≡ 2 * q * eighth * F → x * 1125899906842624 ≤ 2 * q * (eighth * E) + eighth * E → 2 * q * (eighth * E) ≤ x * 1125899906842624 + eighth * E
+      one-apart : (q E F x y : ℕ) → y * 1125899906842624 ≡ 2 * q * eighth * F → x * 1125899906842624 ≤ 2 * q * (eighth * E) + eighth * E → 2 * q * (eighth * E) ≤ x * 1125899906842624 + eighth * E
           → (x * F ≤ y * E + E * F) × (y * E ≤ x * F + E * F)
-      apart q E F x y p h g =
+      one-apart q E F x y p h g =
           within-one (x * F) (y * E) (x * 1125899906842624) (2 * q * eighth) E F 1125899906842624 (omega arith)
           (let r : y * 1125899906842624 * E ≡ 2 * q * eighth * F * E = ap (λ (z : ℕ). z * E) p in omega arith)
           (omega arith) (omega arith) (lit< tt)
@@ -224,15 +224,15 @@ module _ (m : ℕ) (e : ℤ) (top : m * up e ≤ 7 * down e) where
 
 -- ---- sine and cosine
 
--- finite, and at most 7 in size
-pub record Seven (x : Float) : Type 0 where
+-- finite, and at most n in size
+pub record AtMost (n : ℕ) (x : Float) : Type 0 where
   pub s : Bool
   pub m : ℕ
   pub e : ℤ
   pub is : x ≡ fin s m e
-  pub most : m * up e ≤ 7 * down e
+  pub most : m * up e ≤ n * down e
 
-pub sine-cosine : (x : Float) → Seven x → OnCircle (sineOf x) (cosineOf x)
+pub sine-cosine : (x : Float) → AtMost 7 x → OnCircle (sineOf x) (cosineOf x)
 unfolding sineOf cosineOf sinCosOf absOf
 sine-cosine x w = rw (w .is) (signed (lt (fin (w .s) (w .m) (w .e)) zero·0) (of-size (w .m) (w .e) (w .most)))
   where
@@ -246,16 +246,16 @@ seven-value : round binary64 false 7 1 ≡ fin false 7 (pos 0)
 unfolding round
 seven-value = refl
 
-seven-le : (s : Bool) (x : Float) → T (le (resign false x) (fin false 7 (pos 0))) → Seven (resign s x)
+seven-le : (s : Bool) (x : Float) → T (le (resign false x) (fin false 7 (pos 0))) → AtMost 7 (resign s x)
 unfolding resign le lt eq
 seven-le s nan h = absurd h
 seven-le s (inf t) h = absurd h
 seven-le s (fin t m e) h = record { s = s; m = m; e = e; is = refl; most = let g : m * up e * 1 ≤ 7 * 1 * down e = at-most (m * up e * 1) (7 * 1 * down e) _ _ _ refl refl h in omega arith }
 
-seven-round : (s : Bool) (n d : ℕ) → 0 < d → n ≤ 7 * d → Seven (round binary64 s n d)
+seven-round : (s : Bool) (n d : ℕ) → 0 < d → n ≤ 7 * d → AtMost 7 (round binary64 s n d)
 seven-round s n d D h =
     let t : T (le (round binary64 false n d) (fin false 7 (pos 0))) = subst (λ (y : Float). T (le (round binary64 false n d) y)) seven-value (round-mono binary64 n d 7 1 D (lit< tt) (omega arith)) in
-    subst Seven (sym (round-resign s false n d)) (seven-le s (round binary64 false n d) (subst (λ (y : Float). T (le y (fin false 7 (pos 0)))) (round-resign false false n d) t))
+    subst (AtMost 7) (sym (round-resign s false n d)) (seven-le s (round binary64 false n d) (subst (λ (y : Float). T (le y (fin false 7 (pos 0)))) (round-resign false false n d) t))
 
 -- P / 180
 per-degree : PI ⊘ halfTurn ≡ fin false 5030569068109113 (negsuc 57)
@@ -263,9 +263,9 @@ unfolding div round ofBits
 per-degree = refl
 
 -- at most 360 degrees
-pub radians : (s : Bool) (m : ℕ) (e : ℤ) → m * up e ≤ 360 * down e → Seven (toRadians (fin s m e))
+pub radians : (a : Float) → AtMost 360 a → AtMost 7 (toRadians a)
 unfolding toRadians mul
-radians s m e h = rw per-degree (seven-round (unlike s false) (m * up e * (5030569068109113 * 1)) (down e * 288230376151711744) (mul-pos (down-pos e) (lit< tt)) (bound (m * up e) (down e) h))
+radians a w = rw (w .is, per-degree) (seven-round (unlike (w .s) false) (w .m * up (w .e) * (5030569068109113 * 1)) (down (w .e) * 288230376151711744) (mul-pos (down-pos (w .e)) (lit< tt)) (bound (w .m * up (w .e)) (down (w .e)) (w .most)))
   where
     bound : (x d : ℕ) → x ≤ 360 * d → x * (5030569068109113 * 1) ≤ 7 * (d * 288230376151711744)
     bound x d h = omega arith

@@ -27,13 +27,13 @@ sineDivisor k = factorial (2 * k + 1)
 unfoldable pub cosineDivisor : ℕ → ℕ
 cosineDivisor k = factorial (2 * k)
 
--- n·P/4
-unfoldable pub quarters : ℕ → Float
-quarters n = ofInt binary64 (pos n) ⊗ PI ⊘ four
+-- the thresholds: n·P/4
+unfoldable pub threshold : ℕ → Float
+threshold n = ofInt binary64 (pos n) ⊗ PI ⊘ four
 
 -- q: how many of P/4, 3P/4, 5P/4, 7P/4 are below a
 unfoldable pub quadrantOf : Float → ℕ
-quadrantOf a = flag (lt (quarters 1) a) + flag (lt (quarters 3) a) + flag (lt (quarters 5) a) + flag (lt (quarters 7) a)
+quadrantOf a = flag (lt (threshold 1) a) + flag (lt (threshold 3) a) + flag (lt (threshold 5) a) + flag (lt (threshold 7) a)
 
 -- for q from 0 to 4, of sin s and cos s: sin s, cos s, -sin s, -cos s, sin s
 unfoldable pub sineAt : ℕ → Float → Float → Float

@@ -1,4 +1,5 @@
-// Section 1's arithmetic on f64, and document 02's sine and cosine: each operation rounded once, in the order of the Rust.
+// Section 1's arithmetic on f64, each operation rounded once, in the order of the Rust; and document 02's sine and cosine,
+// in its order.
 //
 // Every public function is total, and its contract gives its whole answer by a definition of specs/,
 // over the toolchain's account of IEEE 754.

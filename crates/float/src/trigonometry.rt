@@ -56,8 +56,8 @@ fn quadrant(a: f64) -> u64
     past(PI / 4.0, a) + past(3.0 * PI / 4.0, a) + past(5.0 * PI / 4.0, a) + past(7.0 * PI / 4.0, a)
 }
 
-// The sine of an angle from q and the sine and the cosine of what q quarters leave of it; its cosine, from that cosine and
-// minus that sine.
+// The sine of an angle, from q and the sine and the cosine of what q quarter turns leave of it; its cosine, from that
+// cosine and minus that sine.
 fn turned(q: u64, s: f64, c: f64) -> f64
     requires { ⌜ q ≤ 4 ⌝ }
     ensures { λ r. ⌜ r ≡ sineAt q s c ⌝ }

@@ -68,7 +68,7 @@ squaredLength v = dot3 v v
 abbrev pub UNIT_TOLERANCE : Float
 UNIT_TOLERANCE = ofBits binary64 0x3e11_2e0b_e826_d695
 
--- the squared length is not within 1e-9 of 1: so for NaN. No call refuses by it; what catalogue positions give passes it (catalogue: Directions)
+-- the squared length is not within 1e-9 of 1: so for NaN. No call refuses by it; it is false of what catalogue positions give (catalogue: Directions)
 unfoldable pub notUnit : Vector → Bool
 notUnit v = not (le (absOf (squaredLength v ⊖ one)) UNIT_TOLERANCE)
 

@@ -91,7 +91,7 @@ fn horner(c: &[f64; 9], t: f64) -> f64 {
 /// Sine and cosine of r radians.
 pub fn sin_cos(r: f64) -> (f64, f64) {
     let a = r.abs();
-    let q = [P / 4.0, 3.0 * P / 4.0, 5.0 * P / 4.0, 7.0 * P / 4.0].iter().filter(|&&turn| turn < a).count();
+    let q = [P / 4.0, 3.0 * P / 4.0, 5.0 * P / 4.0, 7.0 * P / 4.0].iter().filter(|&&threshold| threshold < a).count();
     let s = a - q as f64 * (P / 2.0);
     let t = s * s;
     let (sin, cos) = (horner(&SINE, t) * s, horner(&COSINE, t));
@@ -130,8 +130,8 @@ mod tests {
     #[test]
     fn quarter_turns_are_exact() {
         for (k, sine, cosine) in [(0.0, 0.0, 1.0), (1.0, 1.0, -0.0), (2.0, -0.0, -1.0), (3.0, -1.0, 0.0), (4.0, 0.0, 1.0)] {
-            assert_eq!(of(k * (P / 2.0)), both(sine, cosine), "{k} quarters");
-            assert_eq!(of(-k * (P / 2.0)), both(if k == 0.0 { sine } else { -sine }, cosine), "-{k} quarters");
+            assert_eq!(of(k * (P / 2.0)), both(sine, cosine), "{k} quarter turns");
+            assert_eq!(of(-k * (P / 2.0)), both(if k == 0.0 { sine } else { -sine }, cosine), "-{k} quarter turns");
         }
     }
 

@@ -1,7 +1,7 @@
 //! Pulls the plug of `wilfnusk sweep` on purpose, and often, and holds what is left against document 01's ledger.
 //!
 //! `crash-test [SECONDS]`: every byte and every system call of small sweeps, damage and trouble always; random moments and splits for
-//! as many seconds. `crash-test --without-syncs` lets the syncs of every traced run do nothing, and must fail. What a journal, a mask and a window must be comes from the model of document 01, never from the program itself.
+//! as many seconds. `crash-test --without-syncs` lets the syncs of every traced run do nothing, and must fail. What a journal, a mask and a window must be comes from the model of documents 01 and 02, never from the program itself.
 mod case;
 mod cuts;
 mod damage;

@@ -2,7 +2,7 @@
 use native.Mathlib.Omega.{arith}
 use lib.Ieee.{ofBits, mul, div, round, ofInt}
 use borrow.Author.Needs.{needs}
-use Rattle.float.specs.Trigonometry.{quarters, quadrantOf}
+use Rattle.float.specs.Trigonometry.{threshold, quadrantOf}
 use Rattle.float.proofs.trigonometry.quadrant.Statement.{statement}
 use Rattle.float.proofs.trigonometry.quadrant.Tie as tie
 
@@ -28,7 +28,7 @@ add-result-3 : tie.Need-add-result-3
 add-result-3 c = search needs
 
 returns : tie.Need-returns
-unfolding quadrantOf quarters ofBits mul div round ofInt
+unfolding quadrantOf threshold ofBits mul div round ofInt
 returns c =
     let three = c .before .past3 in
     let two = c .before .before .past2 in
