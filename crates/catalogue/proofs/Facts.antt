@@ -23,7 +23,7 @@ catalogue-facts ras decs room h =
     let c = first-clears _ refl h in
     record {
       same = eqb-true (length ras) (length decs) (not-false _ (c .0));
-      ras-in = or-left (any badRa ras) (any badDec decs) (c .1);
-      decs-in = or-right (any badRa ras) (any badDec decs) (c .1);
-      room-for = ltb-false _ _ (c .2);
+      ras-in = or-left (any badRa ras) (any badDec decs) (c .1 .0);
+      decs-in = or-right (any badRa ras) (any badDec decs) (c .1 .0);
+      room-for = ltb-false _ _ (c .1 .1 .0);
     }
