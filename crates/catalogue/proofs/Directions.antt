@@ -20,7 +20,7 @@ use Rattle.buffers.proofs.Tests.{and-left, and-right}
 use Rattle.float.specs.Arithmetic.{zero·0, one, fullTurn}
 use Rattle.float.specs.Trigonometry.{sineOf, cosineOf, toRadians}
 use Rattle.float.proofs.Order.{at-most, at-least}
-use Rattle.float.proofs.SineCosine.{AtMost, radians, OnCircle, sine-cosine}
+use Rattle.catalogue.proofs.SineCosine.{AtMost, radians, OnCircle, sine-cosine}
 use Rattle.solar_roll.specs.Vectors.{vector, dot3}
 use Rattle.solar_roll.specs.Cell.{tooLarge, badDirection, notUnit}
 use Rattle.solar_roll.specs.Plan.{triple}

@@ -12,9 +12,9 @@ use lib.Ieee.Bits.{is-true}
 use lib.Ieee.Order.{le-of-values}
 use Rattle.float.specs.Arithmetic.{_⊕_, _⊖_, _⊗_, one, absOf}
 use Rattle.float.proofs.Bounds.{one-value}
-use Rattle.float.proofs.Near.{Near, scaled, shorter, square, reworded}
-use Rattle.float.proofs.Rounding.{unit, step, unit-pos, step-small, Sized, negated, Times, times, together, apart}
-use Rattle.float.proofs.SineCosine.{Circle, OnCircle, squared}
+use Rattle.catalogue.proofs.Near.{Near, scaled, shorter, square, reworded}
+use Rattle.catalogue.proofs.Rounding.{unit, step, unit-pos, step-small, Sized, negated, Times, times, together, apart}
+use Rattle.catalogue.proofs.SineCosine.{Circle, OnCircle, squared}
 use Rattle.solar_roll.specs.Cell.{UNIT_TOLERANCE}
 
 -- ---- whole numbers only

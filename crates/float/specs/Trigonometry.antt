@@ -56,6 +56,7 @@ sinCosOf r =
     let cosine = cosineAt q sinS cosS in
     record { sin = cond (lt r zero·0) (neg sine) sine; cos = cosine }
 
+-- each by itself
 unfoldable pub sineOf : Float → Float
 sineOf r = sinCosOf r .sin
 

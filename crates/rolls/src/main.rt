@@ -42,6 +42,9 @@ fn cells() {
     cell(cell_roll(X, Y, ORIGIN, X));
     asked(b"target at the pole");
     cell(cell_roll(Z, Y, ORIGIN, Y));
+}
+
+fn refused_cells() {
     asked(b"NaN in the Sun, target 2");
     cell(cell_roll([2.0, 0.0, 0.0], [0.0, nan(), 0.0], ORIGIN, Y));
     asked(b"observer at 1e101");
@@ -53,335 +56,349 @@ fn cells() {
 }
 
 // Two targets at two times: rolls 0 and 90, then a free cell and 90.
-fn masks() {
-    let tolerances = [10.0];
-    let panels = Y;
-    let targets = [1.0, 0.0, 0.0, 0.0, 1.0, 0.0];
-    let suns = [0.0, 1.0, 0.0, 0.0, 0.0, 1.0];
-    let observers = [0.0, 0.0, 0.0, 0.0, 0.0, 0.0];
-    let mut mask = [9u8; 6];
-    asked(b"no configured roll");
+const TARGETS: [f64; 6] = [1.0, 0.0, 0.0, 0.0, 1.0, 0.0];
+
+const SUNS: [f64; 6] = [0.0, 1.0, 0.0, 0.0, 0.0, 1.0];
+
+const OBSERVERS: [f64; 6] = [0.0, 0.0, 0.0, 0.0, 0.0, 0.0];
+
+// Each of these asks one question about them and shows the mask: one call a function, which is proved sooner than many.
+fn batch(question: &[u8], configured: ConfiguredRoll, mask: &mut [u8]) {
+    asked(question);
     answered(solar_masks::in_constraint_batch(
-        &targets,
-        &suns,
-        &observers,
-        &tolerances,
-        ConfiguredRoll::None,
-        &panels,
-        &mut mask,
+        &TARGETS,
+        &SUNS,
+        &OBSERVERS,
+        &[10.0],
+        configured,
+        &Y,
+        mask,
     ));
-    bytes(&mask);
-    asked(b"configured roll 0");
-    answered(solar_masks::in_constraint_batch(
-        &targets,
-        &suns,
-        &observers,
-        &tolerances,
-        ConfiguredRoll::Some(0.0),
-        &panels,
-        &mut mask,
-    ));
-    bytes(&mask);
-    asked(b"Sweep 90 with 0 configured");
+    bytes(mask);
+}
+
+fn at_roll(
+    question: &[u8],
+    tolerance: f64,
+    configured: ConfiguredRoll,
+    roll: EvaluationRoll,
+    mask: &mut [u8],
+) {
+    asked(question);
     answered(solar_masks::in_constraint_batch_at_roll(
-        &targets,
-        &suns,
-        &observers,
-        &tolerances,
+        &TARGETS,
+        &SUNS,
+        &OBSERVERS,
+        &[tolerance],
+        configured,
+        &Y,
+        roll,
+        mask,
+    ));
+    bytes(mask);
+}
+
+fn at_every_roll(question: &[u8], n: u64, mask: &mut [u8]) {
+    asked(question);
+    answered(solar_masks::in_constraint_batch_constrained_at_every_roll(
+        &TARGETS,
+        &SUNS,
+        &OBSERVERS,
+        &[10.0],
+        ConfiguredRoll::None,
+        &Y,
+        n,
+        mask,
+    ));
+    bytes(mask);
+}
+
+fn field_of_regard(question: &[u8], time: u64, roll: f64, mask: &mut [u8]) {
+    asked(question);
+    answered(solar_masks::field_of_regard_violated_at_roll(
+        &TARGETS,
+        &SUNS,
+        &OBSERVERS,
+        &[10.0],
+        ConfiguredRoll::None,
+        &Y,
+        time,
+        roll,
+        mask,
+    ));
+    bytes(mask);
+}
+
+fn masks() {
+    let mut mask = [9u8; 6];
+    batch(b"no configured roll", ConfiguredRoll::None, &mut mask);
+    batch(b"configured roll 0", ConfiguredRoll::Some(0.0), &mut mask);
+    at_roll(
+        b"Sweep 90 with 0 configured",
+        10.0,
         ConfiguredRoll::Some(0.0),
-        &panels,
         EvaluationRoll::Sweep(90.0),
         &mut mask,
-    ));
-    bytes(&mask);
-    asked(b"Fixed 90 with 0 configured");
-    answered(solar_masks::in_constraint_batch_at_roll(
-        &targets,
-        &suns,
-        &observers,
-        &tolerances,
+    );
+    at_roll(
+        b"Fixed 90 with 0 configured",
+        10.0,
         ConfiguredRoll::Some(0.0),
-        &panels,
         EvaluationRoll::Fixed(90.0),
         &mut mask,
-    ));
-    bytes(&mask);
-    asked(b"tolerance 90 met exactly at roll 0");
-    answered(solar_masks::in_constraint_batch_at_roll(
-        &targets,
-        &suns,
-        &observers,
-        &[90.0],
+    );
+}
+
+fn masks_by_tolerance() {
+    let mut mask = [9u8; 6];
+    at_roll(
+        b"tolerance 90 met exactly at roll 0",
+        90.0,
         ConfiguredRoll::None,
-        &panels,
         EvaluationRoll::Sweep(0.0),
         &mut mask,
-    ));
-    bytes(&mask);
-    asked(b"NaN tolerance");
-    answered(solar_masks::in_constraint_batch_at_roll(
-        &targets,
-        &suns,
-        &observers,
-        &[nan()],
+    );
+    at_roll(
+        b"NaN tolerance",
+        nan(),
         ConfiguredRoll::None,
-        &panels,
         EvaluationRoll::Sweep(0.0),
         &mut mask,
-    ));
-    bytes(&mask);
-    asked(b"tolerance -1");
-    answered(solar_masks::in_constraint_batch_at_roll(
-        &targets,
-        &suns,
-        &observers,
-        &[-1.0],
+    );
+    at_roll(
+        b"tolerance -1",
+        -1.0,
         ConfiguredRoll::None,
-        &panels,
         EvaluationRoll::Sweep(0.0),
         &mut mask,
-    ));
-    bytes(&mask);
-    asked(b"every roll, n = 1");
-    answered(solar_masks::in_constraint_batch_constrained_at_every_roll(
-        &targets,
-        &suns,
-        &observers,
-        &tolerances,
-        ConfiguredRoll::None,
-        &panels,
-        1,
-        &mut mask,
-    ));
-    bytes(&mask);
-    asked(b"every roll, n = 0");
-    answered(solar_masks::in_constraint_batch_constrained_at_every_roll(
-        &targets,
-        &suns,
-        &observers,
-        &tolerances,
-        ConfiguredRoll::None,
-        &panels,
+    );
+    at_every_roll(b"every roll, n = 1", 1, &mut mask);
+    at_every_roll(b"every roll, n = 0", 0, &mut mask);
+    field_of_regard(b"field of regard at time 1, roll 0", 1, 0.0, &mut mask);
+}
+
+// Row 0.
+fn row(
+    question: &[u8],
+    tolerance: f64,
+    configured: ConfiguredRoll,
+    mask: &mut [u8],
+    severities: &mut [f64],
+) {
+    asked(question);
+    answered(solar_masks::evaluate(
+        &TARGETS,
+        &SUNS,
+        &OBSERVERS,
+        &[tolerance],
+        configured,
+        &Y,
         0,
-        &mut mask,
+        mask,
+        severities,
     ));
-    bytes(&mask);
-    asked(b"field of regard at time 1, roll 0");
-    answered(solar_masks::field_of_regard_violated_at_roll(
-        &targets,
-        &suns,
-        &observers,
-        &tolerances,
-        ConfiguredRoll::None,
-        &panels,
-        1,
-        0.0,
-        &mut mask,
-    ));
-    bytes(&mask);
+    bytes(mask);
+    bits(severities);
 }
 
 fn rows() {
-    let tolerances = [10.0];
-    let panels = Y;
-    let targets = [1.0, 0.0, 0.0, 0.0, 1.0, 0.0];
-    let suns = [0.0, 1.0, 0.0, 0.0, 0.0, 1.0];
-    let observers = [0.0, 0.0, 0.0, 0.0, 0.0, 0.0];
     let mut mask = [9u8; 3];
     let mut severities = [9.0; 3];
-    asked(b"row 0, configured roll 0");
-    answered(solar_masks::evaluate(
-        &targets,
-        &suns,
-        &observers,
-        &tolerances,
+    row(
+        b"row 0, configured roll 0",
+        10.0,
         ConfiguredRoll::Some(0.0),
-        &panels,
-        0,
         &mut mask,
         &mut severities,
-    ));
-    bytes(&mask);
-    bits(&severities);
-    asked(b"row 0, tolerance -infinity");
-    answered(solar_masks::evaluate(
-        &targets,
-        &suns,
-        &observers,
-        &[-infinity()],
+    );
+    row(
+        b"row 0, tolerance -infinity",
+        -infinity(),
         ConfiguredRoll::Some(0.0),
-        &panels,
-        0,
         &mut mask,
         &mut severities,
-    ));
-    bytes(&mask);
-    bits(&severities);
-    asked(b"row 0, no configured roll");
-    answered(solar_masks::evaluate(
-        &targets,
-        &suns,
-        &observers,
-        &tolerances,
+    );
+    row(
+        b"row 0, no configured roll",
+        10.0,
         ConfiguredRoll::None,
-        &panels,
-        0,
         &mut mask,
         &mut severities,
-    ));
-    bytes(&mask);
-    bits(&severities);
-    asked(b"named values, of a free cell too");
+    );
     let mut values = [9.0; 5];
+    asked(b"named values, of a free cell too");
     answered(solar_masks::named_values(
-        &targets,
-        &suns,
-        &observers,
-        &tolerances,
+        &TARGETS,
+        &SUNS,
+        &OBSERVERS,
+        &[10.0],
         ConfiguredRoll::None,
-        &panels,
+        &Y,
         &mut values,
     ));
     bits(&values);
 }
 
-fn refusals() {
-    let tolerances = [10.0];
-    let panels = Y;
-    let targets = [2.0, 0.0, 0.0];
-    let sound = [1.0, 0.0, 0.0];
-    let suns = [0.0, 1.0, 0.0, 0.0, 0.0, nan()];
-    let observers = [0.0, 0.0, 0.0, 0.0, 0.0, 0.0];
-    let mut mask = [9u8; 2];
-    let mut severities = [9.0; 2];
-    let mut unlent_mask = [9u8; 1];
-    let mut unlent_severities = [9.0; 1];
-    asked(b"targets of 2 numbers");
+// The masks of what is refused, or has no cell: nothing is shown, as none is written.
+fn refused_batch(
+    question: &[u8],
+    targets: &[f64],
+    suns: &[f64],
+    observers: &[f64],
+    mask: &mut [u8],
+) {
+    asked(question);
     answered(solar_masks::in_constraint_batch(
-        &targets[..2],
-        &suns,
-        &observers,
-        &tolerances,
+        targets,
+        suns,
+        observers,
+        &[10.0],
         ConfiguredRoll::None,
-        &panels,
-        &mut mask,
+        &Y,
+        mask,
     ));
-    asked(b"fewer observers than Suns");
-    answered(solar_masks::in_constraint_batch(
-        &targets,
-        &suns,
-        &observers[..3],
-        &tolerances,
+}
+
+fn refused_row(
+    question: &[u8],
+    targets: &[f64],
+    suns: &[f64],
+    observers: &[f64],
+    mask: &mut [u8],
+    severities: &mut [f64],
+) {
+    asked(question);
+    answered(solar_masks::evaluate(
+        targets,
+        suns,
+        observers,
+        &[10.0],
         ConfiguredRoll::None,
-        &panels,
-        &mut mask,
+        &Y,
+        0,
+        mask,
+        severities,
     ));
+}
+
+// n over 3,600, by both calls that take it.
+fn refused_samples(targets: &[f64], suns: &[f64], observers: &[f64], mask: &mut [u8]) {
     asked(b"n = 3601 with a configured roll");
     answered(solar_masks::in_constraint_batch_constrained_at_every_roll(
-        &targets,
-        &suns,
-        &observers,
-        &tolerances,
+        targets,
+        suns,
+        observers,
+        &[10.0],
         ConfiguredRoll::Some(0.0),
-        &panels,
+        &Y,
         3601,
-        &mut mask,
+        mask,
     ));
     asked(b"n = 2^40");
     answered(solar_masks::field_of_regard_violated_batch(
-        &targets,
-        &suns,
-        &observers,
-        &tolerances,
+        targets,
+        suns,
+        observers,
+        &[10.0],
         ConfiguredRoll::None,
-        &panels,
+        &Y,
         0,
         1099511627776,
-        &mut mask,
+        mask,
     ));
-    asked(b"target 2, NaN in the last Sun");
-    answered(solar_masks::in_constraint_batch(
+}
+
+fn refused_field(mask: &mut [u8]) {
+    asked(b"no times, field of regard");
+    answered(solar_masks::field_of_regard_violated_at_roll(
+        &TARGETS[..0],
+        &SUNS[..0],
+        &OBSERVERS[..0],
+        &[10.0],
+        ConfiguredRoll::None,
+        &Y,
+        0,
+        0.0,
+        mask,
+    ));
+}
+
+// Targets beyond 1, and a Sun whose last number is NaN.
+fn refusals(mask: &mut [u8]) {
+    let targets = [2.0, 0.0, 0.0];
+    let suns = [0.0, 1.0, 0.0, 0.0, 0.0, nan()];
+    let observers = OBSERVERS;
+    refused_batch(
+        b"targets of 2 numbers",
+        &targets[..2],
+        &suns,
+        &observers,
+        mask,
+    );
+    refused_batch(
+        b"fewer observers than Suns",
+        &targets,
+        &suns,
+        &observers[..3],
+        mask,
+    );
+    refused_samples(&targets, &suns, &observers, mask);
+    refused_batch(
+        b"target 2, NaN in the last Sun",
         &targets,
         &suns,
         &observers,
-        &tolerances,
-        ConfiguredRoll::None,
-        &panels,
-        &mut mask,
-    ));
-    asked(b"target 2");
-    answered(solar_masks::in_constraint_batch(
-        &targets,
-        &suns[..3],
-        &observers[..3],
-        &tolerances,
-        ConfiguredRoll::None,
-        &panels,
-        &mut mask,
-    ));
-    asked(b"no targets");
-    answered(solar_masks::in_constraint_batch(
+        mask,
+    );
+    refused_batch(b"target 2", &targets, &suns[..3], &observers[..3], mask);
+    refused_batch(
+        b"no targets",
         &targets[..0],
         &suns[..3],
         &observers[..3],
-        &tolerances,
-        ConfiguredRoll::None,
-        &panels,
-        &mut mask,
-    ));
-    asked(b"no times, field of regard");
-    answered(solar_masks::field_of_regard_violated_at_roll(
-        &targets[..0],
-        &suns[..0],
-        &observers[..0],
-        &tolerances,
-        ConfiguredRoll::None,
-        &panels,
-        0,
-        0.0,
-        &mut mask,
-    ));
-    asked(b"row 0 of no rows, no room");
-    answered(solar_masks::evaluate(
-        &targets[..0],
-        &suns[..3],
-        &observers[..3],
-        &tolerances,
-        ConfiguredRoll::None,
-        &panels,
-        0,
+        mask,
+    );
+    refused_field(mask);
+}
+
+fn too_short(mask: &mut [u8]) {
+    let mut severities = [9.0; 2];
+    let mut unlent_mask = [9u8; 1];
+    let mut unlent_severities = [9.0; 1];
+    refused_row(
+        b"row 0 of no rows, no room",
+        &TARGETS[..0],
+        &Y,
+        &ORIGIN,
         &mut unlent_mask[..0],
         &mut severities,
-    ));
-    asked(b"no room for the severities");
-    answered(solar_masks::evaluate(
-        &sound,
-        &suns[..3],
-        &observers[..3],
-        &tolerances,
-        ConfiguredRoll::None,
-        &panels,
-        0,
-        &mut mask,
+    );
+    refused_row(
+        b"no room for the severities",
+        &X,
+        &Y,
+        &ORIGIN,
+        mask,
         &mut unlent_severities[..0],
-    ));
-    asked(b"no room for the mask");
-    answered(solar_masks::in_constraint_batch(
-        &sound,
-        &suns[..3],
-        &observers[..3],
-        &tolerances,
-        ConfiguredRoll::None,
-        &panels,
+    );
+    refused_batch(
+        b"no room for the mask",
+        &X,
+        &Y,
+        &ORIGIN,
         &mut unlent_mask[..0],
-    ));
-    asked(b"the lent mask after all of these");
-    bytes(&mask);
+    );
 }
 
 fn main() {
     cells();
+    refused_cells();
     masks();
+    masks_by_tolerance();
     rows();
-    refusals();
+    let mut mask = [9u8; 2];
+    refusals(&mut mask);
+    too_short(&mut mask);
+    asked(b"the lent mask after all of these");
+    bytes(&mask);
 }

@@ -90,7 +90,7 @@ fn run(folder: &Path, seconds: u64, seed: u64) -> Tally {
     let four = Case::drawn("3 targets, 70 times, 8 rolls", 2, 3, 70, 8, 15.0, None);
     let fixed = Case::drawn("2 targets, 50 times, a configured roll", 3, 2, 50, 3, 30.0, Some(-40.5));
     let none = Case::drawn("no targets", 4, 0, 5, 360, f64::NAN, None);
-    let catalogue = Case::drawn("3 targets by ra and dec, 40 times, 24 rolls", 7, 3, 40, 24, 5.0, None).of_catalogue(5);
+    let catalogue = Case::drawn("3 targets by ra and dec, 21 times, 24 rolls", 7, 3, 21, 24, 5.0, None).of_catalogue(5);
     for case in [&example, &four, &fixed, &none, &catalogue] {
         let chunks = case.chunks();
         let mut orders = vec![(0..chunks).collect::<Vec<_>>()];

@@ -13,15 +13,15 @@ use lib.Ieee.{Float, nan, inf, fin, binary64, up, down, round, sum, add, sub, mu
 use lib.Ieee.Fits.{down-pos}
 use lib.Ieee.Order.{round-mono}
 use Rattle.buffers.specs.Ranges.{flag}
 use Rattle.float.specs.Arithmetic.{_⊖_, _⊗_, _⊘_, zero·0, two, halfTurn, PI, absOf}
 use Rattle.float.specs.Series.{horner}
 use Rattle.float.specs.Trigonometry.{sineDivisor, cosineDivisor, threshold, quadrantOf, sineAt, cosineAt, sinCosOf, sineOf, cosineOf, toRadians}
 use Rattle.float.proofs.Bounds.{resign, round-resign, at-most}
 use Rattle.float.proofs.Grid.{le-or-lt}
-use Rattle.float.proofs.Near.{Near, scaled, shorter, square}
-use Rattle.float.proofs.Rounding.{unit, step, unit-pos, step-small, Sized, negated, rounded, Times, times}
-use Rattle.float.proofs.Alternating.{rounds}
-use Rattle.float.proofs.Circle.{sine-divisors, cosine-divisors, sums-on-circle}
+use Rattle.catalogue.proofs.Near.{Near, scaled, shorter, square}
+use Rattle.catalogue.proofs.Rounding.{unit, step, unit-pos, step-small, Sized, negated, rounded, Times, times}
+use Rattle.catalogue.proofs.Alternating.{rounds}
+use Rattle.catalogue.proofs.Circle.{sine-divisors, cosine-divisors, sums-on-circle}
 
 -- ---- the circle
 
@@ -121,11 +121,11 @@ small-difference m n e d h g = go (ltb (m * up e * down d) (n * up d * down e)) 
     go true j = small true _ (down e * down d) (mul-pos (down-pos e) (down-pos d)) (omega arith)
     go false j = small false _ (down e * down d) (mul-pos (down-pos e) (down-pos d)) (omega arith)
 
--- P/4, in parts of 2^-50
+-- P/4, an eighth of a turn, in parts of 2^-50
 abbrev eighth : ℕ
 eighth = 884279719003555
 
--- the thresholds are odd multiples of it, exactly
+-- the thresholds are odd multiples of that, exactly
 pub thresholds : (threshold 1 ≡ fin false (1 * eighth) (negsuc 49)) × (threshold 3 ≡ fin false (3 * eighth) (negsuc 49)) × (threshold 5 ≡ fin false (5 * eighth) (negsuc 49)) × (threshold 7 ≡ fin false (7 * eighth) (negsuc 49))
 unfolding threshold ofInt ofBits mul div round
 thresholds = (refl, refl, refl, refl)
@@ -153,7 +153,7 @@ nearest K X h = elim (le-or-lt X (1 * K)) [
     under : (n : ℕ) → X ≤ n * K → flag (ltb (n * K) X) ≡ 0
     under n l = ap flag (le-ltb (n * K) X l)
 
--- q·(P/2) is 2q of it, exactly
+-- q·(P/2) is 2q eighths, exactly
 pub record Half (q : ℕ) : Type 0 where
   pub n : ℕ
   pub d : ℤ

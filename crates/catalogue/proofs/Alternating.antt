@@ -14,13 +14,13 @@ use lib.Ieee.Fits.{up-pos, down-pos}
 use lib.Ieee.Exact.{HasValue}
 use lib.Ieee.Back.{round-whole}
 use lib.Ieee.Scale.{round-same}
 use Rattle.float.specs.Arithmetic.{one}
 use Rattle.float.specs.Series.{coefficient, horner}
 use Rattle.float.specs.Trigonometry.{factorial}
 use Rattle.float.proofs.Bounds.{one-value}
-use Rattle.float.proofs.Near.{Near, scaled, reworded}
-use Rattle.float.proofs.Polynomial.{at}
-use Rattle.float.proofs.Rounding.{unit, step, unit-pos, Sized, negated, rounded, times, apart}
+use Rattle.catalogue.proofs.Near.{Near, scaled, reworded}
+use Rattle.catalogue.proofs.Polynomial.{at}
+use Rattle.catalogue.proofs.Rounding.{unit, step, unit-pos, Sized, negated, rounded, times, apart}
 
 -- ---- D = 17!, a multiple of every divisor d(k), and how many times it has it
 

@@ -4,7 +4,7 @@ use mathlib.Core.List.{List, [], _∷_}
 use Prim.Native.Nat.{ℕ, _+_, _-_, _*_, _≤_}
 use native.Mathlib.Nat.{le-refl, add-le-add, mul-zero, mul-le-mul, mul-le-mul-left}
 use native.Mathlib.Omega.{arith}
-use Rattle.float.proofs.Near.{Near}
+use Rattle.catalogue.proofs.Near.{Near}
 
 -- the value at a
 unfoldable pub at : List ℕ → ℕ → ℕ

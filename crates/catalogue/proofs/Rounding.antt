@@ -15,8 +15,8 @@ use lib.Ieee.Nearest.{nearest-ge, closest}
 use lib.Ieee.Digits.{size-le}
 use lib.Ieee.Exact.{HasValue, units-val}
 use lib.Ieee.Scale.{round-same}
 use Rattle.float.proofs.Bounds.{within-round}
-use Rattle.float.proofs.Near.{Near, shorter}
+use Rattle.catalogue.proofs.Near.{Near, shorter}
 
 -- ---- 1 in units of the smallest value, and what a rounded value below 2 is off by: a unit in its last place
 

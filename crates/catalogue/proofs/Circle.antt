@@ -11,11 +11,11 @@ use lib.Dec.{eqb, ltb, lit<, lit≤}
 use lib.Ieee.{Float}
 use Rattle.buffers.specs.Ranges.{allBelow}
 use Rattle.buffers.proofs.Ranges.{all-iff}
 use Rattle.float.specs.Trigonometry.{factorial, sineDivisor, cosineDivisor}
-use Rattle.float.proofs.Near.{Near, scaled, shorter, square, reworded}
-use Rattle.float.proofs.Polynomial.{at, plus, multiple, product, differences, at-plus, at-multiple, at-product, at-mono, at-near}
-use Rattle.float.proofs.Rounding.{unit, step, unit-pos, step-small}
-use Rattle.float.proofs.Alternating.{common, common-pos, cofactor, Divisors, terms, Round}
+use Rattle.catalogue.proofs.Near.{Near, scaled, shorter, square, reworded}
+use Rattle.catalogue.proofs.Polynomial.{at, plus, multiple, product, differences, at-plus, at-multiple, at-product, at-mono, at-near}
+use Rattle.catalogue.proofs.Rounding.{unit, step, unit-pos, step-small}
+use Rattle.catalogue.proofs.Alternating.{common, common-pos, cofactor, Divisors, terms, Round}
 
 -- ---- the divisors of both series
 
