@@ -323,41 +323,33 @@ fn refused_field(mask: &mut [u8]) {
     ));
 }
 
-// Targets beyond 1, and a Sun whose last number is NaN.
-fn refusals(mask: &mut [u8]) {
-    let targets = [2.0, 0.0, 0.0];
+// A target beyond 1, and a Sun whose last number is NaN.
+const BEYOND: [f64; 3] = [2.0, 0.0, 0.0];
+
+fn refused_lengths(mask: &mut [u8]) {
     let suns = [0.0, 1.0, 0.0, 0.0, 0.0, nan()];
-    let observers = OBSERVERS;
     refused_batch(
         b"targets of 2 numbers",
-        &targets[..2],
+        &BEYOND[..2],
         &suns,
-        &observers,
+        &OBSERVERS,
         mask,
     );
-    refused_batch(
-        b"fewer observers than Suns",
-        &targets,
-        &suns,
-        &observers[..3],
-        mask,
-    );
-    refused_samples(&targets, &suns, &observers, mask);
+    refused_batch(b"fewer observers than Suns", &BEYOND, &suns, &ORIGIN, mask);
+    refused_samples(&BEYOND, &suns, &OBSERVERS, mask);
+}
+
+fn refused_numbers(mask: &mut [u8]) {
+    let suns = [0.0, 1.0, 0.0, 0.0, 0.0, nan()];
     refused_batch(
         b"target 2, NaN in the last Sun",
-        &targets,
+        &BEYOND,
         &suns,
-        &observers,
+        &OBSERVERS,
         mask,
     );
-    refused_batch(b"target 2", &targets, &suns[..3], &observers[..3], mask);
-    refused_batch(
-        b"no targets",
-        &targets[..0],
-        &suns[..3],
-        &observers[..3],
-        mask,
-    );
+    refused_batch(b"target 2", &BEYOND, &suns[..3], &ORIGIN, mask);
+    refused_batch(b"no targets", &BEYOND[..0], &suns[..3], &ORIGIN, mask);
     refused_field(mask);
 }
 
@@ -397,7 +389,8 @@ fn main() {
     masks_by_tolerance();
     rows();
     let mut mask = [9u8; 2];
-    refusals(&mut mask);
+    refused_lengths(&mut mask);
+    refused_numbers(&mut mask);
     too_short(&mut mask);
     asked(b"the lent mask after all of these");
     bytes(&mask);
