@@ -5,8 +5,8 @@
 //!     target/cargo/release/record crates/replay/data
 //!
 //! A line is words of hexadecimal digits, the first its kind. A line of kind 0 gives a plan, a row of samples or positions. Each other line
-//! asks about what was given last: two words of what is asked (0 where nothing is), then the Rust's answer up to the line's end. A float is its bits (every
-//! NaN 7ff8000000000000), a time its 64 bits, a mask a word a sample.
+//! asks about what was given last: two words of what is asked (0 where nothing is), then the Rust's answer up to the line's end. A float is
+//! its bits (every NaN 7ff8000000000000), a time its 64 bits, a mask a word a sample.
 use cases::catalogue::{beside, positions};
 use cases::plans::{for_roll, for_sweep, plan, roll, samples, Targets};
 use cases::{rows, Seeded};
