@@ -35,6 +35,7 @@
  *   -14  A mask byte is neither 0 nor 1, or a severity is NaN, infinite or has its sign bit set.
  *   -15  A chunk lacks its line.
  *   -16  A right ascension is not within 0 to 360 degrees, or a declination not within -90 to 90.
+ *   -17  Not one tolerance a target: tolerances_len is not targets_len / 3.
  *
  * Numbers of 64 bits are looked at whole: a chunk of 2^40 or an n of 2^32 is refused, not cut down.
  *
@@ -54,11 +55,14 @@
  *                   declination wilfnusk_radec_to_unit_vectors_batch makes them
  *    suns           the Sun's position at each time, three numbers each
  *    observers      the satellite's position at each time, three numbers each, in the unit and from the origin of suns
- *    tolerance_deg  how far, in degrees, a roll may be from the optimal one; any double. NaN: no cell is violated. Below 0: every cell
- *                   that is not Free is violated, at a finite roll
+ *    tolerances     one a target: how far, in degrees, a roll may be from the optimal one; any double. NaN: none of the target's cells is
+ *                   violated. Below 0: each of them that is not Free is violated, at a finite roll
  *    has_roll       0: no configured roll, and roll_deg is ignored. Anything else: roll_deg is the configured roll
  *    roll_deg       in degrees; any double. One that is not finite violates nothing
  *    panel_x, panel_y, panel_z   the panel's normal in the body's axes, see FRAME. Need not have length 1. The usual: 0, 1, 0
+ *
+ * Up to version 0.1.0, before document 02's request Two (tolerance by target), one number for all targets, tolerance_deg, stood in the place
+ * of tolerances and its length. A caller of that time lends a list with that number once a target, and is compiled anew.
  *
  * A cell is a target i and a time j; its number is i * times + j. A mask has one byte a cell, in this order: 1 marked (violated), 0 clear.
  * A cell is Free if no roll is better than another: the Sun is on the boresight's line, ahead or behind, or the panel's normal has no part
@@ -97,7 +101,7 @@ extern "C" {
 
 #define WILFNUSK_PLAN                                                                                                                      \
     const double *targets, size_t targets_len, const double *suns, size_t suns_len, const double *observers, size_t observers_len,         \
-        double tolerance_deg, uint64_t has_roll, double roll_deg, double panel_x, double panel_y, double panel_z
+        const double *tolerances, size_t tolerances_len, uint64_t has_roll, double roll_deg, double panel_x, double panel_y, double panel_z
 
 
 /* ---- Arithmetic. No double is refused. ------------------------------------------------------------------------------------------- */
@@ -135,40 +139,40 @@ int64_t wilfnusk_radec_to_unit_vectors_batch(const double *ra, size_t ra_len, co
 int64_t wilfnusk_cell(double target_x, double target_y, double target_z, double sun_x, double sun_y, double sun_z, double observer_x,
                       double observer_y, double observer_z, double panel_x, double panel_y, double panel_z, double *roll);
 
-/* Writes the optimal roll of each cell, in degrees, Free cells too. Answers 0. tolerance_deg and roll_deg do not matter.
- * Refuses: -1, -2, -4, -5, -6; -7 if out_len is below the number of cells. */
+/* Writes the optimal roll of each cell, in degrees, Free cells too. Answers 0. The numbers in tolerances, and roll_deg, do not matter.
+ * Refuses: -1, -2, -4, -5, -6, -17; -7 if out_len is below the number of cells. */
 int64_t wilfnusk_named_values(WILFNUSK_PLAN, double *out, size_t out_len);
 
 
 /* ---- Masks ----------------------------------------------------------------------------------------------------------------------- */
 
-/* A cell that is not Free is violated at a roll if its optimal roll is further from it than the tolerance. A distance that meets the
- * tolerance exactly is not violated. */
+/* A cell that is not Free is violated at a roll if its optimal roll is further from it than its target's tolerance. A distance that meets
+ * the tolerance exactly is not violated. */
 
 /* Marks the cells that are violated at the configured roll; without one, none. Answers 0.
- * Refuses: -1, -2, -4, -5, -6; -7 if mask_len is below the number of cells. */
+ * Refuses: -1, -2, -4, -5, -6, -17; -7 if mask_len is below the number of cells. */
 int64_t wilfnusk_in_constraint_batch(WILFNUSK_PLAN, uint8_t *mask, size_t mask_len);
 
 /* Marks the cells that are violated at the roll roll_at_deg. fixed 0: a configured roll stands in its place. fixed not 0: it does not.
- * Answers 0. Refuses: -1, -2, -4, -5, -6; -7 if mask_len is below the number of cells. */
+ * Answers 0. Refuses: -1, -2, -4, -5, -6, -17; -7 if mask_len is below the number of cells. */
 int64_t wilfnusk_in_constraint_batch_at_roll(WILFNUSK_PLAN, uint64_t fixed, double roll_at_deg, uint8_t *mask, size_t mask_len);
 
 /* Marks the cells that are not Free and whose optimal roll is further than the tolerance from the nearest multiple of 360 / n; n = 0
  * marks none. With a configured roll, whatever n is, the cells that are violated at it. Answers 0. Where rounding decides, this is not
  * always the mask of the journal's sweep, which tries each roll.
- * Refuses: -1, -2, -3 if n is over 3,600, -4, -5, -6; -7 if mask_len is below the number of cells. */
+ * Refuses: -1, -2, -3 if n is over 3,600, -4, -5, -6, -17; -7 if mask_len is below the number of cells. */
 int64_t wilfnusk_constrained_at_every_roll(WILFNUSK_PLAN, uint64_t n, uint8_t *mask, size_t mask_len);
 
 /* One target's row at the configured roll: its mask, and for each marked time by how many degrees the distance is beyond the tolerance
  * (for a clear one 0). Without a configured roll all zeros. Answers 0.
- * Refuses: -1, -2, -4, -5, -6; -9 if target is not below the number of targets; -7 if mask_len or severities_len is below the number of
- * times. */
+ * Refuses: -1, -2, -4, -5, -6, -17; -9 if target is not below the number of targets; -7 if mask_len or severities_len is below the number
+ * of times. */
 int64_t wilfnusk_evaluate(WILFNUSK_PLAN, uint64_t target, uint8_t *mask, size_t mask_len, double *severities, size_t severities_len);
 
 /* Field of regard: one byte a target, at one time. The first marks as wilfnusk_constrained_at_every_roll does; the second those that are
  * violated at the configured roll, or without one at roll_at_deg. Both answer 0.
- * Refuse: -1, -2, -3 if n is over 3,600 (the first), -4, -5, -6; -9 if time is not below the number of times; -7 if mask_len is below the
- * number of targets. */
+ * Refuse: -1, -2, -3 if n is over 3,600 (the first), -4, -5, -6, -17; -9 if time is not below the number of times; -7 if mask_len is below
+ * the number of targets. */
 int64_t wilfnusk_field_of_regard_violated_batch(WILFNUSK_PLAN, uint64_t time, uint64_t n, uint8_t *mask, size_t mask_len);
 int64_t wilfnusk_field_of_regard_violated_at_roll(WILFNUSK_PLAN, uint64_t time, double roll_at_deg, uint8_t *mask, size_t mask_len);
 
@@ -188,7 +192,7 @@ int64_t wilfnusk_field_of_regard_violated_at_roll(WILFNUSK_PLAN, uint64_t time, 
  *    digits   8  number of targets
  *             8  number of times
  *             8  n
- *            16  the bits of tolerance_deg (every NaN as 7ff8000000000000)
+ *            16  the bits of the first tolerance (every NaN as 7ff8000000000000), zeros without targets
  *             2  01 with a configured roll, else 00
  *            16  the bits of the configured roll, else zeros
  *      3 *   16  the bits of panel_x, panel_y, panel_z
@@ -199,7 +203,8 @@ int64_t wilfnusk_field_of_regard_violated_at_roll(WILFNUSK_PLAN, uint64_t time, 
  *            16  mask: bit k is cell 64c + k; bits past the last cell are 0
  *             8  how many rolls were tried, summed over the chunk's cells
  *
- * That is 107 bytes and 33 bytes a line. targets, suns and observers are not in it: lend the same plan to every call.
+ * That is 107 bytes and 33 bytes a line. targets, suns, observers and the tolerances after the first are not in it: lend the same plan to
+ * every call.
  *
  * A journal is right if its header is this plan's (if it is shorter than 107 bytes: if it begins that header), and each whole line has 32
  * digits and a newline, a chunk that exists, no chunk of another line, no bits past the last cell, and a count of tried rolls from
@@ -211,27 +216,27 @@ int64_t wilfnusk_field_of_regard_violated_at_roll(WILFNUSK_PLAN, uint64_t time, 
  */
 
 /* Writes the header into an empty journal. Answers the used length after it, 107.
- * Refuses: -1, -2, -3, -4, -5, -6; -13 if used is not 0; -7 if journal_len is below 107. */
+ * Refuses: -1, -2, -3, -4, -5, -6, -17; -13 if used is not 0; -7 if journal_len is below 107. */
 int64_t wilfnusk_begin(WILFNUSK_PLAN, uint64_t n, uint8_t *journal, size_t journal_len, uint64_t used);
 
 /* Sweeps a chunk and appends its line. Answers the used length after it: used + 33.
- * Refuses: -1, -2, -3, -4, -5, -6; -9 if there is no such chunk; -11; -12; -10; -7 if journal_len is below used + 33. */
+ * Refuses: -1, -2, -3, -4, -5, -6, -17; -9 if there is no such chunk; -11; -12; -10; -7 if journal_len is below used + 33. */
 int64_t wilfnusk_work(WILFNUSK_PLAN, uint64_t n, uint64_t chunk, uint8_t *journal, size_t journal_len, uint64_t used);
 
 /* Sweeps the chunks from, from + 1, .. and appends a line for each, as wilfnusk_work of each on what the one before left would, but checks
  * the journal once: so the time of a sweep grows with its chunks. Stops before `to`, or before the first chunk that wilfnusk_work would
  * refuse, and writes to *stopped the chunk at which it stopped. Answers the used length after it: used + 33 for each line. A write of the
  * added bytes that was cut short leaves the lines that it has whole, and a part of the next.
- * Refuses: -1, -2, -3, -4, -5, -6; -9 if from is not below to; then as wilfnusk_work of the chunk from: -9; -11; -12; -10; -7. */
+ * Refuses: -1, -2, -3, -4, -5, -6, -17; -9 if from is not below to; then as wilfnusk_work of the chunk from: -9; -11; -12; -10; -7. */
 int64_t wilfnusk_work_range(WILFNUSK_PLAN, uint64_t n, uint64_t from, uint64_t to, uint8_t *journal, size_t journal_len, uint64_t used,
                             uint64_t *stopped);
 
 /* Answers the used length without an incomplete header or line at the end: 0 if the header is incomplete, else the header and the whole
- * lines. Writes nothing. Refuses: -1, -2, -3, -4, -5, -6; -11. */
+ * lines. Writes nothing. Refuses: -1, -2, -3, -4, -5, -6, -17; -11. */
 int64_t wilfnusk_recover(WILFNUSK_PLAN, uint64_t n, const uint8_t *journal, size_t journal_len, uint64_t used);
 
 /* Writes the mask that the journal's lines hold. Answers how many rolls were tried, summed over all cells.
- * Refuses: -1, -2, -3, -4, -5, -6; -11; -12; -15; -7 if mask_len is below the number of cells. */
+ * Refuses: -1, -2, -3, -4, -5, -6, -17; -11; -12; -15; -7 if mask_len is below the number of cells. */
 int64_t wilfnusk_collect(WILFNUSK_PLAN, uint64_t n, const uint8_t *journal, size_t journal_len, uint64_t used, uint8_t *mask,
                          size_t mask_len);
 

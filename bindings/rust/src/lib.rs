@@ -10,7 +10,7 @@
 //!     targets: &[1.0, 0.0, 0.0],
 //!     suns: &[0.0, 1.0, 0.0, 0.0, 0.0, 1.0],
 //!     observers: &[0.0; 6],
-//!     tolerance_deg: 10.0,
+//!     tolerances: &[10.0],
 //!     roll_deg: None,
 //!     panel_normal: [0.0, 1.0, 0.0],
 //! };
@@ -38,7 +38,8 @@ pub struct Plan<'a> {
     pub targets: &'a [f64],
     pub suns: &'a [f64],
     pub observers: &'a [f64],
-    pub tolerance_deg: f64,
+    /// In degrees, one a target.
+    pub tolerances: &'a [f64],
     /// The configured roll.
     pub roll_deg: Option<f64>,
     pub panel_normal: [f64; 3],
@@ -82,7 +83,7 @@ macro_rules! with_plan {
         accepted(Call::$call, unsafe {
             sys::$name(
                 p.targets.as_ptr(), p.targets.len(), p.suns.as_ptr(), p.suns.len(), p.observers.as_ptr(), p.observers.len(),
-                p.tolerance_deg, p.roll_deg.is_some() as u64, p.roll_deg.unwrap_or(0.0), x, y, z, $($rest),*
+                p.tolerances.as_ptr(), p.tolerances.len(), p.roll_deg.is_some() as u64, p.roll_deg.unwrap_or(0.0), x, y, z, $($rest),*
             )
         })
     }};

@@ -73,6 +73,7 @@ impl Refusal {
             (14, _) => "a mask byte is not 0 or 1, or a severity is NaN, infinite or has its sign bit set",
             (15, _) => "a chunk lacks a line",
             (16, _) => "a right ascension is not within 0 to 360 degrees, or a declination not within -90 to 90",
+            (17, _) => "the number of tolerances is not the number of targets",
             _ => "a number that this version does not know",
         }
     }

@@ -24,7 +24,8 @@ macro_rules! with_plan {
                 targets: *const f64, targets_len: usize,
                 suns: *const f64, suns_len: usize,
                 observers: *const f64, observers_len: usize,
-                tolerance_deg: c_double, has_roll: u64, roll_deg: c_double,
+                tolerances: *const f64, tolerances_len: usize,
+                has_roll: u64, roll_deg: c_double,
                 panel_x: c_double, panel_y: c_double, panel_z: c_double,
                 $($p: $t),*
             ) -> i64;)*

@@ -321,6 +321,9 @@ fn tell_plan(plan: Plan, whole: &[u8], used: u64) {
     number(plan.times as u64);
     text(b" cells, n = ");
     number(plan.n);
+    if plan.first_tolerance != plan.second_tolerance {
+        text(b", two tolerances");
+    }
     match collect(plan, whole, used, &mut mask) {
         Answer::Accepted(probes) => {
             text(b": ");
@@ -359,17 +362,19 @@ fn cut_plan(plan: Plan, whole: &mut [u8]) -> Tally {
     tally
 }
 
-// The first has no cell, the second one; each of the others has clear and marked cells.
+// The first has no cell, the second one; each of the others has clear and marked cells. The targets of the last have
+// different tolerances.
 fn small_plan(p: u64) -> Plan {
     match p {
-        0 => plan_of(0, 70, 1, 1, 10.0, ConfiguredRoll::None),
-        1 => plan_of(1, 1, 2, 1, 10.0, ConfiguredRoll::None),
-        2 => plan_of(1, 64, 2, 3, 30.0, ConfiguredRoll::None),
-        3 => plan_of(2, 33, 3, 4, 20.0, ConfiguredRoll::None),
-        4 => plan_of(2, 70, 4, 1, 60.0, ConfiguredRoll::None),
-        5 => plan_of(2, 70, 4, 4, 20.0, ConfiguredRoll::None),
-        6 => plan_of(2, 70, 4, 2, -1.0, ConfiguredRoll::None),
-        _ => plan_of(2, 70, 4, 3, 90.0, ConfiguredRoll::Some(30.0)),
+        0 => plan_of(0, 70, 1, 1, 10.0, 10.0, ConfiguredRoll::None),
+        1 => plan_of(1, 1, 2, 1, 10.0, 10.0, ConfiguredRoll::None),
+        2 => plan_of(1, 64, 2, 3, 30.0, 30.0, ConfiguredRoll::None),
+        3 => plan_of(2, 33, 3, 4, 20.0, 20.0, ConfiguredRoll::None),
+        4 => plan_of(2, 70, 4, 1, 60.0, 60.0, ConfiguredRoll::None),
+        5 => plan_of(2, 70, 4, 4, 20.0, 20.0, ConfiguredRoll::None),
+        6 => plan_of(2, 70, 4, 2, -1.0, -1.0, ConfiguredRoll::None),
+        7 => plan_of(2, 70, 4, 3, 90.0, 90.0, ConfiguredRoll::Some(30.0)),
+        _ => plan_of(2, 70, 4, 4, 20.0, 30.0, ConfiguredRoll::None),
     }
 }
 
@@ -377,7 +382,7 @@ pub(crate) fn cut_plans() {
     let mut whole = [UNUSED; 240];
     let mut tally = Tally { cuts: 0, differ: 0 };
     let mut p = 0;
-    while p < 8 {
+    while p < 9 {
         tally = both(tally, cut_plan(small_plan(p), &mut whole));
         p += 1;
     }

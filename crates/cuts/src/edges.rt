@@ -98,12 +98,30 @@ fn put(journal: &mut [u8], from: usize, to: usize, byte: u8) {
 }
 
 // 140 cells in three chunks. At one roll a chunk of 64 cells has 64 probes.
-fn one_roll() -> Plan {
-    plan_of(2, 70, 4, 1, 60.0, ConfiguredRoll::None)
+fn with_each(first: f64, second: f64) -> Plan {
+    plan_of(2, 70, 4, 1, first, second, ConfiguredRoll::None)
 }
 
-fn with(tolerance_deg: f64) -> Plan {
-    plan_of(2, 70, 4, 1, tolerance_deg, ConfiguredRoll::None)
+fn with(tolerance: f64) -> Plan {
+    with_each(tolerance, tolerance)
+}
+
+fn one_roll() -> Plan {
+    with(60.0)
+}
+
+// The same, lent only the first `count` of its tolerances.
+fn with_listed(count: usize) -> Plan {
+    Plan {
+        targets: 2,
+        times: 70,
+        writes: 4,
+        n: 1,
+        first_tolerance: 60.0,
+        second_tolerance: 60.0,
+        listed: count,
+        configured: ConfiguredRoll::None,
+    }
 }
 
 // The first writes.
@@ -150,14 +168,14 @@ fn show_room_for_mask() {
 }
 
 fn show_no_cells() {
-    let none = plan_of(2, 0, 1, 1, 60.0, ConfiguredRoll::None);
+    let none = plan_of(2, 0, 1, 1, 60.0, 60.0, ConfiguredRoll::None);
     let mut journal = [0u8; 240];
     show_calls(b"no cells", none, 0, &mut journal, 0);
     show_calls(b"no cells, begun", none, 0, &mut journal, 107);
 }
 
 fn show_unlike_plans() {
-    let two = plan_of(2, 70, 4, 2, 60.0, ConfiguredRoll::None);
+    let two = plan_of(2, 70, 4, 2, 60.0, 60.0, ConfiguredRoll::None);
     show_other(b"another n", one_roll(), two, 206);
     show_other(b"a header that begins so", one_roll(), two, 23);
     show_other(b"a header that begins otherwise", one_roll(), two, 24);
@@ -165,9 +183,9 @@ fn show_unlike_plans() {
     show_other(b"tolerance -0 after 0", with(0.0), with(-0.0), 107);
     let nan = 0.0 / 0.0;
     show_other(b"one NaN after another", with(nan), with(-nan), 107);
-    let none = plan_of(2, 70, 4, 0, 60.0, ConfiguredRoll::None);
+    let none = plan_of(2, 70, 4, 0, 60.0, 60.0, ConfiguredRoll::None);
     show_other(b"n = 0", one_roll(), none, 206);
-    let many = plan_of(2, 70, 4, 3601, 60.0, ConfiguredRoll::None);
+    let many = plan_of(2, 70, 4, 3601, 60.0, 60.0, ConfiguredRoll::None);
     show_other(b"n = 3601", one_roll(), many, 206);
 }
 
@@ -207,10 +225,34 @@ fn show_bytes() {
     show_put(b"2^32 - 1 probes", 197, 205, b'f', 206);
 }
 
+// The header has the first target's tolerance alone, so another of the second is not told.
+fn show_unlike_tolerances() {
+    show_other(
+        b"another first tolerance",
+        one_roll(),
+        with_each(50.0, 60.0),
+        206,
+    );
+    show_other(
+        b"another second tolerance",
+        one_roll(),
+        with_each(60.0, 50.0),
+        206,
+    );
+    show_other(b"no tolerance", one_roll(), with_listed(0), 206);
+    show_other(
+        b"one tolerance for two targets",
+        one_roll(),
+        with_listed(1),
+        206,
+    );
+}
+
 pub(crate) fn show_edges() {
     show_lengths();
     show_bytes();
     show_unlike_plans();
+    show_unlike_tolerances();
     show_room_for_header();
     show_room_for_line();
     show_room_for_mask();

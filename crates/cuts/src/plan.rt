@@ -3,13 +3,16 @@
 use buffers::Answer;
 use solar_roll::ConfiguredRoll;
 
-// A plan, and how many writes its whole journal has: the header's and one for each chunk.
+// A plan, and how many writes its whole journal has: the header's and one for each chunk. Of its two tolerances the first
+// `listed` are lent.
 pub(crate) struct Plan {
     pub targets: usize,
     pub times: usize,
     pub writes: u64,
     pub n: u64,
-    pub tolerance_deg: f64,
+    pub first_tolerance: f64,
+    pub second_tolerance: f64,
+    pub listed: usize,
     pub configured: ConfiguredRoll,
 }
 
@@ -18,7 +21,8 @@ pub(crate) fn plan_of(
     times: usize,
     writes: u64,
     n: u64,
-    tolerance_deg: f64,
+    first_tolerance: f64,
+    second_tolerance: f64,
     configured: ConfiguredRoll,
 ) -> Plan {
     Plan {
@@ -26,7 +30,9 @@ pub(crate) fn plan_of(
         times,
         writes,
         n,
-        tolerance_deg,
+        first_tolerance,
+        second_tolerance,
+        listed: targets,
         configured,
     }
 }
@@ -50,13 +56,21 @@ fn fill_suns(suns: &mut [f64]) {
     }
 }
 
+// The first numbers.
+fn first(numbers: &[f64], count: usize) -> &[f64] {
+    if numbers.len() < count {
+        return numbers;
+    }
+    &numbers[..count]
+}
+
 // The first triples.
-fn first(triples: &[f64], count: usize) -> &[f64] {
+fn first_triples(triples: &[f64], count: usize) -> &[f64] {
     if triples.len() / 3 < count {
         return triples;
     }
     let end = 3 * count;
-    &triples[..end]
+    first(triples, end)
 }
 
 pub(crate) fn begin(plan: Plan, journal: &mut [u8], used: u64) -> Answer {
@@ -64,14 +78,14 @@ pub(crate) fn begin(plan: Plan, journal: &mut [u8], used: u64) -> Answer {
     let observers = [0.0; 210];
     let mut suns = [0.0; 210];
     fill_suns(&mut suns);
-    let tolerances = [plan.tolerance_deg];
+    let tolerances = [plan.first_tolerance, plan.second_tolerance];
     let configured = plan.configured;
     let panels = [0.0, 1.0, 0.0];
     journal::begin(
-        first(&targets, plan.targets),
-        first(&suns, plan.times),
-        first(&observers, plan.times),
-        &tolerances,
+        first_triples(&targets, plan.targets),
+        first_triples(&suns, plan.times),
+        first_triples(&observers, plan.times),
+        first(&tolerances, plan.listed),
         configured,
         &panels,
         plan.n,
@@ -85,14 +99,14 @@ pub(crate) fn work(plan: Plan, chunk: u64, journal: &mut [u8], used: u64) -> Ans
     let observers = [0.0; 210];
     let mut suns = [0.0; 210];
     fill_suns(&mut suns);
-    let tolerances = [plan.tolerance_deg];
+    let tolerances = [plan.first_tolerance, plan.second_tolerance];
     let configured = plan.configured;
     let panels = [0.0, 1.0, 0.0];
     journal::work(
-        first(&targets, plan.targets),
-        first(&suns, plan.times),
-        first(&observers, plan.times),
-        &tolerances,
+        first_triples(&targets, plan.targets),
+        first_triples(&suns, plan.times),
+        first_triples(&observers, plan.times),
+        first(&tolerances, plan.listed),
         configured,
         &panels,
         plan.n,
@@ -107,14 +121,14 @@ pub(crate) fn recover(plan: Plan, journal: &[u8], used: u64) -> Answer {
     let observers = [0.0; 210];
     let mut suns = [0.0; 210];
     fill_suns(&mut suns);
-    let tolerances = [plan.tolerance_deg];
+    let tolerances = [plan.first_tolerance, plan.second_tolerance];
     let configured = plan.configured;
     let panels = [0.0, 1.0, 0.0];
     journal::recover(
-        first(&targets, plan.targets),
-        first(&suns, plan.times),
-        first(&observers, plan.times),
-        &tolerances,
+        first_triples(&targets, plan.targets),
+        first_triples(&suns, plan.times),
+        first_triples(&observers, plan.times),
+        first(&tolerances, plan.listed),
         configured,
         &panels,
         plan.n,
@@ -128,14 +142,14 @@ pub(crate) fn collect(plan: Plan, journal: &[u8], used: u64, mask: &mut [u8]) ->
     let observers = [0.0; 210];
     let mut suns = [0.0; 210];
     fill_suns(&mut suns);
-    let tolerances = [plan.tolerance_deg];
+    let tolerances = [plan.first_tolerance, plan.second_tolerance];
     let configured = plan.configured;
     let panels = [0.0, 1.0, 0.0];
     journal::collect(
-        first(&targets, plan.targets),
-        first(&suns, plan.times),
-        first(&observers, plan.times),
-        &tolerances,
+        first_triples(&targets, plan.targets),
+        first_triples(&suns, plan.times),
+        first_triples(&observers, plan.times),
+        first(&tolerances, plan.listed),
         configured,
         &panels,
         plan.n,

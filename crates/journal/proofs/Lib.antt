@@ -1,4 +1,4 @@
--- Laws of the journal's text, of its lines, and of the pass over them.
+-- Laws of the journal's text, of its lines, of the pass over them, and of equal tolerances.
 pub mod Text
 pub mod Write
 pub mod Possible
@@ -9,3 +9,4 @@ pub mod Written
 pub mod Appended
 pub mod Along
 pub mod Planned
+pub mod Tolerances

@@ -47,17 +47,18 @@ pub(crate) fn plan(given: &[u64; 256], asked: &[u64; 256]) -> bool {
     let mut targets = [0.0f64; 24];
     let mut suns = [0.0f64; 72];
     let mut observers = [0.0f64; 72];
+    let mut tolerances = [0.0f64; 8];
     let t = numbers(given, 11, given[1], &mut targets);
     let s = numbers(given, given[3], given[2], &mut suns);
     let o = numbers(given, given[4], given[2], &mut observers);
-    let tolerances = [of_bits(given[5])];
+    let d = numbers(given, given[5], given[1] / 3, &mut tolerances);
     let panels = [of_bits(given[8]), of_bits(given[9]), of_bits(given[10])];
     asked_of_plan(
         asked,
         &targets[..t],
         &suns[..s],
         &observers[..o],
-        &tolerances,
+        &tolerances[..d],
         configured(given),
         &panels,
     )

@@ -62,6 +62,8 @@ const SUNS: [f64; 6] = [0.0, 1.0, 0.0, 0.0, 0.0, 1.0];
 
 const OBSERVERS: [f64; 6] = [0.0, 0.0, 0.0, 0.0, 0.0, 0.0];
 
+const TEN: [f64; 2] = [10.0, 10.0];
+
 // Each of these asks one question about them and shows the mask: one call a function, which is proved sooner than many.
 fn batch(question: &[u8], configured: ConfiguredRoll, mask: &mut [u8]) {
     asked(question);
@@ -69,7 +71,7 @@ fn batch(question: &[u8], configured: ConfiguredRoll, mask: &mut [u8]) {
         &TARGETS,
         &SUNS,
         &OBSERVERS,
-        &[10.0],
+        &TEN,
         configured,
         &Y,
         mask,
@@ -79,7 +81,7 @@ fn batch(question: &[u8], configured: ConfiguredRoll, mask: &mut [u8]) {
 
 fn at_roll(
     question: &[u8],
-    tolerance: f64,
+    tolerances: &[f64],
     configured: ConfiguredRoll,
     roll: EvaluationRoll,
     mask: &mut [u8],
@@ -89,7 +91,7 @@ fn at_roll(
         &TARGETS,
         &SUNS,
         &OBSERVERS,
-        &[tolerance],
+        tolerances,
         configured,
         &Y,
         roll,
@@ -104,7 +106,7 @@ fn at_every_roll(question: &[u8], n: u64, mask: &mut [u8]) {
         &TARGETS,
         &SUNS,
         &OBSERVERS,
-        &[10.0],
+        &TEN,
         ConfiguredRoll::None,
         &Y,
         n,
@@ -119,7 +121,7 @@ fn field_of_regard(question: &[u8], time: u64, roll: f64, mask: &mut [u8]) {
         &TARGETS,
         &SUNS,
         &OBSERVERS,
-        &[10.0],
+        &TEN,
         ConfiguredRoll::None,
         &Y,
         time,
@@ -135,14 +137,14 @@ fn masks() {
     batch(b"configured roll 0", ConfiguredRoll::Some(0.0), &mut mask);
     at_roll(
         b"Sweep 90 with 0 configured",
-        10.0,
+        &TEN,
         ConfiguredRoll::Some(0.0),
         EvaluationRoll::Sweep(90.0),
         &mut mask,
     );
     at_roll(
         b"Fixed 90 with 0 configured",
-        10.0,
+        &TEN,
         ConfiguredRoll::Some(0.0),
         EvaluationRoll::Fixed(90.0),
         &mut mask,
@@ -153,21 +155,28 @@ fn masks_by_tolerance() {
     let mut mask = [9u8; 6];
     at_roll(
         b"tolerance 90 met exactly at roll 0",
-        90.0,
+        &[90.0, 90.0],
         ConfiguredRoll::None,
         EvaluationRoll::Sweep(0.0),
         &mut mask,
     );
     at_roll(
         b"NaN tolerance",
-        nan(),
+        &[nan(), nan()],
         ConfiguredRoll::None,
         EvaluationRoll::Sweep(0.0),
         &mut mask,
     );
     at_roll(
         b"tolerance -1",
-        -1.0,
+        &[-1.0, -1.0],
+        ConfiguredRoll::None,
+        EvaluationRoll::Sweep(0.0),
+        &mut mask,
+    );
+    at_roll(
+        b"tolerance -1, then NaN",
+        &[-1.0, nan()],
         ConfiguredRoll::None,
         EvaluationRoll::Sweep(0.0),
         &mut mask,
@@ -177,10 +186,10 @@ fn masks_by_tolerance() {
     field_of_regard(b"field of regard at time 1, roll 0", 1, 0.0, &mut mask);
 }
 
-// Row 0.
 fn row(
     question: &[u8],
-    tolerance: f64,
+    target: u64,
+    tolerances: &[f64],
     configured: ConfiguredRoll,
     mask: &mut [u8],
     severities: &mut [f64],
@@ -190,10 +199,10 @@ fn row(
         &TARGETS,
         &SUNS,
         &OBSERVERS,
-        &[tolerance],
+        tolerances,
         configured,
         &Y,
-        0,
+        target,
         mask,
         severities,
     ));
@@ -206,21 +215,32 @@ fn rows() {
     let mut severities = [9.0; 3];
     row(
         b"row 0, configured roll 0",
-        10.0,
+        0,
+        &TEN,
         ConfiguredRoll::Some(0.0),
         &mut mask,
         &mut severities,
     );
     row(
         b"row 0, tolerance -infinity",
-        -infinity(),
+        0,
+        &[-infinity(), 10.0],
+        ConfiguredRoll::Some(0.0),
+        &mut mask,
+        &mut severities,
+    );
+    row(
+        b"row 1, tolerance 10",
+        1,
+        &[-infinity(), 10.0],
         ConfiguredRoll::Some(0.0),
         &mut mask,
         &mut severities,
     );
     row(
         b"row 0, no configured roll",
-        10.0,
+        0,
+        &TEN,
         ConfiguredRoll::None,
         &mut mask,
         &mut severities,
@@ -231,7 +251,7 @@ fn rows() {
         &TARGETS,
         &SUNS,
         &OBSERVERS,
-        &[10.0],
+        &TEN,
         ConfiguredRoll::None,
         &Y,
         &mut values,
@@ -245,6 +265,7 @@ fn refused_batch(
     targets: &[f64],
     suns: &[f64],
     observers: &[f64],
+    tolerances: &[f64],
     mask: &mut [u8],
 ) {
     asked(question);
@@ -252,7 +273,7 @@ fn refused_batch(
         targets,
         suns,
         observers,
-        &[10.0],
+        tolerances,
         ConfiguredRoll::None,
         &Y,
         mask,
@@ -264,6 +285,7 @@ fn refused_row(
     targets: &[f64],
     suns: &[f64],
     observers: &[f64],
+    tolerances: &[f64],
     mask: &mut [u8],
     severities: &mut [f64],
 ) {
@@ -272,7 +294,7 @@ fn refused_row(
         targets,
         suns,
         observers,
-        &[10.0],
+        tolerances,
         ConfiguredRoll::None,
         &Y,
         0,
@@ -288,7 +310,7 @@ fn refused_samples(targets: &[f64], suns: &[f64], observers: &[f64], mask: &mut 
         targets,
         suns,
         observers,
-        &[10.0],
+        &TEN,
         ConfiguredRoll::Some(0.0),
         &Y,
         3601,
@@ -299,7 +321,7 @@ fn refused_samples(targets: &[f64], suns: &[f64], observers: &[f64], mask: &mut 
         targets,
         suns,
         observers,
-        &[10.0],
+        &TEN,
         ConfiguredRoll::None,
         &Y,
         0,
@@ -308,13 +330,13 @@ fn refused_samples(targets: &[f64], suns: &[f64], observers: &[f64], mask: &mut 
     ));
 }
 
-fn refused_field(mask: &mut [u8]) {
-    asked(b"no times, field of regard");
+fn refused_field(question: &[u8], tolerances: &[f64], mask: &mut [u8]) {
+    asked(question);
     answered(solar_masks::field_of_regard_violated_at_roll(
-        &TARGETS[..0],
+        &TARGETS,
         &SUNS[..0],
         &OBSERVERS[..0],
-        &[10.0],
+        tolerances,
         ConfiguredRoll::None,
         &Y,
         0,
@@ -333,9 +355,17 @@ fn refused_lengths(mask: &mut [u8]) {
         &BEYOND[..2],
         &suns,
         &OBSERVERS,
+        &TEN,
         mask,
     );
-    refused_batch(b"fewer observers than Suns", &BEYOND, &suns, &ORIGIN, mask);
+    refused_batch(
+        b"fewer observers than Suns",
+        &BEYOND,
+        &suns,
+        &ORIGIN,
+        &TEN,
+        mask,
+    );
     refused_samples(&BEYOND, &suns, &OBSERVERS, mask);
 }
 
@@ -346,11 +376,32 @@ fn refused_numbers(mask: &mut [u8]) {
         &BEYOND,
         &suns,
         &OBSERVERS,
+        &TEN,
         mask,
     );
-    refused_batch(b"target 2", &BEYOND, &suns[..3], &ORIGIN, mask);
-    refused_batch(b"no targets", &BEYOND[..0], &suns[..3], &ORIGIN, mask);
-    refused_field(mask);
+    refused_batch(b"target 2", &BEYOND, &suns[..3], &ORIGIN, &TEN, mask);
+    refused_batch(
+        b"no targets",
+        &BEYOND[..0],
+        &suns[..3],
+        &ORIGIN,
+        &TEN[..0],
+        mask,
+    );
+    refused_field(b"no times, field of regard", &TEN, mask);
+}
+
+fn refused_tolerances(mask: &mut [u8]) {
+    refused_batch(b"two tolerances for a target", &X, &Y, &ORIGIN, &TEN, mask);
+    refused_batch(
+        b"no tolerance for a target",
+        &X,
+        &Y,
+        &ORIGIN,
+        &TEN[..0],
+        mask,
+    );
+    refused_field(b"no times, one tolerance for two targets", &TEN[..1], mask);
 }
 
 fn too_short(mask: &mut [u8]) {
@@ -362,6 +413,7 @@ fn too_short(mask: &mut [u8]) {
         &TARGETS[..0],
         &Y,
         &ORIGIN,
+        &TEN[..0],
         &mut unlent_mask[..0],
         &mut severities,
     );
@@ -370,6 +422,7 @@ fn too_short(mask: &mut [u8]) {
         &X,
         &Y,
         &ORIGIN,
+        &TEN[..1],
         mask,
         &mut unlent_severities[..0],
     );
@@ -378,6 +431,7 @@ fn too_short(mask: &mut [u8]) {
         &X,
         &Y,
         &ORIGIN,
+        &TEN[..1],
         &mut unlent_mask[..0],
     );
 }
@@ -391,6 +445,7 @@ fn main() {
     let mut mask = [9u8; 2];
     refused_lengths(&mut mask);
     refused_numbers(&mut mask);
+    refused_tolerances(&mut mask);
     too_short(&mut mask);
     asked(b"the lent mask after all of these");
     bytes(&mask);

@@ -75,12 +75,14 @@ plan-facts p said beyond h =
     let c1 = carried-clear _ _ h in
     let c2 = carried-clear _ _ (c1 .1) in
     let c3 = carried-clear _ _ (c2 .1) in
+    let c4 = first-clear _ _ _ (lit< tt) (c3 .1) in
     let s = sizes _ _ _ beyond (c1 .0) in
     let n = numbers _ _ _ _ (c3 .0) in
     record {
       targets-length = omega (arith, s .triples);
       suns-length = omega (arith, s .moments);
       observers-length = omega (arith, s .moments, s .alike);
+      tolerances-length = eqb-true _ _ (not-false _ (c4 .0));
       few-rows = s .few-rows;
       few-times = s .few-times;
       few-cells = s .few-cells;

@@ -19,8 +19,8 @@ use Rattle.solar_roll.specs.declared.cell.ConfiguredRoll.{ConfiguredRoll
 use Rattle.solar_roll.specs.declared.cell.EvaluationRoll.the-variants.{Sweep}
 use Rattle.solar_roll.specs.declared.plan.SolarRollConfig.{SolarRollConfig}
 
--- flat lists of triples: the targets' directions, and of each time the Sun's and the observer's position; the tolerances; the configured roll; and
--- the panels' normals, a flat list of triples. The first tolerance and the first panel are those of every row
+-- flat lists of triples: the targets' directions, and of each time the Sun's and the observer's position; the tolerances, one a target; the
+-- configured roll; and the panels' normals, a flat list of triples, of which the first is every row's
 pub record Plan : Type 0 where
   pub targets : List Float
   pub suns : List Float
@@ -67,7 +67,7 @@ rowPanel panels r = triple panels 0
 unfoldable pub rowConfig : List Float → ConfiguredRoll → List Float → ℕ → SolarRollConfig
 unfolding rowPanel
 rowConfig tolerances configured panels r =
-    record { «tolerance_deg» = getD tolerances 0 nan; «roll_deg» = configured; «panel_normal» = rowPanel panels r }
+    record { «tolerance_deg» = getD tolerances r nan; «roll_deg» = configured; «panel_normal» = rowPanel panels r }
 
 -- the same, of a plan
 abbrev pub directionOf : Plan → ℕ → Vector
@@ -88,7 +88,8 @@ cellOf p r j = optimalRoll (directionOf p r) (sunAt p j) (configOf p r .«panel_
 unfoldable pub optimalAt : Plan → ℕ → ℕ → Float
 optimalAt p r j = solarOptimalRollDeg (directionOf p r) (sunAt p j) (configOf p r .«panel_normal»)
 
--- the tolerance and the panel's normal that the journal's header holds: the first of each list. Of no tolerance it holds zeros
+-- the tolerance and the panel's normal that the journal's header holds: the first of each list. Without targets there is no tolerance, and it
+-- holds zeros
 unfoldable pub headTolerance : Plan → Float
 headTolerance p = getD (p .tolerances) 0 zero·0
 
@@ -139,12 +140,13 @@ sizesRefusal targets suns observers beyond =
     ∷ (tooMany (targets / 3) (suns / 3), 2)
     ∷ [])
 
--- *Plan*, 0 for none: the sizes, the number said in the place of 3, the numbers
+-- *Plan*, 0 for none: the sizes, the number said in the place of 3, the numbers, and 17: not one tolerance a target
 unfoldable pub planRefusal : Plan → ℕ → Bool → ℕ
 planRefusal p said beyond =
     first (carried (sizesRefusal (length (p .targets)) (length (p .suns)) (length (p .observers)) beyond)
     ∷ carried said
     ∷ carried (numbersRefusal (p .targets) (p .suns) (p .observers) (p .panels))
+    ∷ (not (eqb (length (p .tolerances)) (count (p .targets))), 17)
     ∷ [])
 
 -- what is known of a plan that is not refused (`plan-facts`, proofs/PlanFacts)
@@ -152,6 +154,7 @@ pub record PlanFacts (p : Plan) : Type 0 where
   pub targets-length : length (p .targets) ≡ 3 * rowsOf p
   pub suns-length : length (p .suns) ≡ 3 * timesOf p
   pub observers-length : length (p .observers) ≡ 3 * timesOf p
+  pub tolerances-length : length (p .tolerances) ≡ count (p .targets)
   pub few-rows : rowsOf p ≤ mostRows
   pub few-times : timesOf p ≤ mostTimes
   pub few-cells : cellsOf p ≤ mostCells

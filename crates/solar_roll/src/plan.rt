@@ -67,7 +67,7 @@ pub fn panel_at(panels: &[f64], row: usize) -> Panel
     panel_of(row_panel(panels, row))
 }
 
-// The settings of a row: the first tolerance, for every row.
+// The settings of a row: the tolerance of its target.
 pub fn row_config(
     tolerances: &[f64],
     configured: ConfiguredRoll,
@@ -77,7 +77,7 @@ pub fn row_config(
     ensures { λ r. ⌜ r ≡ rowConfig (now (tolerances .entry)) configured (now (panels .entry)) row ⌝ }
 {
     SolarRollConfig {
-        tolerance_deg: number(tolerances, 0),
+        tolerance_deg: number(tolerances, row),
         roll_deg: configured,
         panel_normal: row_panel(panels, row),
     }
@@ -166,5 +166,13 @@ pub fn plan_refusal(
     if said != 0 {
         return said;
     }
-    numbers_refusal(targets, suns, observers, panels)
+    let numbers = numbers_refusal(targets, suns, observers, panels);
+    if numbers != 0 {
+        return numbers;
+    }
+    if tolerances.len() == targets.len() / 3 {
+        0
+    } else {
+        17
+    }
 }

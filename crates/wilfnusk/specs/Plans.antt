@@ -1,6 +1,7 @@
--- A plan, and the roll that is asked for, as C lends them: lists, and numbers for what is one number or one triple. Definitions only. Assumes nothing.
+-- A plan, and the roll that is asked for, as C lends them: lists, and numbers for the configured roll and the panel's normal.
+-- Definitions only. Assumes nothing.
 use mathlib.Core.Bool.{cond}
-use mathlib.Core.List.{List, [], _∷_}
+use mathlib.Core.List.{List}
 use Prim.Native.Nat.{ℕ}
 use lib.Dec.{eqb}
 use lib.Ieee.{Float}
@@ -15,10 +16,10 @@ use Rattle.solar_roll.specs.declared.cell.EvaluationRoll.the-variants.{Sweep, F
 unfoldable pub configured : ℕ → Float → ConfiguredRoll
 configured hasRoll roll = cond (eqb hasRoll 0) None (Some roll)
 
--- a plan of one tolerance and one panel
-abbrev pub lentPlan : List Float → List Float → List Float → Float → ℕ → Float → Float → Float → Float → Plan
-lentPlan targets suns observers tolerance hasRoll roll panelX panelY panelZ =
-    planOf targets suns observers (tolerance ∷ []) (configured hasRoll roll) (vector panelX panelY panelZ)
+-- a plan of one panel
+abbrev pub lentPlan : List Float → List Float → List Float → List Float → ℕ → Float → Float → Float → Float → Plan
+lentPlan targets suns observers tolerances hasRoll roll panelX panelY panelZ =
+    planOf targets suns observers tolerances (configured hasRoll roll) (vector panelX panelY panelZ)
 
 -- fixed 0: a sweep's roll; else a fixed one
 unfoldable pub asked : ℕ → Float → EvaluationRoll

@@ -15,7 +15,7 @@ pub extern "C" fn wilfnusk_begin(
     targets: &[f64],
     suns: &[f64],
     observers: &[f64],
-    tolerance_deg: f64,
+    tolerances: &[f64],
     has_roll: u64,
     roll_deg: f64,
     panel_x: f64,
@@ -26,19 +26,18 @@ pub extern "C" fn wilfnusk_begin(
     used: u64,
 ) -> u64
     ensures { λ r. let p : Plan = lentPlan (now (targets .entry)) (now (suns .entry)) (now (observers .entry))
-        «tolerance_deg» «has_roll» «roll_deg» «panel_x» «panel_y» «panel_z» in
+        (now (tolerances .entry)) «has_roll» «roll_deg» «panel_x» «panel_y» «panel_z» in
         let s : Sweep = evenSweep p n in
         ⌜ (r ≡ int64 (beginReply s (now (journal .entry)) used))
         × (now (journal .exit) ≡ beginBytes s (now (journal .entry)) used) ⌝ }
 {
     let configured = configured(has_roll, roll_deg);
-    let tolerances = [tolerance_deg];
     let panels = [panel_x, panel_y, panel_z];
     int64(journal::begin(
         targets,
         suns,
         observers,
-        &tolerances,
+        tolerances,
         configured,
         &panels,
         n,
@@ -52,7 +51,7 @@ pub extern "C" fn wilfnusk_work(
     targets: &[f64],
     suns: &[f64],
     observers: &[f64],
-    tolerance_deg: f64,
+    tolerances: &[f64],
     has_roll: u64,
     roll_deg: f64,
     panel_x: f64,
@@ -64,19 +63,18 @@ pub extern "C" fn wilfnusk_work(
     used: u64,
 ) -> u64
     ensures { λ r. let p : Plan = lentPlan (now (targets .entry)) (now (suns .entry)) (now (observers .entry))
-        «tolerance_deg» «has_roll» «roll_deg» «panel_x» «panel_y» «panel_z» in
+        (now (tolerances .entry)) «has_roll» «roll_deg» «panel_x» «panel_y» «panel_z» in
         let s : Sweep = evenSweep p n in
         ⌜ (r ≡ int64 (workReply s chunk (now (journal .entry)) used))
         × (now (journal .exit) ≡ workBytes s chunk (now (journal .entry)) used) ⌝ }
 {
     let configured = configured(has_roll, roll_deg);
-    let tolerances = [tolerance_deg];
     let panels = [panel_x, panel_y, panel_z];
     int64(journal::work(
         targets,
         suns,
         observers,
-        &tolerances,
+        tolerances,
         configured,
         &panels,
         n,
@@ -91,7 +89,7 @@ pub extern "C" fn wilfnusk_work_range(
     targets: &[f64],
     suns: &[f64],
     observers: &[f64],
-    tolerance_deg: f64,
+    tolerances: &[f64],
     has_roll: u64,
     roll_deg: f64,
     panel_x: f64,
@@ -105,20 +103,19 @@ pub extern "C" fn wilfnusk_work_range(
     stopped: &mut u64,
 ) -> u64
     ensures { λ r. let p : Plan = lentPlan (now (targets .entry)) (now (suns .entry)) (now (observers .entry))
-        «tolerance_deg» «has_roll» «roll_deg» «panel_x» «panel_y» «panel_z» in
+        (now (tolerances .entry)) «has_roll» «roll_deg» «panel_x» «panel_y» «panel_z» in
         let s : Sweep = evenSweep p n in
         ⌜ (r ≡ int64 (rangeReply s from to (now (journal .entry)) used))
         × (now (journal .exit) ≡ rangeBytes s from to (now (journal .entry)) used)
         × (now (stopped .exit) ≡ rangeStopped s from to (now (journal .entry)) used (now (stopped .entry))) ⌝ }
 {
     let configured = configured(has_roll, roll_deg);
-    let tolerances = [tolerance_deg];
     let panels = [panel_x, panel_y, panel_z];
     int64(journal::work_range(
         targets,
         suns,
         observers,
-        &tolerances,
+        tolerances,
         configured,
         &panels,
         n,
@@ -135,7 +132,7 @@ pub extern "C" fn wilfnusk_recover(
     targets: &[f64],
     suns: &[f64],
     observers: &[f64],
-    tolerance_deg: f64,
+    tolerances: &[f64],
     has_roll: u64,
     roll_deg: f64,
     panel_x: f64,
@@ -146,18 +143,17 @@ pub extern "C" fn wilfnusk_recover(
     used: u64,
 ) -> u64
     ensures { λ r. let p : Plan = lentPlan (now (targets .entry)) (now (suns .entry)) (now (observers .entry))
-        «tolerance_deg» «has_roll» «roll_deg» «panel_x» «panel_y» «panel_z» in
+        (now (tolerances .entry)) «has_roll» «roll_deg» «panel_x» «panel_y» «panel_z» in
         let s : Sweep = evenSweep p n in
         ⌜ r ≡ int64 (recoverReply s (now (journal .entry)) used) ⌝ }
 {
     let configured = configured(has_roll, roll_deg);
-    let tolerances = [tolerance_deg];
     let panels = [panel_x, panel_y, panel_z];
     int64(journal::recover(
         targets,
         suns,
         observers,
-        &tolerances,
+        tolerances,
         configured,
         &panels,
         n,
@@ -171,7 +167,7 @@ pub extern "C" fn wilfnusk_collect(
     targets: &[f64],
     suns: &[f64],
     observers: &[f64],
-    tolerance_deg: f64,
+    tolerances: &[f64],
     has_roll: u64,
     roll_deg: f64,
     panel_x: f64,
@@ -183,19 +179,18 @@ pub extern "C" fn wilfnusk_collect(
     mask: &mut [u8],
 ) -> u64
     ensures { λ r. let p : Plan = lentPlan (now (targets .entry)) (now (suns .entry)) (now (observers .entry))
-        «tolerance_deg» «has_roll» «roll_deg» «panel_x» «panel_y» «panel_z» in
+        (now (tolerances .entry)) «has_roll» «roll_deg» «panel_x» «panel_y» «panel_z» in
         let s : Sweep = evenSweep p n in
         ⌜ (r ≡ int64 (collectReply s (now (journal .entry)) used (now (mask .entry))))
         × (now (mask .exit) ≡ collectMask s (now (journal .entry)) used (now (mask .entry))) ⌝ }
 {
     let configured = configured(has_roll, roll_deg);
-    let tolerances = [tolerance_deg];
     let panels = [panel_x, panel_y, panel_z];
     int64(journal::collect(
         targets,
         suns,
         observers,
-        &tolerances,
+        tolerances,
         configured,
         &panels,
         n,

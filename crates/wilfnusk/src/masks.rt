@@ -17,7 +17,7 @@ pub extern "C" fn wilfnusk_named_values(
     targets: &[f64],
     suns: &[f64],
     observers: &[f64],
-    tolerance_deg: f64,
+    tolerances: &[f64],
     has_roll: u64,
     roll_deg: f64,
     panel_x: f64,
@@ -26,18 +26,17 @@ pub extern "C" fn wilfnusk_named_values(
     out: &mut [f64],
 ) -> u64
     ensures { λ r. let p : Plan = lentPlan (now (targets .entry)) (now (suns .entry)) (now (observers .entry))
-        «tolerance_deg» «has_roll» «roll_deg» «panel_x» «panel_y» «panel_z» in
+        (now (tolerances .entry)) «has_roll» «roll_deg» «panel_x» «panel_y» «panel_z» in
         ⌜ (r ≡ int64 (cellsReply p 0 (length (now (out .entry)))))
         × (now (out .exit) ≡ valuesAfter p (now (out .entry))) ⌝ }
 {
     let configured = configured(has_roll, roll_deg);
-    let tolerances = [tolerance_deg];
     let panels = [panel_x, panel_y, panel_z];
     int64(solar_masks::named_values(
         targets,
         suns,
         observers,
-        &tolerances,
+        tolerances,
         configured,
         &panels,
         out,
@@ -49,7 +48,7 @@ pub extern "C" fn wilfnusk_in_constraint_batch(
     targets: &[f64],
     suns: &[f64],
     observers: &[f64],
-    tolerance_deg: f64,
+    tolerances: &[f64],
     has_roll: u64,
     roll_deg: f64,
     panel_x: f64,
@@ -58,18 +57,17 @@ pub extern "C" fn wilfnusk_in_constraint_batch(
     mask: &mut [u8],
 ) -> u64
     ensures { λ r. let p : Plan = lentPlan (now (targets .entry)) (now (suns .entry)) (now (observers .entry))
-        «tolerance_deg» «has_roll» «roll_deg» «panel_x» «panel_y» «panel_z» in
+        (now (tolerances .entry)) «has_roll» «roll_deg» «panel_x» «panel_y» «panel_z» in
         ⌜ (r ≡ int64 (cellsReply p 0 (length (now (mask .entry)))))
         × (now (mask .exit) ≡ maskAfter p 0 atConfigured (now (mask .entry))) ⌝ }
 {
     let configured = configured(has_roll, roll_deg);
-    let tolerances = [tolerance_deg];
     let panels = [panel_x, panel_y, panel_z];
     int64(solar_masks::in_constraint_batch(
         targets,
         suns,
         observers,
-        &tolerances,
+        tolerances,
         configured,
         &panels,
         mask,
@@ -81,7 +79,7 @@ pub extern "C" fn wilfnusk_in_constraint_batch_at_roll(
     targets: &[f64],
     suns: &[f64],
     observers: &[f64],
-    tolerance_deg: f64,
+    tolerances: &[f64],
     has_roll: u64,
     roll_deg: f64,
     panel_x: f64,
@@ -92,19 +90,18 @@ pub extern "C" fn wilfnusk_in_constraint_batch_at_roll(
     mask: &mut [u8],
 ) -> u64
     ensures { λ r. let p : Plan = lentPlan (now (targets .entry)) (now (suns .entry)) (now (observers .entry))
-        «tolerance_deg» «has_roll» «roll_deg» «panel_x» «panel_y» «panel_z» in
+        (now (tolerances .entry)) «has_roll» «roll_deg» «panel_x» «panel_y» «panel_z» in
         ⌜ (r ≡ int64 (cellsReply p 0 (length (now (mask .entry)))))
         × (now (mask .exit) ≡ maskAfter p 0 (atRoll (asked fixed «roll_at_deg»)) (now (mask .entry))) ⌝ }
 {
     let configured = configured(has_roll, roll_deg);
-    let tolerances = [tolerance_deg];
     let panels = [panel_x, panel_y, panel_z];
     let roll = asked(fixed, roll_at_deg);
     int64(solar_masks::in_constraint_batch_at_roll(
         targets,
         suns,
         observers,
-        &tolerances,
+        tolerances,
         configured,
         &panels,
         roll,
@@ -117,7 +114,7 @@ pub extern "C" fn wilfnusk_constrained_at_every_roll(
     targets: &[f64],
     suns: &[f64],
     observers: &[f64],
-    tolerance_deg: f64,
+    tolerances: &[f64],
     has_roll: u64,
     roll_deg: f64,
     panel_x: f64,
@@ -127,18 +124,17 @@ pub extern "C" fn wilfnusk_constrained_at_every_roll(
     mask: &mut [u8],
 ) -> u64
     ensures { λ r. let p : Plan = lentPlan (now (targets .entry)) (now (suns .entry)) (now (observers .entry))
-        «tolerance_deg» «has_roll» «roll_deg» «panel_x» «panel_y» «panel_z» in
+        (now (tolerances .entry)) «has_roll» «roll_deg» «panel_x» «panel_y» «panel_z» in
         ⌜ (r ≡ int64 (cellsReply p (samplesOrNoneRefusal n) (length (now (mask .entry)))))
         × (now (mask .exit) ≡ maskAfter p (samplesOrNoneRefusal n) (atEveryRoll n) (now (mask .entry))) ⌝ }
 {
     let configured = configured(has_roll, roll_deg);
-    let tolerances = [tolerance_deg];
     let panels = [panel_x, panel_y, panel_z];
     int64(solar_masks::in_constraint_batch_constrained_at_every_roll(
         targets,
         suns,
         observers,
-        &tolerances,
+        tolerances,
         configured,
         &panels,
         n,
@@ -151,7 +147,7 @@ pub extern "C" fn wilfnusk_evaluate(
     targets: &[f64],
     suns: &[f64],
     observers: &[f64],
-    tolerance_deg: f64,
+    tolerances: &[f64],
     has_roll: u64,
     roll_deg: f64,
     panel_x: f64,
@@ -162,19 +158,18 @@ pub extern "C" fn wilfnusk_evaluate(
     severities: &mut [f64],
 ) -> u64
     ensures { λ r. let p : Plan = lentPlan (now (targets .entry)) (now (suns .entry)) (now (observers .entry))
-        «tolerance_deg» «has_roll» «roll_deg» «panel_x» «panel_y» «panel_z» in
+        (now (tolerances .entry)) «has_roll» «roll_deg» «panel_x» «panel_y» «panel_z» in
         ⌜ (r ≡ int64 (rowReply p target (length (now (mask .entry))) (length (now (severities .entry)))))
         × (now (mask .exit) ≡ rowMaskAfter p target (now (mask .entry)) (now (severities .entry)))
         × (now (severities .exit) ≡ severitiesAfter p target (now (mask .entry)) (now (severities .entry))) ⌝ }
 {
     let configured = configured(has_roll, roll_deg);
-    let tolerances = [tolerance_deg];
     let panels = [panel_x, panel_y, panel_z];
     int64(solar_masks::evaluate(
         targets,
         suns,
         observers,
-        &tolerances,
+        tolerances,
         configured,
         &panels,
         target,
@@ -188,7 +183,7 @@ pub extern "C" fn wilfnusk_field_of_regard_violated_batch(
     targets: &[f64],
     suns: &[f64],
     observers: &[f64],
-    tolerance_deg: f64,
+    tolerances: &[f64],
     has_roll: u64,
     roll_deg: f64,
     panel_x: f64,
@@ -199,18 +194,17 @@ pub extern "C" fn wilfnusk_field_of_regard_violated_batch(
     mask: &mut [u8],
 ) -> u64
     ensures { λ r. let p : Plan = lentPlan (now (targets .entry)) (now (suns .entry)) (now (observers .entry))
-        «tolerance_deg» «has_roll» «roll_deg» «panel_x» «panel_y» «panel_z» in
+        (now (tolerances .entry)) «has_roll» «roll_deg» «panel_x» «panel_y» «panel_z» in
         ⌜ (r ≡ int64 (fieldReply p (samplesOrNoneRefusal n) time (length (now (mask .entry)))))
         × (now (mask .exit) ≡ fieldAfter p (samplesOrNoneRefusal n) time (atEveryRoll n) (now (mask .entry))) ⌝ }
 {
     let configured = configured(has_roll, roll_deg);
-    let tolerances = [tolerance_deg];
     let panels = [panel_x, panel_y, panel_z];
     int64(solar_masks::field_of_regard_violated_batch(
         targets,
         suns,
         observers,
-        &tolerances,
+        tolerances,
         configured,
         &panels,
         time,
@@ -224,7 +218,7 @@ pub extern "C" fn wilfnusk_field_of_regard_violated_at_roll(
     targets: &[f64],
     suns: &[f64],
     observers: &[f64],
-    tolerance_deg: f64,
+    tolerances: &[f64],
     has_roll: u64,
     roll_deg: f64,
     panel_x: f64,
@@ -235,18 +229,17 @@ pub extern "C" fn wilfnusk_field_of_regard_violated_at_roll(
     mask: &mut [u8],
 ) -> u64
     ensures { λ r. let p : Plan = lentPlan (now (targets .entry)) (now (suns .entry)) (now (observers .entry))
-        «tolerance_deg» «has_roll» «roll_deg» «panel_x» «panel_y» «panel_z» in
+        (now (tolerances .entry)) «has_roll» «roll_deg» «panel_x» «panel_y» «panel_z» in
         ⌜ (r ≡ int64 (fieldReply p 0 time (length (now (mask .entry)))))
         × (now (mask .exit) ≡ fieldAfter p 0 time (atRoll (Sweep «roll_at_deg»)) (now (mask .entry))) ⌝ }
 {
     let configured = configured(has_roll, roll_deg);
-    let tolerances = [tolerance_deg];
     let panels = [panel_x, panel_y, panel_z];
     int64(solar_masks::field_of_regard_violated_at_roll(
         targets,
         suns,
         observers,
-        &tolerances,
+        tolerances,
         configured,
         &panels,
         time,

@@ -9,9 +9,6 @@ use Rattle.cuts.proofs.plan.first.Tie as tie
 returns : tie.Need-returns
 returns c = search needs
 
-mul-end : tie.Need-mul-end
-mul-end c = search needs
-
 slice-aggregate-result : tie.Need-slice-aggregate-result
 slice-aggregate-result c = sym (length-take-le _ _ (omega arith))
 
@@ -19,4 +16,4 @@ returns-2 : tie.Need-returns-2
 returns-2 c = search needs
 
 pub first-spec : {M : Type 1} → statement M
-first-spec = tie.close (tie.spec returns mul-end slice-aggregate-result returns-2)
+first-spec = tie.close (tie.spec returns slice-aggregate-result returns-2)

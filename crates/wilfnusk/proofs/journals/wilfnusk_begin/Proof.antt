@@ -8,9 +8,6 @@ configured-requires c κs = search needs
 slice-aggregate-begin : tie.Need-slice-aggregate-begin
 slice-aggregate-begin c = search needs
 
-slice-aggregate-begin-2 : tie.Need-slice-aggregate-begin-2
-slice-aggregate-begin-2 c = search needs
-
 begin-requires : tie.Need-begin-requires
 begin-requires c κs = search needs
 
@@ -23,9 +20,9 @@ same-length c = search needs
 returns : tie.Need-returns
 returns c =
     let call = c .before .before .before .begin .ensures in
-    let roll = c .before .before .before .before .before .before .before .configured .ensures in
+    let roll = c .before .before .before .before .before .before .configured .ensures in
     (simp (c .int64 .ensures, call .0, roll), simp (call .1, roll))
 
 pub wilfnusk-begin-spec : {M : Type 1} → statement M
 wilfnusk-begin-spec =
-    tie.close (tie.spec configured-requires slice-aggregate-begin slice-aggregate-begin-2 begin-requires int64-requires same-length returns)
+    tie.close (tie.spec configured-requires slice-aggregate-begin begin-requires int64-requires same-length returns)

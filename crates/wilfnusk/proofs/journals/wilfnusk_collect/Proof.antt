@@ -8,9 +8,6 @@ configured-requires c κs = search needs
 slice-aggregate-collect : tie.Need-slice-aggregate-collect
 slice-aggregate-collect c = search needs
 
-slice-aggregate-collect-2 : tie.Need-slice-aggregate-collect-2
-slice-aggregate-collect-2 c = search needs
-
 collect-requires : tie.Need-collect-requires
 collect-requires c κs = search needs
 
@@ -23,9 +20,9 @@ same-length c = search needs
 returns : tie.Need-returns
 returns c =
     let call = c .before .before .before .collect .ensures in
-    let roll = c .before .before .before .before .before .before .before .configured .ensures in
+    let roll = c .before .before .before .before .before .before .configured .ensures in
     (simp (c .int64 .ensures, call .0, roll), simp (call .1, roll))
 
 pub wilfnusk-collect-spec : {M : Type 1} → statement M
 wilfnusk-collect-spec =
-    tie.close (tie.spec configured-requires slice-aggregate-collect slice-aggregate-collect-2 collect-requires int64-requires same-length returns)
+    tie.close (tie.spec configured-requires slice-aggregate-collect collect-requires int64-requires same-length returns)

@@ -8,9 +8,6 @@ configured-requires c κs = search needs
 slice-aggregate-work : tie.Need-slice-aggregate-work
 slice-aggregate-work c = search needs
 
-slice-aggregate-work-2 : tie.Need-slice-aggregate-work-2
-slice-aggregate-work-2 c = search needs
-
 work-requires : tie.Need-work-requires
 work-requires c κs = search needs
 
@@ -23,9 +20,9 @@ same-length c = search needs
 returns : tie.Need-returns
 returns c =
     let call = c .before .before .before .work .ensures in
-    let roll = c .before .before .before .before .before .before .before .configured .ensures in
+    let roll = c .before .before .before .before .before .before .configured .ensures in
     (simp (c .int64 .ensures, call .0, roll), simp (call .1, roll))
 
 pub wilfnusk-work-spec : {M : Type 1} → statement M
 wilfnusk-work-spec =
-    tie.close (tie.spec configured-requires slice-aggregate-work slice-aggregate-work-2 work-requires int64-requires same-length returns)
+    tie.close (tie.spec configured-requires slice-aggregate-work work-requires int64-requires same-length returns)

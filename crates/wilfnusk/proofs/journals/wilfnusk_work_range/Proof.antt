@@ -8,9 +8,6 @@ configured-requires c κs = search needs
 slice-aggregate-work-range : tie.Need-slice-aggregate-work-range
 slice-aggregate-work-range c = search needs
 
-slice-aggregate-work-range-2 : tie.Need-slice-aggregate-work-range-2
-slice-aggregate-work-range-2 c = search needs
-
 work-range-requires : tie.Need-work-range-requires
 work-range-requires c κs = search needs
 
@@ -23,9 +20,9 @@ same-length c = search needs
 returns : tie.Need-returns
 returns c =
     let call = c .before .before .before .work-range .ensures in
-    let roll = c .before .before .before .before .before .before .before .before .configured .ensures in
+    let roll = c .before .before .before .before .before .before .before .configured .ensures in
     (simp (c .int64 .ensures, call .0, roll), simp (call .1, roll), simp (call .2, roll))
 
 pub wilfnusk-work-range-spec : {M : Type 1} → statement M
 wilfnusk-work-range-spec =
-    tie.close (tie.spec configured-requires slice-aggregate-work-range slice-aggregate-work-range-2 work-range-requires int64-requires same-length returns)
+    tie.close (tie.spec configured-requires slice-aggregate-work-range work-range-requires int64-requires same-length returns)

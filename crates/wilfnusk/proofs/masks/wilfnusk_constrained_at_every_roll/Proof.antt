@@ -9,10 +9,6 @@ slice-aggregate-in-constraint-batch-constrained-at-every-roll :
     tie.Need-slice-aggregate-in-constraint-batch-constrained-at-every-roll
 slice-aggregate-in-constraint-batch-constrained-at-every-roll c = search needs
 
-slice-aggregate-in-constraint-batch-constrained-at-every-roll-2 :
-    tie.Need-slice-aggregate-in-constraint-batch-constrained-at-every-roll-2
-slice-aggregate-in-constraint-batch-constrained-at-every-roll-2 c = search needs
-
 in-constraint-batch-constrained-at-every-roll-requires :
     tie.Need-in-constraint-batch-constrained-at-every-roll-requires
 in-constraint-batch-constrained-at-every-roll-requires c κs = search needs
@@ -26,7 +22,7 @@ same-length c = search needs
 returns : tie.Need-returns
 returns c =
     let call = c .before .before .before .in-constraint-batch-constrained-at-every-roll .ensures in
-    let roll = c .before .before .before .before .before .before .before .configured .ensures in
+    let roll = c .before .before .before .before .before .before .configured .ensures in
     (simp (c .int64 .ensures, call .0, roll), simp (call .1, roll))
 
 pub wilfnusk-constrained-at-every-roll-spec : {M : Type 1} → statement M
@@ -35,7 +31,6 @@ wilfnusk-constrained-at-every-roll-spec =
     (tie.spec
     configured-requires
     slice-aggregate-in-constraint-batch-constrained-at-every-roll
-    slice-aggregate-in-constraint-batch-constrained-at-every-roll-2
     in-constraint-batch-constrained-at-every-roll-requires
     int64-requires
     same-length

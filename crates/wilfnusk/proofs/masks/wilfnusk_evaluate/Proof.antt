@@ -8,9 +8,6 @@ configured-requires c κs = search needs
 slice-aggregate-evaluate : tie.Need-slice-aggregate-evaluate
 slice-aggregate-evaluate c = search needs
 
-slice-aggregate-evaluate-2 : tie.Need-slice-aggregate-evaluate-2
-slice-aggregate-evaluate-2 c = search needs
-
 evaluate-requires : tie.Need-evaluate-requires
 evaluate-requires c κs = search needs
 
@@ -26,7 +23,7 @@ same-length-2 c = search needs
 returns : tie.Need-returns
 returns c =
     let call = c .before .before .before .before .before .evaluate .ensures in
-    let roll = c .before .before .before .before .before .before .before .before .before .before .configured .ensures in
+    let roll = c .before .before .before .before .before .before .before .before .before .configured .ensures in
     (simp (c .int64 .ensures, call .0, roll), simp (call .1 .0, roll), simp (call .1 .1, roll))
 
 pub wilfnusk-evaluate-spec : {M : Type 1} → statement M
@@ -35,7 +32,6 @@ wilfnusk-evaluate-spec =
     (tie.spec
     configured-requires
     slice-aggregate-evaluate
-    slice-aggregate-evaluate-2
     evaluate-requires
     int64-requires
     same-length

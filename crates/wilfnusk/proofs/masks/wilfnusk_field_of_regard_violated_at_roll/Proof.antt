@@ -11,10 +11,6 @@ slice-aggregate-field-of-regard-violated-at-roll :
     tie.Need-slice-aggregate-field-of-regard-violated-at-roll
 slice-aggregate-field-of-regard-violated-at-roll c = search needs
 
-slice-aggregate-field-of-regard-violated-at-roll-2 :
-    tie.Need-slice-aggregate-field-of-regard-violated-at-roll-2
-slice-aggregate-field-of-regard-violated-at-roll-2 c = search needs
-
 field-of-regard-violated-at-roll-requires : tie.Need-field-of-regard-violated-at-roll-requires
 field-of-regard-violated-at-roll-requires c κs = search needs
 
@@ -27,7 +23,7 @@ same-length c = search needs
 returns : tie.Need-returns
 returns c =
     let call = c .before .before .before .field-of-regard-violated-at-roll .ensures in
-    let roll = c .before .before .before .before .before .before .before .configured .ensures in
+    let roll = c .before .before .before .before .before .before .configured .ensures in
     (simp (c .int64 .ensures, call .0, roll), simp (call .1, roll))
 
 pub wilfnusk-field-of-regard-violated-at-roll-spec : {M : Type 1} → statement M
@@ -36,7 +32,6 @@ wilfnusk-field-of-regard-violated-at-roll-spec =
     (tie.spec
     configured-requires
     slice-aggregate-field-of-regard-violated-at-roll
-    slice-aggregate-field-of-regard-violated-at-roll-2
     field-of-regard-violated-at-roll-requires
     int64-requires
     same-length

@@ -11,10 +11,6 @@ slice-aggregate-field-of-regard-violated-batch :
     tie.Need-slice-aggregate-field-of-regard-violated-batch
 slice-aggregate-field-of-regard-violated-batch c = search needs
 
-slice-aggregate-field-of-regard-violated-batch-2 :
-    tie.Need-slice-aggregate-field-of-regard-violated-batch-2
-slice-aggregate-field-of-regard-violated-batch-2 c = search needs
-
 field-of-regard-violated-batch-requires : tie.Need-field-of-regard-violated-batch-requires
 field-of-regard-violated-batch-requires c κs = search needs
 
@@ -27,7 +23,7 @@ same-length c = search needs
 returns : tie.Need-returns
 returns c =
     let call = c .before .before .before .field-of-regard-violated-batch .ensures in
-    let roll = c .before .before .before .before .before .before .before .configured .ensures in
+    let roll = c .before .before .before .before .before .before .configured .ensures in
     (simp (c .int64 .ensures, call .0, roll), simp (call .1, roll))
 
 pub wilfnusk-field-of-regard-violated-batch-spec : {M : Type 1} → statement M
@@ -36,7 +32,6 @@ wilfnusk-field-of-regard-violated-batch-spec =
     (tie.spec
     configured-requires
     slice-aggregate-field-of-regard-violated-batch
-    slice-aggregate-field-of-regard-violated-batch-2
     field-of-regard-violated-batch-requires
     int64-requires
     same-length

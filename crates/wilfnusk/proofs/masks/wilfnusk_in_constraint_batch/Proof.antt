@@ -8,9 +8,6 @@ configured-requires c κs = search needs
 slice-aggregate-in-constraint-batch : tie.Need-slice-aggregate-in-constraint-batch
 slice-aggregate-in-constraint-batch c = search needs
 
-slice-aggregate-in-constraint-batch-2 : tie.Need-slice-aggregate-in-constraint-batch-2
-slice-aggregate-in-constraint-batch-2 c = search needs
-
 in-constraint-batch-requires : tie.Need-in-constraint-batch-requires
 in-constraint-batch-requires c κs = search needs
 
@@ -23,7 +20,7 @@ same-length c = search needs
 returns : tie.Need-returns
 returns c =
     let call = c .before .before .before .in-constraint-batch .ensures in
-    let roll = c .before .before .before .before .before .before .before .configured .ensures in
+    let roll = c .before .before .before .before .before .before .configured .ensures in
     (simp (c .int64 .ensures, call .0, roll), simp (call .1, roll))
 
 pub wilfnusk-in-constraint-batch-spec : {M : Type 1} → statement M
@@ -32,7 +29,6 @@ wilfnusk-in-constraint-batch-spec =
     (tie.spec
     configured-requires
     slice-aggregate-in-constraint-batch
-    slice-aggregate-in-constraint-batch-2
     in-constraint-batch-requires
     int64-requires
     same-length

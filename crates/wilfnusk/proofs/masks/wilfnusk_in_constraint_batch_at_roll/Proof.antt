@@ -11,10 +11,6 @@ asked-requires c κs = search needs
 slice-aggregate-in-constraint-batch-at-roll : tie.Need-slice-aggregate-in-constraint-batch-at-roll
 slice-aggregate-in-constraint-batch-at-roll c = search needs
 
-slice-aggregate-in-constraint-batch-at-roll-2 :
-    tie.Need-slice-aggregate-in-constraint-batch-at-roll-2
-slice-aggregate-in-constraint-batch-at-roll-2 c = search needs
-
 in-constraint-batch-at-roll-requires : tie.Need-in-constraint-batch-at-roll-requires
 in-constraint-batch-at-roll-requires c κs = search needs
 
@@ -27,8 +23,8 @@ same-length c = search needs
 returns : tie.Need-returns
 returns c =
     let call = c .before .before .before .in-constraint-batch-at-roll .ensures in
-    let roll = c .before .before .before .before .before .before .before .before .configured .ensures in
-    let at = c .before .before .before .before .before .before .before .asked .ensures in
+    let roll = c .before .before .before .before .before .before .before .configured .ensures in
+    let at = c .before .before .before .before .before .before .asked .ensures in
     (simp (c .int64 .ensures, call .0, roll), simp (call .1, roll, at))
 
 pub wilfnusk-in-constraint-batch-at-roll-spec : {M : Type 1} → statement M
@@ -38,7 +34,6 @@ wilfnusk-in-constraint-batch-at-roll-spec =
     configured-requires
     asked-requires
     slice-aggregate-in-constraint-batch-at-roll
-    slice-aggregate-in-constraint-batch-at-roll-2
     in-constraint-batch-at-roll-requires
     int64-requires
     same-length

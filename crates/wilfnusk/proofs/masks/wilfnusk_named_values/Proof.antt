@@ -8,9 +8,6 @@ configured-requires c κs = search needs
 slice-aggregate-named-values : tie.Need-slice-aggregate-named-values
 slice-aggregate-named-values c = search needs
 
-slice-aggregate-named-values-2 : tie.Need-slice-aggregate-named-values-2
-slice-aggregate-named-values-2 c = search needs
-
 named-values-requires : tie.Need-named-values-requires
 named-values-requires c κs = search needs
 
@@ -23,7 +20,7 @@ same-length c = search needs
 returns : tie.Need-returns
 returns c =
     let call = c .before .before .before .named-values .ensures in
-    let roll = c .before .before .before .before .before .before .before .configured .ensures in
+    let roll = c .before .before .before .before .before .before .configured .ensures in
     (simp (c .int64 .ensures, call .0, roll), simp (call .1, roll))
 
 pub wilfnusk-named-values-spec : {M : Type 1} → statement M
@@ -32,7 +29,6 @@ wilfnusk-named-values-spec =
     (tie.spec
     configured-requires
     slice-aggregate-named-values
-    slice-aggregate-named-values-2
     named-values-requires
     int64-requires
     same-length
