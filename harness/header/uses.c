@@ -1,5 +1,5 @@
-/* Uses include/wilfnusk.h as a program in C or C++ does: the examples of document 01, and of document 02's request One. Prints the example's
- * journal. */
+/* Uses include/wilfnusk.h as a program in C or C++ does: the examples of document 01, and of document 02's requests One and Two. Prints document
+ * 01's journal. */
 #include <stdio.h>
 #include <string.h>
 
@@ -49,11 +49,68 @@ static void catalogue(void)
     expect(memcmp(&out[15], &untouched[15], sizeof out[15]) == 0, "the place beyond the vectors as it was");
 }
 
+/* The example's target twice, the second with a tolerance that no cell is beyond; then lists that are not one a target, to every call with a plan:
+ * each leaves every byte as it was. */
+static void tolerances(void)
+{
+    const double targets[6] = {1, 0, 0, 1, 0, 0};
+    const double suns[6] = {0, 1, 0, 0, 0, 1};
+    const double observers[6] = {0, 0, 0, 0, 0, 0};
+    const double list[3] = {10, 90, 10};
+    const double severe[2] = {0, 80}, none[2] = {0, 0};
+    const uint8_t marks[4] = {0, 1, 0, 0}, field[2] = {1, 0};
+    uint8_t journal[256], mask[4], bytes[256], same[256];
+    double values[4], same_values[4];
+    uint64_t stopped = 7;
+    size_t length;
+
+#define LENT(length, has_roll) targets, 6, suns, 6, observers, 6, list, length, has_roll, 0.0, 0.0, 1.0, 0.0
+    expect(wilfnusk_in_constraint_batch(LENT(2, 1), mask, 4) == 0 && memcmp(mask, marks, 4) == 0, "marks by each target's tolerance");
+    expect(wilfnusk_in_constraint_batch_at_roll(LENT(2, 0), 0, 0.0, mask, 4) == 0 && memcmp(mask, marks, 4) == 0, "marks at a roll");
+    expect(wilfnusk_constrained_at_every_roll(LENT(2, 0), 1, mask, 4) == 0 && memcmp(mask, marks, 4) == 0, "marks at every roll");
+    expect(wilfnusk_evaluate(LENT(2, 1), 0, mask, 2, values, 2) == 0 && memcmp(values, severe, sizeof severe) == 0, "severities of target 0");
+    expect(wilfnusk_evaluate(LENT(2, 1), 1, mask, 2, values, 2) == 0 && memcmp(values, none, sizeof none) == 0, "severities of target 1");
+    expect(wilfnusk_field_of_regard_violated_batch(LENT(2, 0), 1, 1, mask, 2) == 0 && memcmp(mask, field, 2) == 0, "field of regard");
+    expect(wilfnusk_field_of_regard_violated_at_roll(LENT(2, 0), 1, 0.0, mask, 2) == 0 && memcmp(mask, field, 2) == 0, "field of regard at a roll");
+    expect(wilfnusk_begin(LENT(2, 0), 1, journal, sizeof journal, 0) == 107 && memcmp(journal + 24, "4024000000000000", 16) == 0,
+           "the header has the first tolerance");
+    expect(wilfnusk_work(LENT(2, 0), 1, 0, journal, sizeof journal, 107) == 140, "work with a tolerance a target");
+    expect(memcmp(journal + 107, "00000000000000000000000200000004\n", 33) == 0, "its line");
+
+    memset(bytes, 0xa5, sizeof bytes);
+    memcpy(same, bytes, sizeof bytes);
+    memcpy(values, bytes, sizeof values);
+    memcpy(same_values, values, sizeof values);
+    for (length = 0; length < 4; length++) {
+        if (length == 2)
+            continue;
+        expect(wilfnusk_named_values(LENT(length, 1), values, 4) == -17, "named values: not one tolerance a target");
+        expect(wilfnusk_in_constraint_batch(LENT(length, 1), bytes, 4) == -17, "batch: not one tolerance a target");
+        expect(wilfnusk_in_constraint_batch_at_roll(LENT(length, 1), 1, 0.0, bytes, 4) == -17, "at a roll: not one tolerance a target");
+        expect(wilfnusk_constrained_at_every_roll(LENT(length, 1), 1, bytes, 4) == -17, "every roll: not one tolerance a target");
+        expect(wilfnusk_evaluate(LENT(length, 1), 0, bytes, 2, values, 2) == -17, "row: not one tolerance a target");
+        expect(wilfnusk_evaluate(LENT(length, 1), 2, bytes, 2, values, 2) == -17, "row: 17 before 9");
+        expect(wilfnusk_field_of_regard_violated_batch(LENT(length, 1), 0, 1, bytes, 2) == -17, "field of regard: not one tolerance a target");
+        expect(wilfnusk_field_of_regard_violated_at_roll(LENT(length, 1), 0, 0.0, bytes, 2) == -17, "field at a roll: not one tolerance a target");
+        expect(wilfnusk_begin(LENT(length, 1), 1, bytes, sizeof bytes, 0) == -17, "begin: not one tolerance a target");
+        expect(wilfnusk_work(LENT(length, 0), 1, 0, bytes, sizeof bytes, 107) == -17, "work: 17 before 11");
+        expect(wilfnusk_work_range(LENT(length, 0), 1, 0, 1, bytes, sizeof bytes, 107, &stopped) == -17 && stopped == 7, "work over a range: 17 before 11");
+        expect(wilfnusk_recover(LENT(length, 0), 1, journal, sizeof journal, 140) == -17, "recover: not one tolerance a target");
+        expect(wilfnusk_collect(LENT(length, 0), 1, journal, sizeof journal, 140, bytes, 0) == -17, "collect: 17 before 7");
+    }
+    expect(memcmp(bytes, same, sizeof bytes) == 0 && memcmp(values, same_values, sizeof values) == 0, "17, and every byte as it was");
+    /* The list without targets is empty, its pointer is not NULL. */
+    expect(wilfnusk_begin(targets, 0, suns, 6, observers, 6, list, 0, 0, 0.0, 0.0, 1.0, 0.0, 1, journal, sizeof journal, 0) == 107 &&
+               memcmp(journal + 24, "0000000000000000", 16) == 0,
+           "no targets: zeros in the header");
+}
+
 int main(void)
 {
     const double target[3] = {1, 0, 0};
     const double suns[6] = {0, 1, 0, 0, 0, 1};
     const double observers[6] = {0, 0, 0, 0, 0, 0};
+    const double tolerance[1] = {10};
     uint8_t journal[256], ranged[256], mask[2] = {9, 9}, flags[3];
     uint64_t bits, stopped = 7, first[3], last[3];
     int64_t used, first_time[3], last_time[3];
@@ -70,12 +127,13 @@ int main(void)
     expect(bits == 0x3ff6a09e667f3bcdULL, "root of 2");
     expect(wilfnusk_circular_diff_deg(350, 10) == 20, "difference of 350 and 10");
     catalogue();
+    tolerances();
 
     expect(wilfnusk_cell(1, 0, 0, 1, 0, 0, 0, 0, 0, 0, 1, 0, &roll) == 0 && roll == -1, "Sun on the boresight: Free, roll unwritten");
     expect(wilfnusk_cell(1, 0, 0, 0, 0, 1, 0, 0, 0, 0, 1, 0, &roll) == 1 && roll == 90, "Sun [0,0,1]: At 90");
     expect(wilfnusk_cell(2, 0, 0, 0, 0, 1, 0, 0, 0, 0, 1, 0, &roll) == -5 && roll == 90, "a target beyond 1: -5, roll unwritten");
 
-#define PLAN target, 3, suns, 6, observers, 6, 10.0, 0, 0.0, 0.0, 1.0, 0.0
+#define PLAN target, 3, suns, 6, observers, 6, tolerance, 1, 0, 0.0, 0.0, 1.0, 0.0
     used = wilfnusk_begin(PLAN, 1, journal, sizeof journal, 0);
     expect(used == 107, "begin");
     expect(wilfnusk_begin(PLAN, 1, journal, sizeof journal, (uint64_t)used) == -13, "begin in a journal that is not empty");

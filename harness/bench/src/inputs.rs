@@ -24,7 +24,7 @@ pub fn plan(targets: usize, times: usize, n: u64, tolerance_deg: f64) -> Plan {
         targets: (0..targets).flat_map(|_| direction(&mut s)).collect(),
         suns: (0..times).flat_map(|j| circle(SUN_KM, OBLIQUITY, TAU * at(j) / YEAR_S)).collect(),
         observers: (0..times).flat_map(|j| circle(ORBIT_KM, INCLINATION, TAU * at(j) / ORBIT_S)).collect(),
-        tolerances: vec![tolerance_deg],
+        tolerances: vec![tolerance_deg; targets],
         roll_deg: None,
         panels: vec![0.0, 1.0, 0.0],
         rolls: Rolls::Even(n),

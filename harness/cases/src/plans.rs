@@ -14,6 +14,17 @@ pub enum Targets {
     Any,
 }
 
+/// How a plan's tolerances are drawn.
+#[derive(Clone, Copy, PartialEq, Debug)]
+pub enum Entries {
+    /// One for all targets, as an evaluator of the original has it.
+    Equal,
+    /// Each target its own.
+    Own,
+    /// Equal in a third of the plans.
+    Either,
+}
+
 fn length(v: Vector) -> f64 {
     (v[0] * v[0] + v[1] * v[1] + v[2] * v[2]).sqrt()
 }
@@ -146,20 +157,29 @@ pub fn plan(s: &mut Seeded, targets: Targets, rows: usize, times: usize) -> Plan
         targets: targets.concat(),
         suns: suns.concat(),
         observers: observers.concat(),
-        tolerances: vec![0.0],
+        tolerances: Vec::new(),
         roll_deg: None,
         panels: panel(s).to_vec(),
         rolls: Rolls::default(),
     }
 }
 
-/// The optimal roll of some cell, 0 where there is none.
-fn some_roll(s: &mut Seeded, plan: &Plan) -> f64 {
-    if plan.cells() == 0 {
+/// The optimal roll of some cell of a row, 0 where there is none.
+fn roll_in_row(s: &mut Seeded, plan: &Plan, row: usize) -> f64 {
+    if plan.times() == 0 {
         return 0.0;
     }
-    let (i, j) = (s.index(plan.rows()), s.index(plan.times()));
-    optimal_roll(plan.target(i), sun_unit(plan.sun(j), plan.observer(j)), plan.panel(i))
+    let j = s.index(plan.times());
+    optimal_roll(plan.target(row), sun_unit(plan.sun(j), plan.observer(j)), plan.panel(row))
+}
+
+/// The same of any row.
+fn some_roll(s: &mut Seeded, plan: &Plan) -> f64 {
+    if plan.rows() == 0 {
+        return 0.0;
+    }
+    let row = s.index(plan.rows());
+    roll_in_row(s, plan, row)
 }
 
 /// A roll as a caller may hand it over.
@@ -190,42 +210,70 @@ fn odd_tolerance(s: &mut Seeded) -> f64 {
     s.one_of(&[f64::NAN, f64::INFINITY, f64::NEG_INFINITY, 0.0, -0.0, 180.0, 179.99999999999997, 1e-300, -1e-300, 5e-324, f64::MAX])
 }
 
+/// A tolerance a target, each drawn for its own row: equal ones are some row's.
+fn tolerances(s: &mut Seeded, plan: &mut Plan, entries: Entries, draw: impl Fn(&mut Seeded, &Plan, usize) -> f64) {
+    let rows = plan.rows();
+    let equal = match entries {
+        Entries::Equal => true,
+        Entries::Own => false,
+        Entries::Either => s.once_in(3),
+    };
+    plan.tolerances = if equal && rows > 0 {
+        let row = s.index(rows);
+        vec![draw(s, plan, row); rows]
+    } else {
+        (0..rows).map(|row| draw(s, plan, row)).collect()
+    };
+}
+
 /// Settings for a sweep of n rolls: without a configured roll mostly a tolerance below 180 / n, as a larger one marks nothing.
-pub fn for_sweep(s: &mut Seeded, plan: &mut Plan, n: u64) {
+pub fn for_sweep(s: &mut Seeded, plan: &mut Plan, n: u64, entries: Entries) {
     let half = 180.0 / n as f64;
     plan.rolls = Rolls::Even(n);
     plan.roll_deg = s.once_in(5).then(|| roll(s, plan));
     if plan.roll_deg.is_some() {
-        return for_roll(s, plan);
+        return for_roll(s, plan, entries);
     }
-    let tolerance = match s.below(16) {
-        0 => odd_tolerance(s),
-        1 => s.between(half, 200.0),
-        2 => half,
-        3 => -s.unit(),
-        // The distance of some cell to a sample, or to the nearest one: not beyond it.
-        4 => difference(plan.roll(s.below(n)), some_roll(s, plan)),
-        5 | 6 => {
-            let phase = remainder(some_roll(s, plan), 2.0 * half);
+    tolerances(s, plan, entries, |s, plan, row| {
+        // Of some cell of the row to the nearest sample.
+        let distance = |s: &mut Seeded| {
+            let phase = remainder(roll_in_row(s, plan, row), 2.0 * half);
             phase.min(2.0 * half - phase)
+        };
+        match s.below(16) {
+            0 => odd_tolerance(s),
+            1 => s.between(half, 200.0),
+            2 => half,
+            3 => -s.unit(),
+            // Met exactly by some cell: not beyond it.
+            4 => difference(plan.roll(s.below(n)), roll_in_row(s, plan, row)),
+            5 | 6 => distance(s),
+            7..=10 => between_two(s, distance),
+            _ => s.unit() * half,
         }
-        _ => s.unit() * half,
-    };
-    plan.tolerances = vec![tolerance];
+    });
 }
 
-/// Settings for marks at one roll: a tolerance between 0 and 180, the configured roll as it is.
-pub fn for_roll(s: &mut Seeded, plan: &mut Plan) {
-    let tolerance = match s.below(12) {
-        0 => odd_tolerance(s),
-        1 => -s.unit(),
-        2 => {
-            let other = plan.roll_deg.unwrap_or_else(|| s.between(0.0, 360.0));
-            difference(other, some_roll(s, plan))
+/// Settings for marks at one roll: tolerances between 0 and 180, the configured roll as it is.
+pub fn for_roll(s: &mut Seeded, plan: &mut Plan, entries: Entries) {
+    tolerances(s, plan, entries, |s, plan, row| {
+        // A roll that is not finite has no distance to any.
+        let other = plan.roll_deg.filter(|roll| roll.is_finite()).unwrap_or_else(|| s.between(0.0, 360.0));
+        let distance = |s: &mut Seeded| difference(other, roll_in_row(s, plan, row));
+        match s.below(12) {
+            0 => odd_tolerance(s),
+            1 => -s.unit(),
+            2 => distance(s),
+            3..=6 => between_two(s, distance),
+            _ => s.between(0.0, 180.0),
         }
-        _ => s.between(0.0, 180.0),
-    };
-    plan.tolerances = vec![tolerance];
+    });
+}
+
+/// Between the distances of two cells of a row, so that one is marked and the other clear.
+fn between_two(s: &mut Seeded, distance: impl Fn(&mut Seeded) -> f64) -> f64 {
+    let (a, b) = (distance(s), distance(s));
+    s.between(a, b)
 }
 
 /// How work over a range of so many chunks gets the Sun's units, as `pays` of crates/journal/src/range.rt decides: from a table of all times,
@@ -254,6 +302,7 @@ pub fn around_the_turn(s: &mut Seeded, plan: &Plan) -> u64 {
 #[cfg(test)]
 mod tests {
     use super::*;
+    use model::arithmetic::bits;
     use model::journal::Sweep;
 
     #[test]
@@ -273,12 +322,45 @@ mod tests {
         for k in 0..300 {
             let mut p = plan(&mut s, Targets::Any, 3, 30);
             let n = samples(&mut s);
-            for_sweep(&mut s, &mut p, n);
+            for_sweep(&mut s, &mut p, n, Entries::Either);
             let even = Sweep::new(p.clone()).expect("accepted");
             p.rolls = Rolls::Table((0..n).map(|k| p.roll(k)).collect());
             let table = Sweep::new(p).expect("accepted");
             let [even, table] = [even, table].map(|sweep| (sweep.header, sweep.lines, sweep.mask, sweep.probes));
             assert!(even == table, "plan {k}, n {n}");
         }
+    }
+
+    /// In a fifth of the plans no cell can be marked, as the panel has no y-z part.
+    #[test]
+    fn many_rows_are_both_marked_and_clear() {
+        for entries in [Entries::Own, Entries::Equal] {
+            let mut s = Seeded::new(3);
+            let (mut rows, mut swept, mut at_roll) = (0, 0, 0);
+            let both = |row: &[u8]| row.contains(&0) as u64 * row.contains(&1) as u64;
+            for _ in 0..2000 {
+                let mut p = plan(&mut s, Targets::Unit, 6, 10);
+                let n = samples(&mut s).min(72);
+                for_sweep(&mut s, &mut p, n, entries);
+                let mask: Vec<u8> = p.sweep().iter().map(|cell| cell.0 as u8).collect();
+                swept += mask.chunks(10).map(both).sum::<u64>();
+                p.roll_deg = Some(s.between(0.0, 360.0));
+                for_roll(&mut s, &mut p, entries);
+                at_roll += p.in_constraint_batch(60).expect("accepted").chunks(10).map(both).sum::<u64>();
+                rows += 6;
+            }
+            assert!(5 * swept.min(at_roll) > 2 * rows, "{entries:?}: {swept} and {at_roll} of {rows} rows");
+        }
+    }
+
+    #[test]
+    fn a_third_of_the_plans_have_equal_tolerances() {
+        let (mut s, mut equal) = (Seeded::new(4), 0);
+        for _ in 0..3000 {
+            let mut p = plan(&mut s, Targets::Any, 3, 4);
+            for_sweep(&mut s, &mut p, 5, Entries::Either);
+            equal += p.tolerances.iter().all(|x| bits(*x) == bits(p.tolerance(0))) as u64;
+        }
+        assert!((900..1200).contains(&equal), "{equal} of 3000");
     }
 }

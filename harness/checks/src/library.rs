@@ -21,7 +21,7 @@ pub fn lent(p: &Plan) -> wilfnusk::Plan<'_> {
         targets: &p.targets,
         suns: &p.suns,
         observers: &p.observers,
-        tolerance_deg: p.head_tolerance(),
+        tolerances: &p.tolerances,
         roll_deg: p.roll_deg,
         panel_normal: p.head_panel(),
     }

@@ -3,7 +3,7 @@
 use crate::plans;
 use crate::tally::Tally;
 use cases::catalogue::{plan, positions};
-use cases::plans::samples;
+use cases::plans::{samples, Entries};
 use cases::Seeded;
 use checks::{Calls, Model};
 
@@ -14,16 +14,16 @@ pub fn run(calls: &dyn Calls, t: &mut Tally, factor: u64) {
         let count = s.index(most + 1);
         vectors(calls, t, &mut s, count);
     }
-    // Beyond the Rust's own chunks of 65,536 cells, then many small ones.
+    // Beyond the Rust's own chunks of 65,536 cells, which one evaluator is to go through, then many small ones.
     t.uncounted = true;
-    of_plan(calls, t, &mut s, (1400, 50), 3);
+    of_plan(calls, t, &mut s, (1400, 50), 3, Entries::Equal);
     t.uncounted = false;
     while t.cells < 300_000 * factor {
         let n = samples(&mut s);
         let most = (100_000 / n).clamp(20, 3000);
         let rows = s.within(1, 60.min(most)) as usize;
         let times = s.within(1, most / rows as u64 + 1) as usize;
-        of_plan(calls, t, &mut s, (rows, times), n);
+        of_plan(calls, t, &mut s, (rows, times), n, Entries::Either);
     }
 }
 
@@ -45,12 +45,12 @@ fn vectors(calls: &dyn Calls, t: &mut Tally, s: &mut Seeded, count: usize) {
     }
 }
 
-fn of_plan(calls: &dyn Calls, t: &mut Tally, s: &mut Seeded, (rows, times): (usize, usize), n: u64) {
+fn of_plan(calls: &dyn Calls, t: &mut Tally, s: &mut Seeded, (rows, times): (usize, usize), n: u64, entries: Entries) {
     let (ra, dec) = positions(s, rows);
     match calls.radec_to_unit_vectors_batch(&ra, &dec, 3 * rows) {
         Ok(targets) => {
             let p = plan(s, targets, times);
-            plans::one(calls, t, s, p, n, Some((&ra, &dec)));
+            plans::one(calls, t, s, p, n, entries, Some((&ra, &dec)));
         }
         Err(number) => {
             t.same("targets", Err(number), 0u64, &|| format!("{ra:?} {dec:?}"));

@@ -1,8 +1,9 @@
 //! Random plans: rolls, masks of every call, rows, and the sweep through its journal.
 use crate::tally::{Shape, Tally};
-use cases::plans::{around_the_turn, for_roll, for_sweep, plan, roll, samples, units, Targets};
+use cases::plans::{around_the_turn, for_roll, for_sweep, plan, roll, samples, units, Entries, Targets};
 use cases::{rows, Seeded};
-use checks::Calls;
+use checks::{Calls, Model};
+use model::arithmetic::bits;
 use model::journal::HEADER;
 use model::{Optimal, Plan, Roll};
 use oracle::Oracle;
@@ -10,12 +11,12 @@ use oracle::Oracle;
 /// Right ascensions and declinations in degrees.
 pub type Positions<'a> = (&'a [f64], &'a [f64]);
 
-/// The original, asked row by row and by one evaluator for all rows, as its users ask it; that one goes through the original's own chunks of
-/// 65,536 cells. While a plan has one tolerance and one panel, both say the same.
+/// The original, asked row by row, each with its own tolerance; and, where all rows have the same, by one evaluator too, as its users ask it, which
+/// goes through the original's own chunks of 65,536 cells and must say the same.
 struct Original<'a> {
     plan: &'a Plan,
     by_row: Oracle,
-    whole: Oracle,
+    whole: Option<Oracle>,
 }
 
 impl Original<'_> {
@@ -25,13 +26,15 @@ impl Original<'_> {
             Some(positions) => oracle.at_positions(positions),
             None => oracle,
         };
-        Original { plan, by_row: at(Oracle::new(plan, instants)), whole: at(Oracle::whole(plan, instants)) }
+        Original { plan, by_row: at(Oracle::new(plan, instants)), whole: Oracle::whole(plan, instants).map(at) }
     }
     fn says<T: Shape>(&self, t: &mut Tally, what: &str, answer: impl Fn(&Oracle) -> T) -> T {
-        let (by_row, whole) = (answer(&self.by_row), answer(&self.whole));
-        t.held("original by row, as a whole", [("by row", by_row.shape()), ("whole", whole.shape())], &|| {
-            format!("{what} {:?}", self.plan)
-        });
+        let by_row = answer(&self.by_row);
+        if let Some(whole) = self.whole.as_ref().map(answer) {
+            t.held("original by row, as a whole", [("by row", by_row.shape()), ("whole", whole.shape())], &|| {
+                format!("{what} {:?}", self.plan)
+            });
+        }
         by_row
     }
 }
@@ -42,26 +45,33 @@ pub const RANGES: [&str; 3] = ["range, units in a table", "range, too short for 
 pub fn run(calls: &dyn Calls, t: &mut Tally, factor: u64) {
     let mut s = Seeded::new(2);
     differences(calls, t, &mut s, 300_000 * factor);
-    // Plans beyond the Rust's own chunks of 65,536 cells, then many small ones.
+    // Plans beyond the Rust's own chunks of 65,536 cells, which one evaluator is to go through; the most targets, with a tolerance each; then
+    // many small ones.
     t.uncounted = true;
-    random(calls, t, &mut s, (301, 401), 3, Targets::Unit);
-    random(calls, t, &mut s, (65_536, 2), 1, Targets::Unit);
+    random(calls, t, &mut s, (301, 401), 3, Targets::Unit, Entries::Equal);
+    random(calls, t, &mut s, (65_536, 2), 1, Targets::Unit, Entries::Equal);
+    random(calls, t, &mut s, (65_536, 1), 2, Targets::Unit, Entries::Own);
     if factor > 1 {
-        random(calls, t, &mut s, (1024, 1024), 8, Targets::Unit);
-        random(calls, t, &mut s, (16, 65_536), 2, Targets::Any);
+        random(calls, t, &mut s, (1024, 1024), 8, Targets::Unit, Entries::Equal);
+        random(calls, t, &mut s, (16, 65_536), 2, Targets::Any, Entries::Own);
     }
     // Where work over a range changes how it works out the Sun's units: at 8,784 times.
     for (rows, times) in [(1, 8784), (2, 8784), (3, 8784), (1, 8785), (2, 8785), (3, 8785)] {
-        random(calls, t, &mut s, (rows, times), 1 + rows as u64, Targets::Unit);
+        random(calls, t, &mut s, (rows, times), 1 + rows as u64, Targets::Unit, Entries::Own);
     }
     t.uncounted = false;
+    // Chunks of 64 cells that hold a dozen targets, and of 64 targets.
+    for n in [1, 2, 3, 7, 12, 24, 72, 360] {
+        random(calls, t, &mut s, (30, 5), n, Targets::Unit, Entries::Own);
+        random(calls, t, &mut s, (130, 1), n, Targets::Unit, Entries::Own);
+    }
     while t.cells < 2_200_000 * factor {
         let n = samples(&mut s);
         let most = (100_000 / n).clamp(20, 3000);
         let rows = s.within(1, 40.min(most)) as usize;
         let times = s.within(1, most / rows as u64 + 1) as usize;
         let targets = if s.once_in(3) { Targets::Any } else { Targets::Unit };
-        random(calls, t, &mut s, (rows, times), n, targets);
+        random(calls, t, &mut s, (rows, times), n, targets, Entries::Either);
     }
 }
 
@@ -73,26 +83,32 @@ fn differences(calls: &dyn Calls, t: &mut Tally, s: &mut Seeded, count: u64) {
     }
 }
 
-fn random(calls: &dyn Calls, t: &mut Tally, s: &mut Seeded, (rows, times): (usize, usize), n: u64, targets: Targets) {
+fn random(calls: &dyn Calls, t: &mut Tally, s: &mut Seeded, (rows, times): (usize, usize), n: u64, targets: Targets, entries: Entries) {
     let p = plan(s, targets, rows, times);
-    one(calls, t, s, p, n, None);
+    one(calls, t, s, p, n, entries, None);
 }
 
 /// One geometry: first with settings for sweeps of n rolls, then with settings for marks at one roll.
-pub fn one(calls: &dyn Calls, t: &mut Tally, s: &mut Seeded, mut p: Plan, n: u64, told: Option<Positions>) {
+pub fn one(calls: &dyn Calls, t: &mut Tally, s: &mut Seeded, mut p: Plan, n: u64, entries: Entries, told: Option<Positions>) {
     let (rows, times) = (p.rows(), p.times());
     let instants = rows::times(s, times);
     let cells = p.cells();
     let room = cells + s.index(3);
     t.cells += cells as u64;
 
-    for_sweep(s, &mut p, n);
+    for_sweep(s, &mut p, n, entries);
     t.plans += 1;
-    t.telling += (p.roll_deg.is_some() || (0..rows).any(|i| p.tolerance(i) < 180.0 / n as f64)) as u64;
+    let small = p.tolerances.iter().filter(|&&x| x < 180.0 / n as f64).count();
+    t.telling += (p.roll_deg.is_some() || 2 * small >= rows) as u64;
     let o = Original::new(&p, &instants, told);
+    match &o.whole {
+        Some(_) => t.largest_whole = t.largest_whole.max(cells),
+        None => t.differing += 1,
+    }
     let shown = || format!("{p:?}");
     rolls(calls, t, &p, &o, room);
     let swept = o.says(t, "sweep", Oracle::sweep);
+    t.count_rows(&swept.0, times);
     sweep(calls, t, s, &p, swept.clone());
     for _ in 0..if times > 8000 { 6 } else { 1 } {
         ranges(calls, t, s, &p, &swept);
@@ -112,7 +128,7 @@ pub fn one(calls: &dyn Calls, t: &mut Tally, s: &mut Seeded, mut p: Plan, n: u64
     }
 
     p.roll_deg = if s.once_in(4) { None } else { Some(roll(s, &p)) };
-    for_roll(s, &mut p);
+    for_roll(s, &mut p, entries);
     let o = Original::new(&p, &instants, told);
     let asked = roll(s, &p);
     let shown = || format!("roll {asked:e} {p:?}");
@@ -168,15 +184,30 @@ fn shuffle<T>(s: &mut Seeded, list: &mut [T]) {
     }
 }
 
-/// The chunks in a random order: each line, the mask, and the sum of probes.
+/// How many chunks hold cells of targets whose tolerances differ.
+fn mixed_chunks(p: &Plan) -> u64 {
+    let times = p.times();
+    let mixed = |c: &usize| {
+        let (first, last) = (64 * c / times, (64 * c + 63).min(p.cells() - 1) / times);
+        (first..=last).any(|i| bits(p.tolerance(i)) != bits(p.tolerance(first)))
+    };
+    (0..p.cells().div_ceil(64)).filter(mixed).count() as u64
+}
+
+/// The chunks in a random order: each line, the mask, and the sum of probes. Where a chunk has several tolerances, the model's journal too.
 fn sweep(calls: &dyn Calls, t: &mut Tally, s: &mut Seeded, p: &Plan, swept: (Vec<u8>, Vec<u64>)) {
     let mut order: Vec<u64> = (0..p.cells().div_ceil(64) as u64).collect();
     shuffle(s, &mut order);
     let lines = lines(&swept);
     let (mask, tried) = swept;
     let shown = || format!("order {order:?} {p:?}");
+    let mixed = mixed_chunks(p);
     match calls.swept(p, &order) {
         Ok((journal, ours, sum)) => {
+            if mixed > 0 {
+                t.mixed_chunks += mixed;
+                t.same("journal, plain model", Ok(journal.clone()), Model.swept(p, &order).expect("accepted").0, &shown);
+            }
             t.mask("sweep", Ok(ours), mask, &shown);
             t.same("probes", Ok(sum), tried.iter().sum(), &shown);
             t.same("lines", Ok(journal[HEADER..].to_vec()), order.iter().flat_map(|&c| lines[c as usize].clone()).collect(), &shown);

@@ -22,8 +22,17 @@ pub struct Tally {
     pub plans: u64,
     /// Catalogue positions.
     pub positions: u64,
-    /// Plans whose tolerance is below 180 / n or that have a configured roll.
+    /// Plans with a tolerance below 180 / n for half of their targets or more, or with a configured roll.
     pub telling: u64,
+    /// Plans whose tolerances differ.
+    pub differing: u64,
+    /// Cells of the largest plan that one evaluator of the original was asked about.
+    pub largest_whole: usize,
+    /// Chunks that hold cells of targets whose tolerances differ.
+    pub mixed_chunks: u64,
+    /// Rows of ten times or more, and how many of them the sweep leaves both marked and clear.
+    rows: u64,
+    both: u64,
     /// Marks are not counted: one large plan would outweigh all others.
     pub uncounted: bool,
 }
@@ -119,6 +128,30 @@ impl Tally {
         }
         self.same(kind, ours, theirs, input)
     }
+    /// Counts the rows of a sweep's mask that tell one tolerance from another.
+    pub fn count_rows(&mut self, mask: &[u8], times: usize) {
+        if times >= 10 {
+            self.rows += (mask.len() / times) as u64;
+            self.both += mask.chunks(times).filter(|row| row.contains(&0) && row.contains(&1)).count() as u64;
+        }
+    }
+    /// What is demanded of plans in every report.
+    fn of_plans(&self) -> Vec<(bool, String)> {
+        vec![
+            (2 * self.telling >= self.plans, "fewer than half of the plans have tolerances below 180 / n or a configured roll".to_string()),
+            (3 * self.differing >= self.plans, "fewer than a third of the plans have tolerances that differ".to_string()),
+            (5 * (self.plans - self.differing) >= self.plans, "fewer than a fifth of the plans were asked of one evaluator".to_string()),
+            (self.largest_whole > 65_536, "no plan beyond the original's own chunks was asked of one evaluator".to_string()),
+            (self.mixed_chunks >= 1000, "fewer than 1,000 chunks have several tolerances".to_string()),
+            (5 * self.both >= 2 * self.rows, "fewer than two fifths of the rows are both marked and clear".to_string()),
+        ]
+    }
+    fn print_plans(&self) {
+        println!(
+            "tolerances: {} of {} plans have differing ones, {} chunks several; {} of {} rows of 10 times or more are both marked and clear",
+            self.differing, self.plans, self.mixed_chunks, self.both, self.rows
+        );
+    }
     /// Prints the counts and what is demanded of them in vain; false where something differs or is so.
     fn table(&self, demanded: &[(bool, String)]) -> bool {
         let mut good = true;
@@ -144,31 +177,28 @@ impl Tally {
     }
     /// Of plans and rows.
     pub fn report(&self) -> bool {
-        let mut demanded = vec![
-            (self.cells >= 2_000_000 && self.masks >= 1_000_000, "fewer than 2,000,000 cells or 1,000,000 masks".to_string()),
-            (
-                self.telling >= self.plans / 2,
-                "fewer than half of the plans have a tolerance below 180 / n or a configured roll".to_string(),
-            ),
-        ];
+        let mut demanded = self.of_plans();
+        demanded.push((self.cells >= 2_000_000 && self.masks >= 1_000_000, "fewer than 2,000,000 cells or 1,000,000 masks".to_string()));
         for name in RANGES {
             demanded.push((self.kinds.get(name).map_or(0, |k| k.answers) >= 20, format!("fewer than 20 of {name}")));
         }
         let good = self.table(&demanded);
         println!(
-            "{} cells of {} plans ({} with a tolerance below 180 / n or a configured roll), {} masks of rows",
+            "{} cells of {} plans ({} with tolerances below 180 / n or a configured roll), {} masks of rows",
             self.cells, self.plans, self.telling, self.masks
         );
+        self.print_plans();
         good
     }
     /// Of catalogue positions, and of plans whose targets they are.
     pub fn report_catalogue(&self) -> bool {
         println!();
-        let good = self.table(&[
-            (self.positions >= 1_000_000, "fewer than 1,000,000 positions".to_string()),
-            (self.cells >= 200_000, "fewer than 200,000 cells with targets by their positions".to_string()),
-        ]);
+        let mut demanded = self.of_plans();
+        demanded.push((self.positions >= 1_000_000, "fewer than 1,000,000 positions".to_string()));
+        demanded.push((self.cells >= 200_000, "fewer than 200,000 cells with targets by their positions".to_string()));
+        let good = self.table(&demanded);
         println!("{} catalogue positions, {} cells of {} plans with targets by their positions", self.positions, self.cells, self.plans);
+        self.print_plans();
         good
     }
 }

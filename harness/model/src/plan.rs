@@ -1,4 +1,4 @@
-//! The plan, its cells, and refusals 1 to 6.
+//! The plan, its cells, and refusals 1 to 6 and 17.
 use crate::{first, Answer};
 use std::fmt;
 
@@ -10,7 +10,7 @@ pub struct Plan {
     pub targets: Vec<f64>,
     pub suns: Vec<f64>,
     pub observers: Vec<f64>,
-    /// Degrees: one entry, for every row.
+    /// Degrees: one entry a target.
     pub tolerances: Vec<f64>,
     /// The configured roll.
     pub roll_deg: Option<f64>,
@@ -109,18 +109,17 @@ impl Plan {
     pub fn target(&self, row: usize) -> [f64; 3] {
         triple(&self.targets, row)
     }
-    pub fn tolerance(&self, _row: usize) -> f64 {
-        self.tolerances[0]
+    pub fn tolerance(&self, row: usize) -> f64 {
+        self.tolerances[row]
     }
     pub fn panel(&self, _row: usize) -> [f64; 3] {
         triple(&self.panels, 0)
     }
-    /// The one tolerance, for what has room for no more: a header, a C name, a file. A plan without rows has it too.
+    /// The header's: the first entry, or zeros without targets.
     pub fn head_tolerance(&self) -> f64 {
-        assert_eq!(self.tolerances.len(), 1, "one tolerance");
-        self.tolerances[0]
+        self.tolerances.first().copied().unwrap_or(0.0)
     }
-    /// The one panel, likewise.
+    /// The one panel, for what has room for no more: a header, a C name, a file. A plan without rows has it too.
     pub fn head_panel(&self) -> [f64; 3] {
         assert_eq!(self.panels.len(), 3, "one panel");
         triple(&self.panels, 0)
@@ -147,6 +146,46 @@ impl Plan {
             (bad_position(&self.suns) || bad_position(&self.observers), 4),
             (bad_direction(&self.targets), 5),
             (bad_position(&self.panels), 6),
+            (self.tolerances.len() != self.rows(), 17),
         ])
+    }
+}
+
+#[cfg(test)]
+mod tests {
+    use super::*;
+
+    #[test]
+    fn a_tolerance_a_target_or_17_straight_after_6() {
+        let good = Plan {
+            targets: [1.0, 0.0, 0.0].repeat(2),
+            suns: vec![0.0; 9],
+            observers: vec![0.0; 9],
+            tolerances: vec![10.0, 20.0],
+            panels: vec![0.0, 1.0, 0.0],
+            rolls: Rolls::Even(1),
+            ..Plan::default()
+        };
+        assert_eq!(good.refusal(Third::Sweep, false), Ok(()));
+        for length in [0, 1, 3, 6] {
+            let p = Plan { tolerances: vec![10.0; length], ..good.clone() };
+            let said = |spoil: fn(&mut Plan)| {
+                let mut p = p.clone();
+                spoil(&mut p);
+                p.refusal(Third::Sweep, false)
+            };
+            assert_eq!(said(|_| ()), Err(17), "{length}");
+            assert_eq!(said(|p| p.panels[2] = f64::NAN), Err(6), "{length}");
+            assert_eq!(said(|p| p.targets[5] = 1.5), Err(5), "{length}");
+            assert_eq!(said(|p| p.suns[8] = f64::NAN), Err(4), "{length}");
+        }
+    }
+
+    #[test]
+    fn the_first_entry_is_the_header_s() {
+        let mut p = Plan { tolerances: vec![-0.0, 7.0], ..Plan::default() };
+        assert_eq!(p.head_tolerance().to_bits(), 1 << 63);
+        p.tolerances.clear();
+        assert_eq!(p.head_tolerance().to_bits(), 0);
     }
 }

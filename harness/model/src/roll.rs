@@ -189,6 +189,32 @@ mod tests {
     use super::*;
     use crate::plan::Rolls;
 
+    /// Two targets that are the same direction, the Sun in the east and then in the north: optimal rolls of 0 and 90.
+    #[test]
+    fn each_row_has_its_own_entry() {
+        let mut p = Plan {
+            targets: [1.0, 0.0, 0.0].repeat(2),
+            suns: vec![0.0, 1.0, 0.0, 0.0, 0.0, 1.0],
+            observers: vec![0.0; 6],
+            tolerances: vec![10.0, 80.0],
+            panels: vec![0.0, 1.0, 0.0],
+            rolls: Rolls::Even(2),
+            ..Plan::default()
+        };
+        // Of rolls 0 and 180 both are 90 away.
+        assert_eq!(p.sweep(), [(false, 1), (true, 2), (false, 1), (true, 2)]);
+        p.tolerances[1] = 90.0;
+        assert_eq!(p.sweep(), [(false, 1), (true, 2), (false, 1), (false, 1)]);
+        assert_eq!(p.in_constraint_batch_at_roll(Roll::Fixed(0.0), 4), Ok(vec![0, 1, 0, 0]));
+        assert_eq!(p.constrained_at_every_roll(2, 4), Ok(vec![0, 1, 0, 0]));
+        assert_eq!(p.field_of_regard_violated_batch(1, 2, 2), Ok(vec![1, 0]));
+        assert_eq!(p.field_of_regard_violated_at_roll(1, 0.0, 2), Ok(vec![1, 0]));
+        p.roll_deg = Some(180.0);
+        assert_eq!(p.in_constraint_batch(4), Ok(vec![1, 1, 1, 0]));
+        assert_eq!(p.evaluate(0, 2, 2), Ok((vec![1, 1], vec![170.0, 80.0])));
+        assert_eq!(p.evaluate(1, 2, 2), Ok((vec![1, 0], vec![90.0, 0.0])));
+    }
+
     /// The Sun is in the north, so the optimal roll is 90.
     #[test]
     fn a_table_is_tried_in_its_order() {

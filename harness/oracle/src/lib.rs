@@ -10,6 +10,7 @@ use constraints::roll_sweep::{self, PreparedRollEvaluator};
 pub use constraints::solar_roll::circular_diff_deg;
 use constraints::solar_roll::{self, SolarRollConfig};
 use ephemeris::ephemeris_common::{EphemerisBase, EphemerisData};
+use model::arithmetic::bits;
 use model::windows::Window;
 use model::Plan;
 use ndarray::Array2;
@@ -68,8 +69,13 @@ fn ephemeris(plan: &Plan, times: &[i64]) -> Rc<Ephemeris> {
     Rc::new(Ephemeris(data))
 }
 
-/// A plan row by row: an evaluator a row, with that row's target, tolerance and panel; or one evaluator for all. Answers are joined in the order of
-/// the rows.
+/// To the bit, every NaN being one.
+fn equal_tolerances(plan: &Plan) -> bool {
+    plan.tolerances.iter().all(|&x| bits(x) == bits(plan.head_tolerance()))
+}
+
+/// A plan row by row: an evaluator a row, with that row's target, tolerance and panel; or one evaluator for all, where the rows have one tolerance.
+/// Answers are joined in the order of the rows.
 pub struct Oracle(Vec<Whole>);
 
 impl Oracle {
@@ -90,9 +96,10 @@ impl Oracle {
         };
         Oracle(self.0.into_iter().map(told).collect())
     }
-    /// One evaluator for all rows, which goes through the original's own chunks of 65,536 cells.
-    pub fn whole(plan: &Plan, times: &[i64]) -> Oracle {
-        Oracle(vec![Whole::new(plan, times)])
+    /// One evaluator for all rows, which goes through the original's own chunks of 65,536 cells. There is none where tolerances differ: an evaluator
+    /// has one.
+    pub fn whole(plan: &Plan, times: &[i64]) -> Option<Oracle> {
+        equal_tolerances(plan).then(|| Oracle(vec![Whole::new(plan, times)]))
     }
     /// The evaluator that has a row, and the row's number there.
     fn at(&self, row: usize) -> (&Whole, usize) {
@@ -154,8 +161,9 @@ pub struct Whole {
 }
 
 impl Whole {
-    /// All rows of a plan that has one tolerance and one panel.
+    /// All rows of a plan whose tolerances are equal.
     pub fn new(plan: &Plan, times: &[i64]) -> Whole {
+        assert!(equal_tolerances(plan), "an evaluator has one tolerance");
         Whole::of(plan, 0..plan.rows(), (plan.head_tolerance(), plan.head_panel()), ephemeris(plan, times))
     }
     fn of(plan: &Plan, rows: Range<usize>, (tolerance_deg, panel_normal): (f64, [f64; 3]), ephemeris: Rc<Ephemeris>) -> Whole {

@@ -1,11 +1,13 @@
 //! Begin, work, work over a range, cut, recover and collect over random lists against section 4's ledger, and over damaged journals against
-//! its bytes.
+//! its bytes; and what a list of tolerances does to header and lines.
 //! `journals [FACTOR]` multiplies the number of lists.
 use cases::{plans, Seeded};
 use checks::lent;
+use model::arithmetic::bits;
 use model::journal::{Sweep, HEADER, LINE};
 use model::ledger::{Entry, Ledger, Said};
-use model::Answer;
+use model::plan::Rolls;
+use model::{Answer, Plan};
 use std::process::exit;
 
 /// The calls, on a buffer and a used length. A range also gives the chunk at which it stopped.
@@ -300,15 +302,98 @@ fn sweeps(s: &mut Seeded, sizes: &[(usize, usize)], count: usize) -> Vec<Sweep> 
         let targets = if s.once_in(4) { plans::Targets::Any } else { plans::Targets::Unit };
         let mut plan = plans::plan(s, targets, rows, times);
         let n = s.one_of(&[1, 1, 2, 3, 5, 8, 12]);
-        plans::for_sweep(s, &mut plan, n);
+        plans::for_sweep(s, &mut plan, n, plans::Entries::Either);
         Sweep::new(plan).expect("an accepted plan")
     };
     sizes.iter().cycle().take(sizes.len() * count).map(one).collect()
 }
 
-/// Few cells, chunks that are not full, no cells at all, and some of many chunks.
-const SMALL: [(usize, usize); 12] =
-    [(0, 0), (0, 3), (2, 0), (1, 1), (1, 2), (7, 9), (8, 8), (5, 13), (3, 43), (10, 20), (1, 640), (31, 33)];
+/// The journal of a whole sweep, the mask and the sum of probes: by one range from an empty buffer, then collected.
+fn whole(machine: &dyn Machine, sweep: &Sweep) -> (Vec<u8>, Vec<u8>, u64) {
+    let chunks = sweep.chunks() as u64;
+    let (mut journal, mut mask) = (vec![FILL; HEADER + LINE * sweep.chunks()], vec![FILL; sweep.mask.len()]);
+    let used = machine.begin(sweep, &mut journal, 0).expect("begun");
+    if chunks > 0 {
+        let end = machine.work_range(sweep, 0, chunks, &mut journal, used).expect("worked");
+        assert_eq!(end, (journal.len() as u64, chunks));
+    }
+    let sum = machine.collect(sweep, &journal, journal.len() as u64, &mut mask).expect("collected");
+    assert_eq!((&journal, &mask, sum), (&[&sweep.header[..], &sweep.lines.concat()].concat(), &sweep.mask, sweep.probes), "the model's");
+    (journal, mask, sum)
+}
+
+/// Request Two's header and lines, where they can be told by hand: three targets at thirty times, so that the first chunk has cells of all
+/// three.
+fn tolerances(machine: &dyn Machine) {
+    let suns = (0..30).flat_map(|j| [0.0, 1.0, j as f64 / 10.0]).collect();
+    let plan = Plan {
+        targets: [1.0, 0.0, 0.0].repeat(3),
+        suns,
+        observers: vec![0.0; 90],
+        tolerances: vec![20.0, 5.0, 30.0],
+        roll_deg: None,
+        panels: vec![0.0, 1.0, 0.0],
+        rolls: Rolls::Even(4),
+    };
+    let with = |list: &[f64]| Sweep::new(Plan { tolerances: list.to_vec(), ..plan.clone() }).expect("accepted");
+    let field = |journal: &[u8]| String::from_utf8(journal[24..40].to_vec()).expect("text");
+
+    // Two lists that differ at target 1 alone: the header cannot tell them apart, lines and row 1 do.
+    let (narrow, wide) = (with(&[20.0, 5.0, 30.0]), with(&[20.0, 40.0, 30.0]));
+    let (a, b) = (whole(machine, &narrow), whole(machine, &wide));
+    assert_eq!(a.0[..HEADER], b.0[..HEADER], "one header");
+    assert_eq!(field(&a.0), "4034000000000000");
+    assert_ne!(a.0[HEADER..][..LINE], b.0[HEADER..][..LINE], "another line");
+    assert_eq!([&a.1[..30], &a.1[60..]], [&b.1[..30], &b.1[60..]], "rows 0 and 2");
+    assert_ne!(a.1[30..60], b.1[30..60], "row 1");
+    assert!(a.2 > b.2, "fewer probes where more is allowed");
+    assert_eq!(machine.recover(&wide, &a.0, a.0.len() as u64), Ok(a.0.len() as u64), "nothing in it tells the list");
+    // Another first entry is another plan.
+    assert_eq!(machine.recover(&with(&[21.0, 5.0, 30.0]), &a.0, a.0.len() as u64), Err(11));
+
+    // A tolerance that marks nothing, and one that marks every cell, at each place.
+    let (nothing, all) = ([f64::NAN, f64::INFINITY], [-1.0, f64::NEG_INFINITY]);
+    for (none, every) in [0, 1].into_iter().flat_map(|k| [0, 1].map(|m| (nothing[k], all[m]))) {
+        for place in 0..3 {
+            for (list, odd, others) in [([every; 3], none, 1), ([none; 3], every, 0)] {
+                let mut list = list;
+                list[place] = odd;
+                let (journal, mask, _) = whole(machine, &with(&list));
+                assert!(mask.chunks(30).enumerate().all(|(i, row)| row == [if i == place { 1 - others } else { others }; 30]), "{list:?}");
+                assert_eq!(field(&journal), format!("{:016x}", bits(list[0])), "{list:?}");
+            }
+        }
+    }
+    // Every NaN has one field.
+    for nan in [0x7ff8_0000_0000_0001, 0xfff8_0000_0000_0000, 0x7ff0_0000_0000_0001] {
+        assert_eq!(field(&whole(machine, &with(&[f64::from_bits(nan), 5.0, 30.0])).0), "7ff8000000000000");
+    }
+    assert_eq!(field(&whole(machine, &with(&[-0.0, 5.0, 30.0])).0), "8000000000000000");
+
+    // Without targets zeros; without times the first entry.
+    let none = Sweep::new(Plan { targets: vec![], tolerances: vec![], ..plan.clone() }).expect("accepted");
+    assert_eq!(field(&whole(machine, &none).0), "0000000000000000");
+    let no_times = Sweep::new(Plan { suns: vec![], observers: vec![], ..plan.clone() }).expect("accepted");
+    assert_eq!(field(&whole(machine, &no_times).0), "4034000000000000");
+
+    // Document 01's example with a second target, the same direction, whose tolerance no cell is beyond.
+    let example = Plan {
+        targets: [1.0, 0.0, 0.0].repeat(2),
+        suns: vec![0.0, 1.0, 0.0, 0.0, 0.0, 1.0],
+        observers: vec![0.0; 6],
+        tolerances: vec![10.0, 90.0],
+        rolls: Rolls::Even(1),
+        ..plan
+    };
+    let (journal, ..) = whole(machine, &Sweep::new(example).expect("accepted"));
+    let zeros = "0".repeat(16);
+    let header = format!("0000000200000002000000014024000000000000{}{zeros}{zeros}3ff0000000000000{zeros}\n", "00");
+    assert_eq!(String::from_utf8(journal).expect("text"), header + "00000000000000000000000200000004\n");
+}
+
+/// Few cells, chunks that are not full, no cells at all, chunks of a dozen targets, and some of many chunks.
+const SMALL: [(usize, usize); 13] =
+    [(0, 0), (0, 3), (2, 0), (1, 1), (1, 2), (7, 9), (8, 8), (5, 13), (30, 5), (3, 43), (10, 20), (1, 640), (31, 33)];
 /// Times on both sides of 8,784, up to which work over a range has the Sun's units in a table.
 const LONG: [(usize, usize); 8] = [(1, 8784), (2, 8784), (3, 8784), (1, 8785), (2, 8785), (3, 8785), (4, 4095), (1, 20_000)];
 
@@ -317,6 +402,7 @@ fn main() {
     let own = arguments.iter().any(|a| a == "model");
     let factor: u64 = arguments.iter().find_map(|a| a.parse().ok()).unwrap_or(1);
     let machine: &dyn Machine = if own { &Bytes } else { &Library };
+    tolerances(machine);
     let mut s = Seeded::new(4);
     let (small, long) = (sweeps(&mut s, &SMALL, 30), sweeps(&mut s, &LONG, 4));
     let mut t = Tally::default();

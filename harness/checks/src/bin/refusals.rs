@@ -7,7 +7,8 @@ use checks::{lent, work_range, Calls, Library, Model};
 use model::journal::{Sweep, HEADER, LINE};
 use model::plan::{Rolls, Third};
 use model::{arithmetic::bits, Answer, Optimal, Plan, Roll};
-use std::collections::BTreeMap;
+use std::collections::{BTreeMap, BTreeSet};
+use std::ops::Range;
 use std::process::exit;
 
 #[derive(Default)]
@@ -18,33 +19,45 @@ struct Tally {
 }
 
 impl Tally {
-    fn same<T: PartialEq + std::fmt::Debug>(&mut self, call: &'static str, ours: Answer<T>, theirs: Answer<T>, input: &dyn Fn() -> String) {
+    /// The library's number, 0 for accepted.
+    fn same<T: PartialEq + std::fmt::Debug>(
+        &mut self,
+        call: &'static str,
+        ours: Answer<T>,
+        theirs: Answer<T>,
+        input: &dyn Fn() -> String,
+    ) -> u8 {
         *self.answers.entry(call).or_default().entry(theirs.as_ref().err().copied().unwrap_or(0)).or_default() += 1;
+        let number = ours.as_ref().err().copied().unwrap_or(0);
         if ours != theirs {
             self.differ += 1;
             if self.differ <= 10 {
                 println!("DIFFERS {call}: {}\n  library {ours:?}\n  model   {theirs:?}", input());
             }
         }
+        number
     }
 }
+
+/// How many calls have a plan: the third to the fourteenth of those below.
+const PLAN_CALLS: usize = 12;
 
 /// The numbers that each call lists.
 const LISTED: [(&str, &[u8]); 20] = [
     ("cell", &[0, 4, 5, 6]),
     ("catalogue", &[0, 1, 7, 16]),
-    ("named values", &[0, 1, 2, 4, 5, 6, 7]),
-    ("batch", &[0, 1, 2, 4, 5, 6, 7]),
-    ("at a roll", &[0, 1, 2, 4, 5, 6, 7]),
-    ("every roll", &[0, 1, 2, 3, 4, 5, 6, 7]),
-    ("row", &[0, 1, 2, 4, 5, 6, 7, 9]),
-    ("field of regard", &[0, 1, 2, 3, 4, 5, 6, 7, 9]),
-    ("field of regard at a roll", &[0, 1, 2, 4, 5, 6, 7, 9]),
-    ("begin", &[0, 1, 2, 3, 4, 5, 6, 7, 13]),
-    ("work", &[0, 1, 2, 3, 4, 5, 6, 7, 9, 10, 11, 12]),
-    ("work over a range", &[0, 1, 2, 3, 4, 5, 6, 7, 9, 10, 11, 12]),
-    ("recover", &[0, 1, 2, 3, 4, 5, 6, 11]),
-    ("collect", &[0, 1, 2, 3, 4, 5, 6, 7, 11, 12, 15]),
+    ("named values", &[0, 1, 2, 4, 5, 6, 7, 17]),
+    ("batch", &[0, 1, 2, 4, 5, 6, 7, 17]),
+    ("at a roll", &[0, 1, 2, 4, 5, 6, 7, 17]),
+    ("every roll", &[0, 1, 2, 3, 4, 5, 6, 7, 17]),
+    ("row", &[0, 1, 2, 4, 5, 6, 7, 9, 17]),
+    ("field of regard", &[0, 1, 2, 3, 4, 5, 6, 7, 9, 17]),
+    ("field of regard at a roll", &[0, 1, 2, 4, 5, 6, 7, 9, 17]),
+    ("begin", &[0, 1, 2, 3, 4, 5, 6, 7, 13, 17]),
+    ("work", &[0, 1, 2, 3, 4, 5, 6, 7, 9, 10, 11, 12, 17]),
+    ("work over a range", &[0, 1, 2, 3, 4, 5, 6, 7, 9, 10, 11, 12, 17]),
+    ("recover", &[0, 1, 2, 3, 4, 5, 6, 11, 17]),
+    ("collect", &[0, 1, 2, 3, 4, 5, 6, 7, 11, 12, 15, 17]),
     ("violation windows", &[0, 1, 2, 7, 8, 14]),
     ("visibility windows", &[0, 1, 2, 7, 8, 14]),
     ("violation records", &[0, 1, 2, 7, 8, 14]),
@@ -64,13 +77,13 @@ fn spoil(s: &mut Seeded, list: &mut [f64], with: &[f64]) {
     }
 }
 
-/// A small plan with any of the faults that refusals 1 to 6 name.
-fn faulty(s: &mut Seeded) -> Plan {
+/// A small plan, and the same with any of the faults that refusals 1 to 6 and 17 name.
+fn faulty(s: &mut Seeded) -> (Plan, Plan) {
     let (rows, times) = (s.index(6), s.index(9));
-    let mut p = plans::plan(s, plans::Targets::Any, rows, times);
+    let mut good = plans::plan(s, plans::Targets::Any, rows, times);
     let n = if s.once_in(8) { s.one_of(&BAD_N) } else { s.one_of(&[1, 1, 2, 3, 7, 3600]) };
-    plans::for_sweep(s, &mut p, n.clamp(1, 3600));
-    p.rolls = Rolls::Even(n);
+    plans::for_sweep(s, &mut good, n.clamp(1, 3600), plans::Entries::Either);
+    let mut p = Plan { rolls: Rolls::Even(n), ..good.clone() };
     if s.once_in(12) {
         p.targets.extend([0.5].repeat(s.within(1, 2) as usize));
     }
@@ -91,6 +104,7 @@ fn faulty(s: &mut Seeded) -> Plan {
         p.targets = [1.0, 0.0, 0.0].repeat(rows);
         p.suns = [0.0, 1.0, 0.0].repeat(times);
         p.observers = vec![0.0; 3 * times];
+        p.tolerances = vec![10.0; rows];
     }
     if s.once_in(10) {
         spoil(s, &mut p.suns, &BAD_POSITION);
@@ -104,7 +118,12 @@ fn faulty(s: &mut Seeded) -> Plan {
     if s.once_in(8) {
         spoil(s, &mut p.panels, &BAD_POSITION);
     }
-    p
+    if s.once_in(6) {
+        // One fewer, none, one more, as many as numbers or times.
+        let length = s.one_of(&[p.rows().saturating_sub(1), 0, p.rows() + 1, p.targets.len(), p.times()]);
+        p.tolerances.resize(length, 10.0);
+    }
+    (good, p)
 }
 
 /// About as much room as is needed: sometimes too little, sometimes none.
@@ -130,106 +149,236 @@ fn floats(answer: Answer<Vec<f64>>) -> Answer<Vec<u64>> {
     answer.map(|list| list.into_iter().map(bits).collect())
 }
 
-fn of_plans(s: &mut Seeded, t: &mut Tally) {
-    let p = faulty(s);
-    let n = p.even_n();
-    let shown = || if p.cells() > 1000 { format!("{} rows {} times", p.rows(), p.times()) } else { format!("{p:?}") };
-    let (cells, roll) = (room(s, p.cells()), plans::roll(s, &p));
-    t.same("named values", floats(Library.named_values(&p, cells)), floats(Model.named_values(&p, cells)), &shown);
-    t.same("batch", Library.in_constraint_batch(&p, cells), Model.in_constraint_batch(&p, cells), &shown);
-    let kind = if s.once_in(2) { Roll::Sweep(roll) } else { Roll::Fixed(roll) };
-    let at = |c: &dyn Calls| c.in_constraint_batch_at_roll(&p, kind, cells);
-    t.same("at a roll", at(&Library), at(&Model), &shown);
-    t.same("every roll", Library.constrained_at_every_roll(&p, n, cells), Model.constrained_at_every_roll(&p, n, cells), &shown);
-
-    let target = index(s, p.rows());
-    let (masks, severities) = (room(s, p.times()), room(s, p.times()));
-    let row = |c: &dyn Calls| c.evaluate(&p, target, masks, severities).map(|(m, v)| (m, v.into_iter().map(bits).collect::<Vec<_>>()));
-    t.same("row", row(&Library), row(&Model), &shown);
-
-    let (time, marks) = (index(s, p.times()), room(s, p.rows()));
-    let regard = |c: &dyn Calls| c.field_of_regard_violated_batch(&p, time, n, marks);
-    t.same("field of regard", regard(&Library), regard(&Model), &shown);
-    let regard = |c: &dyn Calls| c.field_of_regard_violated_at_roll(&p, time, roll, marks);
-    t.same("field of regard at a roll", regard(&Library), regard(&Model), &shown);
-
-    journal(s, t, &p, &shown);
+/// What the calls with a plan are given beside it.
+struct Beside {
+    roll: Roll,
+    /// Places of the masks and of the named values.
+    cells: usize,
+    target: u64,
+    /// Places of the row's mask and of its severities.
+    row: [usize; 2],
+    time: u64,
+    /// Places of the fields of regard.
+    marks: usize,
+    /// The journal's buffer.
+    file: Vec<u8>,
+    used: u64,
+    chunks: Range<u64>,
+    /// Places of the collected mask.
+    mask: usize,
 }
 
-/// The calls of a journal, each on a journal as far along as chance has it.
-fn journal(s: &mut Seeded, t: &mut Tally, p: &Plan, shown: &dyn Fn() -> String) {
-    let sweep = if p.cells() < 1000 { Sweep::new(p.clone()).ok() } else { None };
+/// Every call with a plan, in the order of `LISTED`: the library's number, 0 for accepted. `sweep`: of the plan, once it is accepted.
+fn with_plan(t: &mut Tally, p: &Plan, sweep: Option<&Sweep>, b: &Beside) -> [u8; PLAN_CALLS] {
+    let n = p.even_n();
+    let shown = || if p.cells() > 1000 { format!("{} rows {} times", p.rows(), p.times()) } else { format!("{p:?}") };
+    let roll = match b.roll {
+        Roll::Sweep(roll) | Roll::Fixed(roll) => roll,
+    };
+    let named = |c: &dyn Calls| floats(c.named_values(p, b.cells));
+    let batch = |c: &dyn Calls| c.in_constraint_batch(p, b.cells);
+    let at = |c: &dyn Calls| c.in_constraint_batch_at_roll(p, b.roll, b.cells);
+    let every = |c: &dyn Calls| c.constrained_at_every_roll(p, n, b.cells);
+    let row = |c: &dyn Calls| c.evaluate(p, b.target, b.row[0], b.row[1]).map(|(m, v)| (m, v.into_iter().map(bits).collect::<Vec<_>>()));
+    let regard = |c: &dyn Calls| c.field_of_regard_violated_batch(p, b.time, n, b.marks);
+    let regard_at = |c: &dyn Calls| c.field_of_regard_violated_at_roll(p, b.time, roll, b.marks);
+    let masks = [
+        t.same("named values", named(&Library), named(&Model), &shown),
+        t.same("batch", batch(&Library), batch(&Model), &shown),
+        t.same("at a roll", at(&Library), at(&Model), &shown),
+        t.same("every roll", every(&Library), every(&Model), &shown),
+        t.same("row", row(&Library), row(&Model), &shown),
+        t.same("field of regard", regard(&Library), regard(&Model), &shown),
+        t.same("field of regard at a roll", regard_at(&Library), regard_at(&Model), &shown),
+    ];
+    let journals = journal(t, p, sweep, b, &shown);
+    std::array::from_fn(|k| if k < masks.len() { masks[k] } else { journals[k - masks.len()] })
+}
+
+fn of_plans(s: &mut Seeded, t: &mut Tally) {
+    let (good, p) = faulty(s);
+    // A plan that is refused is lent the good plan's journal.
+    let sweep = Sweep::new(p.clone()).or_else(|_| Sweep::new(good)).expect("accepted");
+    let roll = plans::roll(s, &p);
+    let (file, used) = some_journal(s, &sweep);
+    let chunk = index(s, sweep.chunks());
+    let to = s.one_of(&[chunk.wrapping_sub(1), chunk, chunk.saturating_add(1), chunk.saturating_add(2), u64::MAX]);
+    let beside = Beside {
+        roll: if s.once_in(2) { Roll::Sweep(roll) } else { Roll::Fixed(roll) },
+        cells: room(s, p.cells()),
+        target: index(s, p.rows()),
+        row: [room(s, p.times()), room(s, p.times())],
+        time: index(s, p.times()),
+        marks: room(s, p.rows()),
+        file,
+        used,
+        chunks: chunk..to,
+        mask: room(s, p.cells()),
+    };
+    with_plan(t, &p, Some(&sweep), &beside);
+}
+
+/// A journal as far along as chance has it, in a buffer, and its used length.
+fn some_journal(s: &mut Seeded, sweep: &Sweep) -> (Vec<u8>, u64) {
     let mut file = Vec::new();
-    if let Some(sweep) = &sweep {
-        if !s.once_in(4) {
-            file = sweep.header.clone();
-            let from = s.index(sweep.chunks() + 1);
-            for c in 0..s.within(from as u64, sweep.chunks() as u64) {
-                file.extend(&sweep.lines[c as usize]);
-            }
-        }
-        if s.once_in(4) && !file.is_empty() {
-            file.truncate(s.index(file.len()));
-        }
-        if s.once_in(6) && !file.is_empty() {
-            let at = s.index(file.len());
-            file[at] = s.one_of(b"0123456789abcdef\nx");
+    if !s.once_in(4) {
+        file = sweep.header.clone();
+        let from = s.index(sweep.chunks() + 1);
+        for c in 0..s.within(from as u64, sweep.chunks() as u64) {
+            file.extend(&sweep.lines[c as usize]);
         }
     }
-    let mut used = file.len() as u64;
+    if s.once_in(4) && !file.is_empty() {
+        file.truncate(s.index(file.len()));
+    }
+    if s.once_in(6) && !file.is_empty() {
+        let at = s.index(file.len());
+        file[at] = s.one_of(b"0123456789abcdef\nx");
+    }
+    let used = file.len() as u64;
     file.resize(file.len() + s.one_of(&[0, 32, 33, 106, 107, 150]), 0x5a);
-    if s.once_in(16) {
-        used = s.one_of(&[file.len() as u64 + 1, u64::MAX, 1 << 32]);
-    }
-    let chunk = index(s, sweep.as_ref().map_or(2, Sweep::chunks));
-    let beyond = used > file.len() as u64;
-    let mask = room(s, p.cells());
-    let number = |r: wilfnusk::Refusal| r.number();
-    let refusal = p.refusal(Third::Sweep, beyond);
-    // What the model says, once the plan is accepted; a plan of many cells is refused here by something else.
-    let Some(theirs) = refusal.err().map(Err).or_else(|| sweep.as_ref().map(Ok)) else { return };
+    let beyond = s.once_in(16).then(|| s.one_of(&[file.len() as u64 + 1, u64::MAX, 1 << 32]));
+    (file, beyond.unwrap_or(used))
+}
+
+/// The calls of a journal.
+fn journal(t: &mut Tally, p: &Plan, sweep: Option<&Sweep>, b: &Beside, shown: &dyn Fn() -> String) -> [u8; 5] {
+    let Beside { file, used, chunks, mask, .. } = b;
+    let (used, chunk, number) = (*used, chunks.start, |r: wilfnusk::Refusal| r.number());
+    // What the model says, once the plan is accepted.
+    let theirs = p.refusal(Third::Sweep, used > file.len() as u64).map(|()| sweep.expect("an accepted plan's sweep"));
     let (l, n) = (lent(p), p.even_n());
 
     let mut buffer = file.clone();
     let ours = l.begin(n, &mut buffer, used).map_err(number);
-    assert!(ours.is_ok() || buffer == file, "begin refused and wrote");
+    assert!(ours.is_ok() || buffer == *file, "begin refused and wrote");
     let expected = theirs.and_then(|sweep| {
         let header = sweep.begin(file.len(), used)?;
         let mut after = file.clone();
         after[..HEADER].copy_from_slice(header);
         Ok((HEADER as u64, after))
     });
-    t.same("begin", ours.map(|u| (u, buffer)), expected, shown);
+    let begin = t.same("begin", ours.map(|u| (u, buffer)), expected, shown);
     let mut buffer = file.clone();
     let ours = l.work(n, chunk, &mut buffer, used).map_err(number);
-    assert!(ours.is_ok() || buffer == file, "work refused and wrote");
+    assert!(ours.is_ok() || buffer == *file, "work refused and wrote");
     let expected = theirs.and_then(|sweep| {
-        let line = sweep.work(chunk, &file, used)?;
+        let line = sweep.work(chunk, file, used)?;
         let mut after = file.clone();
         after[used as usize..][..LINE].copy_from_slice(line);
         Ok((used + LINE as u64, after))
     });
-    t.same("work", ours.map(|u| (u, buffer)), expected, shown);
-    let to = s.one_of(&[chunk.wrapping_sub(1), chunk, chunk.saturating_add(1), chunk.saturating_add(2), u64::MAX]);
+    let work = t.same("work", ours.map(|u| (u, buffer)), expected, shown);
     let mut buffer = file.clone();
-    let ours = work_range(p, chunk..to, &mut buffer, used);
-    assert!(ours.is_ok() || buffer == file, "work over a range refused and wrote");
+    let ours = work_range(p, chunks.clone(), &mut buffer, used);
+    assert!(ours.is_ok() || buffer == *file, "work over a range refused and wrote");
     let expected = theirs.and_then(|sweep| {
-        let (lines, stopped) = sweep.work_range(chunk, to, &file, used)?;
+        let (lines, stopped) = sweep.work_range(chunk, chunks.end, file, used)?;
         let mut after = file.clone();
         after[used as usize..][..lines.len()].copy_from_slice(&lines);
         Ok(((used + lines.len() as u64, stopped), after))
     });
-    t.same("work over a range", ours.map(|u| (u, buffer)), expected, shown);
+    let range = t.same("work over a range", ours.map(|u| (u, buffer)), expected, shown);
 
-    t.same("recover", l.recover(n, &file, used).map_err(number), theirs.and_then(|sweep| sweep.recover(&file, used)), shown);
+    let recovered = theirs.and_then(|sweep| sweep.recover(file, used));
+    let recover = t.same("recover", l.recover(n, file, used).map_err(number), recovered, shown);
 
-    let mut out = vec![0x5a; mask];
-    let ours = l.collect(n, &file, used, &mut out).map_err(number);
+    let mut out = vec![0x5a; *mask];
+    let ours = l.collect(n, file, used, &mut out).map_err(number);
     assert!(ours.is_ok() || out.iter().all(|&b| b == 0x5a), "collect refused and wrote");
     let written = p.cells().min(out.len());
     let ours = ours.map(|sum| (out[..written].to_vec(), sum));
-    t.same("collect", ours, theirs.and_then(|sweep| sweep.collect(&file, used, mask)), shown);
+    let collect = t.same("collect", ours, theirs.and_then(|sweep| sweep.collect(file, used, *mask)), shown);
+    [begin, work, range, recover, collect]
+}
+
+/// Two targets, forty times, two chunks; and what makes every call refuse it for each of its own reasons. With a list of tolerances that is
+/// not one a target each call says 17 to all of that, and 1 to 6 before it.
+fn of_tolerances(t: &mut Tally) {
+    let good = Plan {
+        targets: vec![1.0, 0.0, 0.0, 0.6, 0.0, 0.8],
+        suns: [[0.0, 1.0, 0.0], [0.0, 0.0, 1.0]].concat().repeat(20),
+        observers: vec![0.0; 120],
+        tolerances: vec![10.0, 80.0],
+        roll_deg: Some(20.0),
+        panels: vec![0.0, 1.0, 0.0],
+        rolls: Rolls::Even(3),
+    };
+    let sweep = Sweep::new(good.clone()).expect("accepted");
+    let header = &sweep.header[..];
+    let (one, both) = ([header, &sweep.lines[0]].concat(), [header, &sweep.lines.concat()].concat());
+    let spoiled = [b"x", &header[1..]].concat();
+    let given = |file: &[u8], more: usize, chunks: Range<u64>, at: u64, places: usize| Beside {
+        roll: Roll::Sweep(5.0),
+        cells: places,
+        target: at,
+        row: [places, 80],
+        time: 20 * at,
+        marks: places,
+        file: [file, &vec![0x5a; more]].concat(),
+        used: file.len() as u64,
+        chunks,
+        mask: places,
+    };
+    let own = [
+        given(&[], 200, 0..2, 0, 80),
+        given(header, 200, 0..2, 0, 80),
+        // No room.
+        given(&[], 106, 0..2, 0, 1),
+        given(&one, 32, 1..2, 0, 1),
+        given(&both, 200, 0..2, 0, 79),
+        // No such target, time or chunk; no chunk in a range.
+        given(&one, 200, 2..3, 2, 80),
+        given(&one, 200, 1..1, 1, 80),
+        // Not right; a tail; a line that is there; all lines there.
+        given(&spoiled, 200, 0..2, 0, 80),
+        given(&both[..150], 200, 1..2, 0, 80),
+        given(&one, 200, 0..2, 0, 80),
+        given(&both, 200, 0..2, 0, 80),
+    ];
+    let mut seen: [BTreeSet<u8>; PLAN_CALLS] = Default::default();
+    for b in &own {
+        for (seen, number) in seen.iter_mut().zip(with_plan(t, &good, Some(&sweep), b)) {
+            seen.insert(number);
+        }
+    }
+    for ((call, numbers), seen) in LISTED[2..].iter().zip(&seen) {
+        let own: BTreeSet<u8> = numbers.iter().copied().filter(|n| ![1, 2, 3, 4, 5, 6, 17].contains(n)).collect();
+        assert_eq!(*seen, own, "{call}: each of its own answers");
+    }
+
+    let listed = |number: u8| LISTED[2..][..PLAN_CALLS].iter().map(move |(_, numbers)| numbers.contains(&number));
+    for length in [0, 1, 3, 6, 40] {
+        let mut wrong = good.clone();
+        wrong.tolerances.resize(length, 10.0);
+        let beside: [(u8, fn(&mut Plan)); 9] = [
+            (17, |_| ()),
+            (6, |p| p.panels[0] = f64::NAN),
+            (5, |p| p.targets[5] = 1.5),
+            (4, |p| p.suns[119] = f64::NAN),
+            (4, |p| p.observers[0] = f64::INFINITY),
+            (3, |p| p.rolls = Rolls::Even(3601)),
+            (2, |p| p.targets = [1.0, 0.0, 0.0].repeat(65_537)),
+            (1, |p| p.targets.push(0.5)),
+            (1, |p| p.suns.truncate(117)),
+        ];
+        for (number, spoil) in beside {
+            let mut p = wrong.clone();
+            spoil(&mut p);
+            let expected: Vec<u8> = listed(number).map(|listed| if listed { number } else { 17 }).collect();
+            for b in &own {
+                assert_eq!(with_plan(t, &p, None, b)[..], expected[..], "{length} tolerances for two targets, and {number}");
+            }
+        }
+    }
+    // No targets, or no times: 17 as well, before 9.
+    let none = Plan { targets: vec![], ..good.clone() };
+    let no_times = Plan { suns: vec![], observers: vec![], tolerances: vec![10.0], ..good.clone() };
+    for p in [none, no_times] {
+        for b in &own {
+            assert_eq!(with_plan(t, &p, None, b), [17; PLAN_CALLS]);
+        }
+    }
 }
 
 fn of_cells(s: &mut Seeded, t: &mut Tally) {
@@ -383,6 +532,7 @@ fn main() {
     let mut s = Seeded::new(5);
     let mut t = Tally::default();
     of_ends(&mut t);
+    of_tolerances(&mut t);
     let mut of_catalogue = Seeded::new(6);
     for _ in 0..60_000 * factor {
         of_positions(&mut of_catalogue, &mut t);

@@ -107,7 +107,7 @@ fn each(i: &mut Inputs, run: &mut dyn FnMut(&'static str, &mut dyn FnMut())) {
             targets: i.targets[..3 * rows].to_vec(),
             suns: i.suns[..3 * times].to_vec(),
             observers: i.observers[..3 * times].to_vec(),
-            tolerances: vec![170.0],
+            tolerances: vec![170.0; rows],
             roll_deg,
             panels: vec![0.1, 0.9, -0.3],
             rolls: Rolls::Even(ROLLS),

@@ -8,7 +8,7 @@
 //! asks about what was given last: two words of what is asked (0 where nothing is), then the Rust's answer up to the line's end. A float is
 //! its bits (every NaN 7ff8000000000000), a time its 64 bits, a mask a word a sample.
 use cases::catalogue::{beside, positions};
-use cases::plans::{for_roll, for_sweep, plan, roll, samples, Targets};
+use cases::plans::{for_roll, for_sweep, plan, roll, samples, Entries, Targets};
 use cases::{rows, Seeded};
 use model::arithmetic::bits;
 use model::plan::is_unit;
@@ -17,8 +17,8 @@ use model::{Plan, Roll};
 use oracle::Oracle;
 use std::{env, fs, path::Path};
 
-// A plan: how many numbers the targets have, and the Suns; the words at which the Suns begin, and the observers; tolerance, configured (0 or 1),
-// roll, panel; targets, Suns, observers.
+// A plan, of at most 8 targets and 24 times: how many numbers the targets have, and the Suns; the words at which the Suns begin, the observers and
+// the tolerances; configured (0 or 1), roll, panel; targets, Suns, observers, tolerances.
 // A row: samples, windows; the words at which the times begin, the severities, the windows' first times, their last times; mask, times,
 // severities, first times, last times.
 // Positions: how many, at most 12; the word at which the declinations begin; right ascensions, declinations.
@@ -81,19 +81,32 @@ fn small(s: &mut Seeded, targets: Targets) -> Plan {
 }
 
 fn given(f: &mut File, p: &Plan) -> Oracle {
+    assert!(p.rows() <= 8 && p.times() <= 24 && p.tolerances.len() == p.rows(), "the program has room for it");
     let (t, s) = (p.targets.len() as u64, p.suns.len() as u64);
     let roll = [p.roll_deg.is_some() as u64, bits(p.roll_deg.unwrap_or(0.0))];
-    let lists = floats(&[&p.head_panel()[..], &p.targets, &p.suns, &p.observers].concat());
-    let head = [t, s, 11 + t, 11 + t + s, bits(p.head_tolerance())];
+    let lists = floats(&[&p.head_panel()[..], &p.targets, &p.suns, &p.observers, &p.tolerances].concat());
+    let head = [t, s, 11 + t, 11 + t + s, 11 + t + 2 * s];
     f.given(&[&head, &roll, &lists]);
     Oracle::new(p, &(0..p.times() as i64).collect::<Vec<_>>())
+}
+
+/// How many of a file's plans have several targets with equal tolerances, and with tolerances that differ: by the words, as the program reads them.
+fn equal_and_differing(file: &File) -> [usize; 2] {
+    let words = |line: &str| -> Vec<u64> { line.split(' ').map(|word| u64::from_str_radix(word, 16).expect("a number")).collect() };
+    let plans: Vec<Vec<u64>> = file.0.lines().map(words).filter(|line| line[0] == GIVEN).collect();
+    let equal = |line: &Vec<u64>| {
+        let list = &line[line[5] as usize..];
+        assert_eq!(list.len() as u64, line[1] / 3, "a tolerance a target");
+        list.iter().all(|x| *x == list[0])
+    };
+    [true, false].map(|kind| plans.iter().filter(|line| line[1] > 3 && equal(line) == kind).count())
 }
 
 /// Section 2: rolls, marks at one roll, a row.
 fn rolls(f: &mut File, s: &mut Seeded, targets: Targets) {
     let mut p = small(s, targets);
     p.roll_deg = if s.once_in(4) { None } else { Some(roll(s, &p)) };
-    for_roll(s, &mut p);
+    for_roll(s, &mut p, Entries::Either);
     let o = given(f, &p);
     let (not_free, values) = (o.not_free(), floats(&o.named_values()));
     for c in 0..p.cells() {
@@ -115,7 +128,7 @@ fn rolls(f: &mut File, s: &mut Seeded, targets: Targets) {
 fn sweeps(f: &mut File, s: &mut Seeded, targets: Targets) {
     let mut p = small(s, targets);
     let n = samples(s);
-    for_sweep(s, &mut p, n);
+    for_sweep(s, &mut p, n, Entries::Either);
     let (marks, tried) = given(f, &p).sweep();
     f.asked(SWEEP, [n, 0], &[&[tried.iter().sum()], mask(&marks).as_slice()].concat());
 }
@@ -124,7 +137,7 @@ fn sweeps(f: &mut File, s: &mut Seeded, targets: Targets) {
 fn others(f: &mut File, s: &mut Seeded, targets: Targets) {
     let mut p = small(s, targets);
     let n = if s.once_in(10) { 0 } else { samples(s) };
-    for_sweep(s, &mut p, n.max(1));
+    for_sweep(s, &mut p, n.max(1), Entries::Either);
     let (o, time, at) = (given(f, &p), s.index(p.times()), roll(s, &p));
     f.asked(EVERY_ROLL, [n, 0], &mask(&o.constrained_at_every_roll(n)));
     f.asked(FIELD, [time as u64, n], &mask(&o.field_of_regard_violated_batch(time, n)));
@@ -141,7 +154,7 @@ fn many(seed: u64, count: u64, targets: Targets, record: impl Fn(&mut File, &mut
 }
 
 fn section_2() -> File {
-    // Seed 12 makes 65,735 bytes, for which the program has no room.
+    // Seed 12 makes more than the 65,535 bytes for which the program has room.
     let mut f = many(42, 30, Targets::Unit, rolls);
     let mut s = Seeded::new(12);
     let none = Plan::default();
@@ -218,17 +231,22 @@ fn catalogue() -> File {
 
 fn main() {
     let folder = env::args().nth(1).expect("record FOLDER");
-    for (name, file) in [
+    let plans = [
         ("section-2", section_2()),
-        ("section-3", many(13, 80, Targets::Unit, sweeps)),
-        ("section-5", section_5()),
+        // Seed 13 makes too many bytes too.
+        ("section-3", many(43, 80, Targets::Unit, sweeps)),
         ("section-6", many(16, 50, Targets::Unit, others)),
         ("any-targets", any_targets()),
-        ("catalogue", catalogue()),
-    ] {
+    ];
+    for (name, file) in &plans {
+        let [equal, differing] = equal_and_differing(file);
+        println!("{name}: {equal} plans of several targets with equal tolerances, {differing} with tolerances that differ");
+        assert!(equal >= 5 && differing >= 5, "tolerances of both kinds");
+    }
+    for (name, file) in plans.into_iter().chain([("section-5", section_5()), ("catalogue", catalogue())]) {
         let longest = file.0.lines().map(|l| l.split(' ').count()).max().unwrap();
+        println!("{name}: {} lines, {} bytes, at most {longest} words", file.0.lines().count(), file.0.len());
         assert!(longest <= 256 && file.0.len() < 65_536, "the program has room for it");
-        println!("{name}: {} lines, {} bytes", file.0.lines().count(), file.0.len());
         fs::write(Path::new(&folder).join(name), file.0).expect("the folder can be written");
     }
 }
