@@ -1,5 +1,5 @@
-//! The digest that stands beside a journal. Targets and positions are not in its header, so an edited file of equal
-//! size would resume into wrong windows: J.plan has a digest of every number of the plan, and tells which file changed.
+//! The digest that stands beside a journal. Targets, positions and the tolerances after the first are not in its header, so an edited file
+//! of equal size would resume into wrong windows: J.plan has a digest of every number of the plan, and tells which file changed.
 use crate::{
     explain,
     fault::Fault,
@@ -7,6 +7,7 @@ use crate::{
     journal::{opened, read},
     plan::Plan,
     source::Source,
+    tolerance::{common, Told},
 };
 use sha2::{Digest as _, Sha256};
 use std::{
@@ -128,7 +129,11 @@ pub fn is_known(plan: &Plan, journal: &Path) -> Result<bool, Fault> {
         Some(then) => then,
         None => return Ok(false),
     };
-    let now = Digest::by(then.version, plan);
+    let mut now = Digest::by(then.version, plan);
+    // The tolerances are settings, wherever they stand.
+    if let Told::Column(_) = plan.told {
+        now.files[0] = format!("{} or the column `tolerance` of {}", now.files[0], now.files[1]);
+    }
     let changed = now.changed(&then);
     if changed.is_empty() {
         return Ok(true);
@@ -147,7 +152,7 @@ pub fn same_plan(plan: &Plan, journal: &Path) -> Result<bool, Fault> {
     let known = is_known(plan, journal)?;
     if !known {
         tell!(
-            "warning: {} is missing: nothing tells whether {} was made from these targets and positions. To work every line out again: {} --recompute",
+            "warning: {} is missing: nothing tells whether {} was made from these targets, positions and tolerances. To work every line out again: {} --recompute",
             Digest::path(journal).display(),
             journal.display(),
             explain::command("check", plan, journal)
@@ -158,25 +163,31 @@ pub fn same_plan(plan: &Plan, journal: &Path) -> Result<bool, Fault> {
 
 /// The settings' digest.
 ///
-/// Version 1: n, whether a roll is configured, the tolerance, that roll or 0, the panel. It has room for one tolerance and one panel, and for
-/// even steps: of a plan with more of them it must never be taken for the digest.
+/// Version 1: n, whether a roll is configured, the tolerance, that roll or 0, the panel. These are seven words, for one tolerance, one panel and
+/// even steps: of a plan with more of them it is never the digest, as more words are hashed.
 ///
 /// Version 2: n, whether a roll is configured, that roll or 0; then lists, each after the count of its numbers: tolerances, panels (three numbers
-/// each), rolls. The tolerances are one number where it is the same for all targets, as today in every plan, else one a target: a plan of one
-/// tolerance keeps its digest when they may vary. Even steps are said by n alone, and their list of rolls is empty. It stands last, so that a table
-/// of rolls moves nothing before it.
+/// each), rolls. Even steps are said by n alone, and their list of rolls is empty. It stands last, so that a table of rolls moves nothing before it.
+///
+/// In both the tolerances are one number where it is the same for all targets, so that it does not matter how the files tell it, else one a
+/// target; without targets +0, as the header has it.
 fn settings(version: u64, plan: &Plan) -> String {
     let (n, is_configured, roll) = (plan.rolls, plan.configured_roll.is_some() as u64, bits(&plan.configured_roll.unwrap_or(0.0)));
+    let tolerances = match common(&plan.tolerances) {
+        Some(same) => vec![same],
+        None if plan.tolerances.is_empty() => vec![0.0],
+        None => plan.tolerances.clone(),
+    };
+    let words = |numbers: &[f64]| numbers.iter().map(bits).collect::<Vec<_>>();
     if version == 1 {
-        let [x, y, z] = plan.panel;
-        return hash([n, is_configured, bits(&plan.tolerance), roll, bits(&x), bits(&y), bits(&z)]);
+        return hash([vec![n, is_configured], words(&tolerances), vec![roll], words(&plan.panel)].concat());
     }
-    let list = |numbers: &[f64]| std::iter::once(numbers.len() as u64).chain(numbers.iter().map(bits)).collect::<Vec<_>>();
-    hash([vec![n, is_configured, roll], list(&[plan.tolerance]), list(&plan.panel), list(&[])].concat())
+    let list = |numbers: &[f64]| [vec![numbers.len() as u64], words(numbers)].concat();
+    hash([vec![n, is_configured, roll], list(&tolerances), list(&plan.panel), list(&[])].concat())
 }
 
 /// A number's bits; one NaN stands for all, as in the journal's header.
-fn bits(x: &f64) -> u64 {
+pub fn bits(x: &f64) -> u64 {
     if x.is_nan() {
         0x7ff8_0000_0000_0000
     } else {
@@ -254,6 +265,99 @@ mod tests {
         for title in ["wilfnusk plan", "wilfnusk plan ", "wilfnusk plan 02", "wilfnusk plan +2", "wilfnusk plan 2 ", "wilfnusk plan two"] {
             fs::write(&path, new.replace("wilfnusk plan 2", title)).unwrap();
             assert!(Digest::beside(&journal, true).unwrap_err().to_string().contains("no digest of a plan"), "{}", title);
+        }
+    }
+
+    /// What earlier programs, which knew one tolerance, wrote for these files, in each version.
+    #[test]
+    fn a_digest_of_one_tolerance_is_the_old_one_however_it_is_told() {
+        let new = OLD.replace("plan 1", "plan 2").replace(
+            "5e754224acbd7ed75550e75c950b02210a9ba34f0e4b182532ee82cdf068f5b0",
+            "839d7dfb8d119dcd36c4670a61e9227371d375e531cf4d9fdd4d100dffbd07c1",
+        );
+        let without = TOML.replace("tolerance = 10\n", "");
+        let column = TARGETS.replace("z\n", "z,tolerance\n").replace("0\n", "0,10\n");
+        let folder = tempfile::tempdir().unwrap();
+        let journal = folder.path().join("j");
+        for (toml, targets) in [(TOML, TARGETS), (&(without.clone() + "tolerance = [10, 1e1]\n"), TARGETS), (&without, &column)] {
+            let plan = plan(toml, targets, EPHEMERIS).unwrap();
+            for (version, text) in [(1, OLD), (2, &new)] {
+                assert_eq!(Digest::by(version, &plan).text(), text, "{}", toml);
+                fs::write(Digest::path(&journal), text).unwrap();
+                assert!(is_known(&plan, &journal).unwrap());
+            }
+        }
+    }
+    /// By the old programs too: one that knew version 1 alone, then one of version 2.
+    #[test]
+    fn every_nan_is_one() {
+        let old = [
+            "9c9f7b437d851b359deba0f15cdd01c11fb527abe99be9cff223c6338c700995",
+            "a1358abd4afafe6cf76725ec2d67b15dbe9196f02854e5337e083c9fb038c20d",
+        ];
+        let without = TOML.replace("tolerance = 10\n", "");
+        let column = TARGETS.replace("z\n", "z,tolerance\n").replace("A,1,0,0", "A,1,0,0,nan").replace("B,0,1,0", "B,0,1,0,-NaN");
+        for (toml, targets) in
+            [(TOML.replace("10", "nan"), TARGETS), (TOML.replace("10", "[nan, -nan]"), TARGETS), (without, column.as_str())]
+        {
+            let plan = plan(&toml, targets, EPHEMERIS).unwrap();
+            assert_eq!([1, 2].map(|version| settings(version, &plan)), old, "{}", toml);
+        }
+    }
+    /// Bytes put together by another program.
+    #[test]
+    fn tolerances_that_differ_are_all_hashed() {
+        let read = |tolerance: &str| plan(&TOML.replace("10", tolerance), TARGETS, EPHEMERIS).unwrap();
+        // 1, 0, 0; 2, 10.0, NaN; 3, 0.0, 1.0, 0.0; 0.
+        assert_eq!(settings(2, &read("[10, nan]")), "e934991011da3d711366f3316cc99451ea276b79f88bee9dfbcc46e5ee9636d0");
+        let folder = tempfile::tempdir().unwrap();
+        let journal = folder.path().join("j");
+        for (then, now) in [
+            ("10", "[10, 11]"),
+            ("[10, 11]", "10"),
+            ("[10, 11]", "[10, 11.000000000000002]"),
+            ("[10, 0.0]", "[10, -0.0]"),
+            ("[10, nan]", "[10, 10]"),
+            ("[10, 11]", "[11, 10]"),
+        ] {
+            Digest::of(&read(then)).write(&journal).unwrap();
+            assert!(is_known(&read(then), &journal).unwrap());
+            let fault = is_known(&read(now), &journal).unwrap_err();
+            assert!(fault.to_string().starts_with("plan.toml: its numbers are not those"), "{} {}: {}", then, now, fault);
+        }
+        // Nothing that version 1 can say is the digest of tolerances that differ.
+        for one in ["10", "11", "[10, 10]", "0"] {
+            fs::write(Digest::path(&journal), Digest::by(1, &read(one)).text()).unwrap();
+            assert!(is_known(&read("[10, 11]"), &journal).is_err());
+        }
+        assert!((0..2).all(|i| Digest::of(&read("[10, 11]")).digests[i + 1] == Digest::of(&read("10")).digests[i + 1]));
+    }
+    #[test]
+    fn a_column_that_changed_names_its_file() {
+        let toml = TOML.replace("tolerance = 10\n", "");
+        let column = |a: &str, b: &str| format!("name,x,y,z,tolerance\nA,1,0,0,{}\nB,0,1,0,{}\n", a, b);
+        let folder = tempfile::tempdir().unwrap();
+        let journal = folder.path().join("j");
+        Digest::of(&plan(&toml, column("10", "11"), EPHEMERIS).unwrap()).write(&journal).unwrap();
+        let written = fs::read_to_string(Digest::path(&journal)).unwrap();
+        let list = plan(TOML.replace("10", "[10, 11]"), TARGETS, EPHEMERIS).unwrap();
+        assert_eq!(Digest::of(&list).text(), written);
+        for (targets, files) in [
+            (column("10", "12"), "plan.toml or the column `tolerance` of t.csv: its numbers"),
+            (column("12", "11"), "plan.toml or the column `tolerance` of t.csv: its numbers"),
+            (column("10", "12").replace("0,1,0", "0,0,1"), "plan.toml or the column `tolerance` of t.csv, t.csv: its numbers"),
+            (column("10", "11").replace("0,1,0", "0,0,1"), "t.csv: its numbers"),
+        ] {
+            let fault = is_known(&plan(&toml, &targets, EPHEMERIS).unwrap(), &journal).unwrap_err();
+            assert!(fault.status() == 3 && fault.to_string().starts_with(files), "{}", fault);
+        }
+    }
+    #[test]
+    fn without_targets_the_tolerance_is_hashed_as_zero() {
+        let read = |tolerance: &str| plan(&TOML.replace("10", tolerance), "name,x,y,z\n", EPHEMERIS).unwrap();
+        let zero = Digest::of(&plan(&TOML.replace("10", "0"), TARGETS, EPHEMERIS).unwrap());
+        for tolerance in ["10", "nan", "-0.0", "[]"] {
+            assert_eq!(Digest::of(&read(tolerance)).digests[0], zero.digests[0]);
         }
     }
 

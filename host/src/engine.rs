@@ -9,7 +9,7 @@ fn lent(plan: &Plan) -> wilfnusk::Plan<'_> {
         targets: &plan.targets,
         suns: &plan.suns,
         observers: &plan.observers,
-        tolerance_deg: plan.tolerance,
+        tolerances: &plan.tolerances,
         roll_deg: plan.configured_roll,
         panel_normal: plan.panel,
     }

@@ -17,7 +17,8 @@ ephemeris = \"ephemeris.csv\"    # time, Sun x, y, z and observer x, y, z (here 
 # The bus settles at 24 rolls, 15 degrees apart. A target may be looked at while one of
 # them is within 5 degrees of the roll that faces the panel to the Sun.
 rolls = 24                     # tried at every cell: 0, 15, 30, .. 345 degrees
-tolerance = 5                  # degrees
+tolerance = 5                  # degrees, for all targets; or a list with one number a target, [5, 3, ..];
+                               # or leave this key out and give targets.csv a column `tolerance`
 panel = [0, 1, 0]              # panel normal in the body's axes: x boresight; at roll 0 y east, z north
 
 # With a configured roll every sample is that roll, and `windows --evaluate`
@@ -134,6 +135,27 @@ mod tests {
         let plan = read();
         let (ra, dec): (Vec<_>, Vec<_>) = TARGETS.iter().map(|&(_, ra, dec)| (ra, dec)).unzip();
         assert_eq!(plan.targets, engine::unit_vectors(&ra, &dec).unwrap());
+    }
+    /// What its comment says of the tolerance may be done.
+    #[test]
+    fn its_tolerance_may_be_told_by_target() {
+        let key = "tolerance = 5 ";
+        assert!(PLAN.contains("a list with one number a target, [5, 3, ..]") && PLAN.contains("give targets.csv a column `tolerance`"));
+        let folder = tempfile::tempdir().unwrap();
+        write(folder.path()).unwrap();
+        let read = |toml: String, targets: String| {
+            fs::write(folder.path().join("plan.toml"), toml).unwrap();
+            fs::write(folder.path().join("targets.csv"), targets).unwrap();
+            let plan = Plan::read(&folder.path().join("plan.toml")).unwrap();
+            engine::check(&plan).unwrap();
+            plan.tolerances
+        };
+        let own: Vec<f64> = (0..TARGETS.len()).map(|i| 5.0 - 2.0 * (i % 2) as f64).collect();
+        assert_eq!(read(PLAN.to_owned(), targets()), vec![5.0; TARGETS.len()]);
+        assert_eq!(read(PLAN.replace(key, &format!("tolerance = {:?} ", own)), targets()), own);
+        let lines = targets();
+        let rows = lines.lines().skip(1).zip(&own).map(|(line, t)| format!("{},{}\n", line, t));
+        assert_eq!(read(PLAN.replace(key, "# "), format!("name,ra,dec,tolerance\n{}", rows.collect::<String>())), own);
     }
     #[test]
     fn is_a_plan() {

@@ -7,7 +7,8 @@ use crate::{
     journal::{chunk_of, hex, lines},
     plan::{Plan, VECTOR_COLUMNS},
     sheet::Sheet,
-    text::{grouped, quoted},
+    text::{counted, grouped, quoted},
+    tolerance,
 };
 use std::path::{Path, PathBuf};
 
@@ -47,16 +48,33 @@ pub fn plan(plan: &Plan, refusal: Refusal) -> Fault {
                 format!("{}: time reads `{}`; allowed: {} to {}", field.at(), field.shown(), first, last)
             })
         }
-        // A severity is the difference less the tolerance, and may not be infinite.
-        14 => Some(format!(
-            "{}: tolerance reads {}, and the severities at the configured roll would be infinite; allowed with --evaluate: \
-             any number but -inf",
+        // Only of a list: a column has one entry a target, and one number is taken for each.
+        17 => Some(format!(
+            "{}: tolerance lists {}, and {} has {}; allowed: {}",
             plan.at("tolerance"),
-            plan.tolerance
+            counted(plan.tolerances.len(), "number"),
+            plan.targets_sheet.source.path.display(),
+            counted(plan.names.len(), "target"),
+            tolerance::ALLOWED
         )),
         _ => None,
     };
     Fault::Refused(refusal.number(), found.unwrap_or_else(|| refusal.sentence().to_owned()))
+}
+
+/// A refusal of the listing of one target's windows.
+pub fn row(p: &Plan, target: usize, refusal: Refusal) -> Fault {
+    match refusal.number() {
+        // A severity is the difference less the tolerance, and may not be infinite.
+        14 => Fault::Refused(
+            14,
+            format!(
+                "{}, and the severities at the configured roll would be infinite; allowed with --evaluate: any number but -inf",
+                tolerance::reads(p, target)
+            ),
+        ),
+        _ => plan(p, refusal),
+    }
 }
 
 /// A refusal of the targets' catalogue positions, which are made vectors before there is a plan.
@@ -183,7 +201,7 @@ const FIELDS: [(&str, usize); 9] = [
     ("targets", 8),
     ("times", 8),
     ("rolls", 8),
-    ("tolerance", 16),
+    ("first tolerance", 16),
     ("whether a roll is configured", 2),
     ("configured roll", 16),
     ("panel x", 16),
@@ -279,6 +297,9 @@ mod tests {
     #[test]
     fn a_wrong_header_is_told_by_field() {
         assert!(said(|j| j[23] ^= 1).contains("line 1, column 17: rolls reads 00000009 (9); this plan's is 00000008 (8)"));
+        let first =
+            "line 1, column 25: first tolerance reads 402e000000000001 (15.000000000000002); this plan's is 402e000000000000 (15.0)";
+        assert!(said(|j| j[39] ^= 1).contains(first));
         assert!(said(|j| j[30] = b'G').contains("line 1, column 31: byte 0x47; allowed: 0 to 9 and a to f"));
         assert!(said(|j| j[106] = b' ').contains("line 1, column 107: byte 0x20; allowed: 0x0a"));
         assert!(!said(|j| j[23] ^= 1).contains("salvage"));

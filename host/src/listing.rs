@@ -5,7 +5,8 @@ use crate::{
     instant,
     plan::Plan,
     selection::Selected,
-    text::{counted, grouped, printable},
+    text::{counted, grouped, number, printable},
+    tolerance,
 };
 use serde::{Serialize, Serializer};
 use std::{
@@ -38,6 +39,7 @@ pub struct Listed {
 
 pub struct Row<'a> {
     pub name: &'a str,
+    pub tolerance: f64,
     /// Both kinds, by their first sample.
     pub windows: Vec<Listed>,
     /// Clear samples that rule V has in no window, as they stand alone and are not the last.
@@ -93,15 +95,18 @@ pub struct Listing<'a> {
     pub probes: Option<u64>,
 }
 
+/// The target whose windows were refused, and why.
+pub type RowRefusal = (usize, Refusal);
+
 impl<'a> Listing<'a> {
     /// The windows of a sweep's mask. Their severities are zero.
-    pub fn of_mask(plan: &'a Plan, selected: Selected, mask: &[u8], probes: u64) -> Result<Listing<'a>, Refusal> {
+    pub fn of_mask(plan: &'a Plan, selected: Selected, mask: &[u8], probes: u64) -> Result<Listing<'a>, RowRefusal> {
         let times = plan.times.len();
         let row = |i| Ok((mask[i * times..(i + 1) * times].to_vec(), vec![0.0; times]));
         Listing::of(plan, selected, Some(probes), row)
     }
     /// The windows and severities at the configured roll.
-    pub fn of_configured_roll(plan: &'a Plan, selected: Selected) -> Result<Listing<'a>, Refusal> {
+    pub fn of_configured_roll(plan: &'a Plan, selected: Selected) -> Result<Listing<'a>, RowRefusal> {
         Listing::of(plan, selected, None, |i| engine::evaluate(plan, i))
     }
     fn of(
@@ -109,17 +114,21 @@ impl<'a> Listing<'a> {
         selected: Selected,
         probes: Option<u64>,
         mask_and_severities: impl Fn(usize) -> Result<(Vec<u8>, Vec<f64>), Refusal>,
-    ) -> Result<Listing<'a>, Refusal> {
+    ) -> Result<Listing<'a>, RowRefusal> {
         let mut rows = Vec::with_capacity(selected.targets.len());
         for &i in &selected.targets {
-            let (mask, severities) = mask_and_severities(i)?;
-            rows.push(Row::of(plan, &selected, i, &mask, &severities)?);
+            let row = mask_and_severities(i).and_then(|(mask, severities)| Row::of(plan, &selected, i, &mask, &severities));
+            rows.push(row.map_err(|refusal| (i, refusal))?);
         }
         let all = Totals::of_all(rows.iter().map(|row| &row.totals));
         Ok(Listing { plan, selected, rows, all, probes })
     }
     pub fn has_severities(&self) -> bool {
         self.probes.is_none()
+    }
+    /// Whether each target is shown with its tolerance, as one does not hold for all.
+    pub fn has_tolerances(&self) -> bool {
+        tolerance::common(&self.plan.tolerances).is_none()
     }
     /// What is listed of the plan, if it is not all of it.
     pub fn part(&self) -> Option<String> {
@@ -159,6 +168,9 @@ impl<'a> Listing<'a> {
         let columns = Columns::of(self);
         for row in &self.rows {
             writeln!(out, "{}", printable(row.name))?;
+            if self.has_tolerances() {
+                writeln!(out, "  tolerance {}", number(row.tolerance))?;
+            }
             row.totals.lines(&mut out)?;
             for listed in &row.windows {
                 writeln!(out, "{}", columns.line(listed))?;
@@ -220,7 +232,7 @@ impl<'a> Listing<'a> {
         let time = |t| instant::format(t, 9);
         let json = Json {
             rolls: p.rolls,
-            tolerance_deg: Degrees(p.tolerance),
+            tolerance_deg: tolerance::common(&p.tolerances).map(Degrees),
             configured_roll_deg: p.configured_roll.map(Degrees),
             panel_normal: p.panel,
             samples: p.times.len(),
@@ -243,6 +255,7 @@ impl<'a> Listing<'a> {
                 .iter()
                 .map(|row| JsonRow {
                     name: row.name,
+                    tolerance_deg: Degrees(row.tolerance),
                     totals: &row.totals,
                     visible: row.json(Kind::Visible),
                     violated: row.json(Kind::Violated),
@@ -292,7 +305,7 @@ impl<'a> Row<'a> {
             single_clear_samples: single.len(),
         };
         listed.sort_by_key(|l| l.window.first);
-        Ok(Row { name: &plan.names[i], windows: listed, single, totals })
+        Ok(Row { name: &plan.names[i], tolerance: plan.tolerances[i], windows: listed, single, totals })
     }
     fn json(&self, kind: Kind) -> Vec<JsonWindow> {
         self.windows.iter().filter(|l| l.kind == kind).map(JsonWindow::of).collect()
@@ -412,7 +425,8 @@ impl Serialize for Degrees {
 #[derive(Serialize)]
 struct Json<'a> {
     rolls: u64,
-    tolerance_deg: Degrees,
+    /// None where the targets have different ones.
+    tolerance_deg: Option<Degrees>,
     configured_roll_deg: Option<Degrees>,
     panel_normal: [f64; 3],
     samples: usize,
@@ -435,6 +449,7 @@ struct JsonPart {
 #[derive(Serialize)]
 struct JsonRow<'a> {
     name: &'a str,
+    tolerance_deg: Degrees,
     totals: &'a Totals,
     visible: Vec<JsonWindow>,
     violated: Vec<JsonWindow>,

@@ -13,7 +13,7 @@ use crate::{
     say,
     selection::{self, Selected, Selection},
     text::{all_ranges, counted, grouped, number, printable, ranges},
-    Files,
+    tolerance, Files,
 };
 use clap::{Args, ValueEnum};
 use serde::Serialize;
@@ -44,11 +44,11 @@ impl Windows {
             if plan.configured_roll.is_none() {
                 return Err(Fault::Usage(format!("--evaluate: {} has no configured_roll", plan.path().display())));
             }
-            let listing = Listing::of_configured_roll(&plan, selected).map_err(|r| explain::plan(&plan, r))?;
+            let listing = Listing::of_configured_roll(&plan, selected).map_err(|(i, r)| explain::row(&plan, i, r))?;
             return self.outputs.write(&listing);
         }
         let (mask, probes) = swept(&plan, &path)?;
-        let listing = Listing::of_mask(&plan, selected, &mask, probes).map_err(|r| explain::plan(&plan, r))?;
+        let listing = Listing::of_mask(&plan, selected, &mask, probes).map_err(|(i, r)| explain::row(&plan, i, r))?;
         self.outputs.write(&listing)
     }
 }
@@ -89,7 +89,9 @@ struct State {
     times: usize,
     cells: usize,
     rolls: u64,
-    tolerance_deg: Degrees,
+    /// None where the targets have different ones, or there are none; the list then has them.
+    tolerance_deg: Option<Degrees>,
+    tolerances_deg: Option<Vec<Degrees>>,
     configured_roll_deg: Option<Degrees>,
     panel_normal: [f64; 3],
     journal: String,
@@ -116,13 +118,15 @@ impl Status {
         let read = bytes.as_deref().unwrap_or(&[]);
         let keep = engine::recover(&plan, read).map_err(|r| explain::journal(&plan, &path, read, r))?;
         let has_line = done(&read[..keep], plan.chunks());
+        let one_tolerance = tolerance::common(&plan.tolerances);
         let mut state = State {
             plan: plan.path().display().to_string(),
             targets: plan.names.len(),
             times: plan.times.len(),
             cells: plan.cells(),
             rolls: plan.rolls,
-            tolerance_deg: Degrees(plan.tolerance),
+            tolerance_deg: one_tolerance.map(Degrees),
+            tolerances_deg: one_tolerance.is_none().then(|| plan.tolerances.iter().copied().map(Degrees).collect()),
             configured_roll_deg: plan.configured_roll.map(Degrees),
             panel_normal: plan.panel,
             journal: path.display().to_string(),
@@ -195,7 +199,7 @@ pub fn about(plan: &Plan) -> String {
         counted(plan.cells(), "cell"),
         counted(plan.chunks(), "chunk"),
         counted(plan.rolls, "roll"),
-        number(plan.tolerance),
+        tolerance::in_words(&plan.tolerances, ""),
         plan.panel,
         plan.configured_roll.map_or("none".to_owned(), number),
     )
@@ -336,7 +340,8 @@ mod tests {
             times: 100,
             cells: 300,
             rolls: 8,
-            tolerance_deg: Degrees(15.0),
+            tolerance_deg: Some(Degrees(15.0)),
+            tolerances_deg: None,
             configured_roll_deg: None,
             panel_normal: [0.0, 1.0, 0.0],
             journal: "j".into(),

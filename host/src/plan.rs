@@ -6,6 +6,7 @@ use crate::{
     sheet::{Form, Sheet},
     source::{shown, Source},
     text::{excerpt, grouped},
+    tolerance::{self, Told},
 };
 use serde::de::{Deserialize, Deserializer, MapAccess, Visitor};
 use std::{
@@ -19,9 +20,11 @@ use toml::{value::Value, Spanned};
 pub const CATALOGUE_COLUMNS: Form = &["name", "ra", "dec"];
 pub const VECTOR_COLUMNS: Form = &["name", "x", "y", "z"];
 pub const EPHEMERIS_COLUMNS: Form = &["time", "sun_x", "sun_y", "sun_z", "observer_x", "observer_y", "observer_z"];
+/// A target's tolerance may stand beside its position.
+const TOLERANCE_COLUMN: &str = "tolerance";
 const KEYS: &[&str] = &["targets", "ephemeris", "rolls", "tolerance", "panel", "configured_roll"];
-/// Far more than six keys and their comments take.
-const MOST_BYTES: u64 = 1 << 20;
+/// A list of 65,536 tolerances, each with all its digits, and far more than the other keys and their comments take.
+const MOST_BYTES: u64 = 1 << 21;
 /// How deep a value may stand in others: the TOML reader calls itself for each.
 const MOST_DEPTH: usize = 16;
 
@@ -31,7 +34,9 @@ pub struct Plan {
     pub targets_file: String,
     pub ephemeris_file: String,
     pub rolls: u64,
-    pub tolerance: f64,
+    /// In degrees, one a target. A list of another length is read too; the library refuses it with 17.
+    pub tolerances: Vec<f64>,
+    pub told: Told,
     pub configured_roll: Option<f64>,
     pub panel: [f64; 3],
     pub names: Vec<String>,
@@ -55,7 +60,7 @@ impl Plan {
         let targets_file = values.file("targets")?;
         let ephemeris_file = values.file("ephemeris")?;
         let rolls = values.rolls()?;
-        let tolerance = values.tolerance()?;
+        let tolerance_key = values.tolerance()?;
         let panel = values.panel()?;
         let configured_roll = values.number("configured_roll")?;
         let places = values.places;
@@ -72,19 +77,23 @@ impl Plan {
                 Err(e) => Err(files::fault(&path, &e)),
             }
         };
-        let targets_sheet = Sheet::read(&beside("targets", &targets_file)?, &[CATALOGUE_COLUMNS, VECTOR_COLUMNS])?;
-        let ephemeris_sheet = Sheet::read(&beside("ephemeris", &ephemeris_file)?, &[EPHEMERIS_COLUMNS])?;
+        let targets_sheet = Sheet::read(&beside("targets", &targets_file)?, &[CATALOGUE_COLUMNS, VECTOR_COLUMNS], &[TOLERANCE_COLUMN])?;
+        let (told, of_key) = told(&source, tolerance_key, &targets_sheet)?;
+        let ephemeris_sheet = Sheet::read(&beside("ephemeris", &ephemeris_file)?, &[EPHEMERIS_COLUMNS], &[])?;
         let is_catalogue = targets_sheet.form() == CATALOGUE_COLUMNS;
-        let (mut names, mut ra, mut dec, mut vectors) = (Vec::new(), Vec::new(), Vec::new(), Vec::new());
+        let (mut names, mut ra, mut dec, mut vectors, mut of_column) = (Vec::new(), Vec::new(), Vec::new(), Vec::new(), Vec::new());
         for fields in targets_sheet.fields() {
             names.push(fields[0].text().to_owned());
             if is_catalogue {
                 ra.push(fields[1].degrees()?);
                 dec.push(fields[2].degrees()?);
             } else {
-                for f in &fields[1..] {
+                for f in &fields[1..4] {
                     vectors.push(f.number()?);
                 }
+            }
+            if let Told::Column(column) = told {
+                of_column.push(fields[column].tolerance()?);
             }
         }
         let (mut times, mut suns, mut observers) = (Vec::new(), Vec::new(), Vec::new());
@@ -105,6 +114,11 @@ impl Plan {
                 observers.push(f.number()?);
             }
         }
+        let tolerances = match told {
+            Told::Number => of_key.repeat(names.len()),
+            Told::List => of_key,
+            Told::Column(_) => of_column,
+        };
         // The library is asked once all files are read, as it is of the rest of the plan.
         let targets = match is_catalogue {
             true => engine::unit_vectors(&ra, &dec).map_err(|refusal| explain::catalogue(&targets_sheet, refusal))?,
@@ -115,7 +129,8 @@ impl Plan {
             targets_file,
             ephemeris_file,
             rolls,
-            tolerance,
+            tolerances,
+            told,
             configured_roll,
             panel,
             names,
@@ -176,6 +191,22 @@ impl Plan {
     }
     pub fn chunks(&self) -> usize {
         (self.cells() + wilfnusk::CHUNK_CELLS as usize - 1) / wilfnusk::CHUNK_CELLS as usize
+    }
+}
+
+/// Which way gives the tolerances, the key or the column and not both, and the key's numbers.
+fn told(source: &Source, key: Option<(Read, Told, Vec<f64>)>, targets: &Sheet) -> Result<(Told, Vec<f64>), Fault> {
+    match (key, targets.column(TOLERANCE_COLUMN)) {
+        (Some((_, told, numbers)), None) => Ok((told, numbers)),
+        (None, Some(column)) => Ok((Told::Column(column), Vec::new())),
+        (Some((read, ..)), Some(column)) => {
+            let both = format!("tolerance reads {}, and {} names a column `tolerance` too", read.text, targets.column_at(column));
+            Err(source.fault(read.at, both, "one of the two: remove this key, or remove or rename that column"))
+        }
+        (None, None) => {
+            let allowed = format!("{}, or a column `tolerance` in {}", tolerance::ALLOWED, shown(&targets.source.path));
+            Err(source.fault(0, "`tolerance` is missing", &allowed))
+        }
     }
 }
 
@@ -276,14 +307,22 @@ impl<'a> Values<'a> {
             _ => Err(self.wrong("rolls", &read, ALLOWED)),
         }
     }
-    fn tolerance(&mut self) -> Result<f64, Fault> {
-        const ALLOWED: &str = "one number of degrees for all targets";
-        let read = self.needed("tolerance", ALLOWED)?;
-        match number(&read.value) {
-            Some(x) => Ok(x),
-            None if read.value.is_array() => Err(self.later("tolerance", &read, "a tolerance for each target", ALLOWED)),
-            None => Err(self.wrong("tolerance", &read, ALLOWED)),
+    /// One number or a list of them, and what stands there.
+    fn tolerance(&mut self) -> Result<Option<(Read, Told, Vec<f64>)>, Fault> {
+        let read = match self.optional("tolerance") {
+            None => return Ok(None),
+            Some(read) => read,
+        };
+        if let Some(x) = number(&read.value) {
+            return Ok(Some((read, Told::Number, vec![x])));
         }
+        let items = read.value.as_array().ok_or_else(|| self.wrong("tolerance", &read, tolerance::ALLOWED))?;
+        let numbers: Vec<_> = items.iter().map_while(number).collect();
+        if numbers.len() < items.len() {
+            let wrong = format!("tolerance reads {}, and its entry {} is no number", read.text, grouped(numbers.len() + 1));
+            return Err(self.source.fault(read.at, wrong, tolerance::ALLOWED));
+        }
+        Ok(Some((read, Told::List, numbers)))
     }
     fn panel(&mut self) -> Result<[f64; 3], Fault> {
         const ALLOWED: &str = "one panel normal of three numbers, such as [0, 1, 0]";
@@ -392,6 +431,7 @@ pub mod tests {
     const TARGETS: &str = "name,x,y,z\nA,1,0,0\n";
     const CATALOGUE: &str = "name,ra,dec\nA,10,-20.5\n";
     const OUTSIDE: &str = "name,ra,dec\nA,360,-20.5\n\"B\",360,95\n";
+    const COLUMN: &str = "name,ra,dec,tolerance\nA,360,-20.5,5\n\"B\",360,9,nan\n";
     const EPHEMERIS: &str = "time,sun_x,sun_y,sun_z,observer_x,observer_y,observer_z\n\
         2026-03-20T00:00:00Z,0,1,0,0,0,0\n2026-03-20T00:01:00Z,0,0,1,0,0,0\n";
     const TOML: &str = "targets = \"t.csv\"\nephemeris = \"e.csv\"\nrolls = 1\ntolerance = 1\n";
@@ -428,13 +468,13 @@ pub mod tests {
     #[test]
     fn a_plan() {
         let p = with("rolls = 1\ntolerance = 10\n").unwrap();
-        assert_eq!((p.rolls, p.tolerance, p.configured_roll, p.panel), (1, 10.0, None, [0.0, 1.0, 0.0]));
+        assert_eq!((p.rolls, &p.tolerances[..], p.configured_roll, p.panel), (1, &[10.0][..], None, [0.0, 1.0, 0.0]));
         assert_eq!((p.names.len(), p.times.len(), p.cells(), p.chunks()), (1, 2, 2, 1));
         assert_eq!(p.suns, [0.0, 1.0, 0.0, 0.0, 0.0, 1.0]);
         assert!(p.at("tolerance").ends_with("plan.toml, line 4, column 13"));
         assert!(p.journal().ends_with("plan.journal"));
         let p = with("rolls = 1\ntolerance = nan\nconfigured_roll = -inf\npanel = [[1, 0.5, -0.0]]").unwrap();
-        assert!(p.tolerance.is_nan());
+        assert!(p.tolerances[0].is_nan());
         assert_eq!(p.configured_roll, Some(f64::NEG_INFINITY));
         assert_eq!(p.panel, [1.0, 0.5, -0.0]);
     }
@@ -453,14 +493,13 @@ pub mod tests {
         assert!(fault("rolls = [0, 90]\ntolerance = 1").starts_with(
             "plan.toml, line 3, column 9: rolls reads [0, 90]: a table of rolls cannot be swept yet; allowed: a whole number"
         ));
-        assert!(fault("rolls = 1\ntolerance = [1, 2]").contains("a tolerance for each target cannot be swept yet"));
         assert!(fault("rolls = 1\ntolerance = 1\npanel = [[0, 1, 0], [0, 0, 1]]").contains("several panels cannot be swept yet"));
     }
     #[test]
     fn wrong_settings() {
         for (settings, says) in [
             ("tolerance = 1", "plan.toml, line 1, column 1: `rolls` is missing; allowed: a whole number of rolls, 1 to 3600"),
-            ("rolls = 1", "plan.toml, line 1, column 1: `tolerance` is missing; allowed: one number of degrees for all targets"),
+            ("rolls = 1", "plan.toml, line 1, column 1: `tolerance` is missing; allowed: one number of degrees for all targets, or a list"),
             ("rolls = -1\ntolerance = 1", "plan.toml, line 3, column 9: rolls reads -1; allowed: a whole number"),
             ("rolls = 1.5\ntolerance = 1", "plan.toml, line 3, column 9: rolls reads 1.5; allowed: a whole number"),
             ("rolls = 1\ntolerance = \"2\"", "plan.toml, line 4, column 13: tolerance reads \"2\"; allowed: one number"),
@@ -472,6 +511,141 @@ pub mod tests {
         ] {
             let text = fault(settings);
             assert!(text.starts_with(says), "{}", text);
+        }
+    }
+    const THREE: &str = "name,x,y,z\nA,1,0,0\nB,0,1,0\nC,0,0,1\n";
+    const KEYS_BUT_TOLERANCE: &str = "targets = \"t.csv\"\nephemeris = \"e.csv\"\nrolls = 1\n";
+
+    #[test]
+    fn tolerances_by_a_number_a_list_or_a_column() {
+        let read = |tolerance: &str, targets: &str| {
+            let p = plan(format!("{}{}\n", KEYS_BUT_TOLERANCE, tolerance), targets, EPHEMERIS).unwrap();
+            engine::check(&p).unwrap();
+            (p.told, bits(&p.tolerances), p.targets.len())
+        };
+        let five = bits(&[5.0, 5.0, 5.0]);
+        let different = bits(&[-1.0, f64::NAN, 0.25]);
+        assert_eq!(read("tolerance = 5", THREE), (Told::Number, five.clone(), 9));
+        assert_eq!(read("tolerance = [5, 5.0, 5e0]", THREE), (Told::List, five, 9));
+        assert_eq!(read("tolerance = [\n -1, # a field\n nan,\n 0.25,\n]", THREE), (Told::List, different.clone(), 9));
+        for targets in [
+            "name,x,y,z,tolerance\nA,1,0,0,-1\nB,0,1,0,nan\nC,0,0,1,0.25\n",
+            "Tolerance , z,mag,name,y,x\n-1.0,0,,A,0,1\n NaN ,0,,B,1,0\n\"2.5e-1\",1,,C,0,0\n",
+        ] {
+            assert_eq!(read("", targets), (Told::Column(4), different.clone(), 9), "{}", targets);
+        }
+        for targets in
+            ["name,ra,dec,tolerance\nA,0,0,-1\nB,90,0,nan\nC,0,90,0.25\n", "dec,tolerance,ra,name\n0,-1,0,A\n0,nan,90,B\n90,0.25,0,C\n"]
+        {
+            assert_eq!(read("", targets), (Told::Column(3), different.clone(), 9), "{}", targets);
+        }
+        let infinite = bits(&[f64::INFINITY, f64::NEG_INFINITY, -0.0]);
+        assert_eq!(read("tolerance = [inf, -inf, -0.0]", THREE), (Told::List, infinite.clone(), 9));
+        let column = THREE.replace("z\n", "z,tolerance\n").replace("0,0\n", "0,0,inf\n").replace("1,0\n", "1,0,-inf\n");
+        assert_eq!(read("", &column.replace("0,1\n", "0,1,-0\n")), (Told::Column(4), infinite, 9));
+        // Without targets there is nothing to tell a tolerance of, and each way may tell it.
+        for (tolerance, targets, told) in [
+            ("tolerance = 5", "name,x,y,z\n", Told::Number),
+            ("tolerance = []", "name,x,y,z\n", Told::List),
+            ("", "name,x,y,z,tolerance\n", Told::Column(4)),
+        ] {
+            assert_eq!(read(tolerance, targets), (told, vec![], 0));
+        }
+    }
+    #[test]
+    fn a_tolerance_for_each_of_the_most_targets() {
+        let number = "-2.2250738585072014e-308";
+        let list = vec![number; 65_536].join(",\n");
+        let targets = format!("name,x,y,z\n{}", "A,1,0,0\n".repeat(65_536));
+        let p = plan(format!("{}tolerance = [{}]\n", KEYS_BUT_TOLERANCE, list), targets, EPHEMERIS).unwrap();
+        engine::check(&p).unwrap();
+        assert_eq!(p.tolerances, [-2.2250738585072014e-308].repeat(65_536));
+    }
+    /// What is said of a plan with this line for the tolerance and these targets.
+    fn tolerance_fault(line: &str, targets: &str) -> (i32, String) {
+        let read = plan(format!("{}{}\n", KEYS_BUT_TOLERANCE, line), targets, EPHEMERIS);
+        let fault = match read {
+            Ok(p) => explain::plan(&p, engine::check(&p).unwrap_err()),
+            Err(fault) => fault,
+        };
+        // The folder's name stands before that of each file.
+        let mut text = fault.to_string();
+        for file in ["plan.toml", "t.csv"] {
+            let words: Vec<_> = text.split(' ').map(|word| word.find(file).map_or(word, |at| &word[at..])).collect();
+            text = words.join(" ");
+        }
+        (fault.status(), text)
+    }
+    #[test]
+    fn a_list_of_another_length_is_refused_with_17_and_told_at_the_key() {
+        const ALLOWED: &str = "allowed: one number of degrees for all targets, or a list with one for each";
+        for (list, targets, counts) in [
+            ("[]", THREE, "0 numbers, and t.csv has 3 targets"),
+            ("[5]", THREE, "1 number, and t.csv has 3 targets"),
+            ("[5, 5]", THREE, "2 numbers, and t.csv has 3 targets"),
+            ("[5, 5, 5, 5]", THREE, "4 numbers, and t.csv has 3 targets"),
+            ("[1, 2]", TARGETS, "2 numbers, and t.csv has 1 target"),
+            ("[1]", "name,ra,dec\n", "1 number, and t.csv has 0 targets"),
+        ] {
+            let says = format!("refused with 17: plan.toml, line 4, column 13: tolerance lists {}; {}", counts, ALLOWED);
+            assert_eq!(tolerance_fault(&format!("tolerance = {}", list), targets), (1, says));
+        }
+        // What the library asks before it.
+        let first = |toml: &str, targets: &str| tolerance_fault(toml, targets).1;
+        assert!(first("tolerance = [1]", "name,x,y,z\nA,1.5,0,0\nB,0,1,0\n").starts_with("refused with 5: t.csv, line 2, column 3: "));
+        assert!(first("tolerance = [1, 2]\npanel = [0, inf, 0]", TARGETS).starts_with("refused with 6: plan.toml, line 5, column 9: "));
+    }
+    #[test]
+    fn a_tolerance_told_twice_or_not_at_all() {
+        const COLUMN: &str = "name,x,tolerance,y,z\nA,1,5,0,0\n";
+        for (line, targets, says) in [
+            (
+                "tolerance = 5",
+                COLUMN,
+                "plan.toml, line 4, column 13: tolerance reads 5, and t.csv, line 1, column 8 names a column `tolerance` too; \
+                 allowed: one of the two: remove this key, or remove or rename that column",
+            ),
+            (
+                "tolerance = [5]",
+                "# of\nname,ra,dec,TOLERANCE\nA,1,0,\n",
+                "plan.toml, line 4, column 13: tolerance reads [5], and t.csv, line 2, column 13 names a column `tolerance` too; \
+                 allowed: one of the two: remove this key, or remove or rename that column",
+            ),
+            (
+                "",
+                TARGETS,
+                "plan.toml, line 1, column 1: `tolerance` is missing; allowed: one number of degrees for all targets, or a list with one \
+                 for each, or a column `tolerance` in t.csv",
+            ),
+            (
+                "",
+                "name,x,y,z,tolerance\nA,1,0,0,5\nB,1,0,0,\n",
+                "t.csv, line 3, column 9: tolerance reads ``; allowed: degrees of roll as one number, such as 5 or 0.25",
+            ),
+            (
+                "",
+                "tolerance,name,ra,dec\nwide,A,1,0\n",
+                "t.csv, line 2, column 1: tolerance reads `wide`; allowed: degrees of roll as one number, such as 5 or 0.25",
+            ),
+            (
+                "tolerance = [5, \"6\", 7]",
+                THREE,
+                "plan.toml, line 4, column 13: tolerance reads [5, \"6\", 7], and its entry 2 is no number; allowed: one number of degrees for \
+                 all targets, or a list with one for each",
+            ),
+            (
+                "tolerance = [[5], [6], [7]]",
+                THREE,
+                "plan.toml, line 4, column 13: tolerance reads [[5], [6], [7]], and its entry 1 is no number; allowed: one number of degrees \
+                 for all targets, or a list with one for each",
+            ),
+            (
+                "tolerance = true",
+                THREE,
+                "plan.toml, line 4, column 13: tolerance reads true; allowed: one number of degrees for all targets, or a list with one for each",
+            ),
+        ] {
+            assert_eq!(tolerance_fault(line, targets), (3, says.to_owned()));
         }
     }
     #[test]
@@ -626,7 +800,7 @@ pub mod tests {
         let text = says(huge.to_str().unwrap());
         assert!(text.ends_with("huge.csv: more than 67,108,864 bytes; allowed: at most that many"), "{}", text);
         let text = Plan::read(&huge).unwrap_err().to_string();
-        assert!(text.ends_with("huge.csv: more than 1,048,576 bytes; allowed: at most that many"), "{}", text);
+        assert!(text.ends_with("huge.csv: more than 2,097,152 bytes; allowed: at most that many"), "{}", text);
     }
     #[test]
     fn a_missing_file_is_named() {
@@ -653,11 +827,12 @@ pub mod tests {
     }
 
     /// What a reader may trip over, beside bytes that are no text.
+    #[rustfmt::skip]
     const PIECES: &[&str] = &[
         "[", "[[", "]", "{", "}", "=", ".", ",", "\"", "\"\"\"", "'", "'''", "\\", "\\u0000", "#", "\n", "\r", "\r\n", " ", "\t", "\0",
         "\u{1b}", "\u{a0}", "\u{3000}", "\u{feff}", "é", "targets", "rolls", "panel", "rolls=", "a.b", "0", "-1", "1.5", "1e999", "0x1f",
         "1_000", "nan", "-inf", "true", "A,1,0,0", "9e99", ";", "00:00Z", "99:99", "ra", "dec", ",x", "ra_deg", "A,1,0", "360", "-90",
-        "5h", "5:34:31", "°",
+        "5h", "5:34:31", "°", "tolerance", ",tolerance", "tolerance=", "[5, 6]", "[]",
     ];
     /// An angle within a range, at its ends, just beyond them, or any number.
     fn angle(least: f64, most: f64) -> impl Strategy<Value = f64> {
@@ -710,13 +885,19 @@ pub mod tests {
 
     proptest! {
         #[test]
-        fn a_changed_plan_is_read_or_refused(targets in prop::sample::select(&[TARGETS, CATALOGUE, OUTSIDE][..]), t in changes(), e in changes(), p in changes()) {
-            let toml = "targets = \"t.csv\"\nephemeris = \"e.csv\"\nrolls = 1\ntolerance = 10\npanel = [[0, 1, 0.5]]\n# ..\n";
-            let told = match plan(changed(toml, &p), changed(targets, &t), changed(EPHEMERIS, &e)) {
+        fn a_changed_plan_is_read_or_refused(targets in prop::sample::select(&[TARGETS, CATALOGUE, OUTSIDE, COLUMN][..]),
+                tolerance in prop::sample::select(&["tolerance = 10\n", "tolerance = [10, 20.5]\n", ""][..]), t in changes(), e in changes(), p in changes()) {
+            let toml = format!("targets = \"t.csv\"\nephemeris = \"e.csv\"\nrolls = 1\n{}panel = [[0, 1, 0.5]]\n# ..\n", tolerance);
+            let told = match plan(changed(&toml, &p), changed(targets, &t), changed(EPHEMERIS, &e)) {
                 Ok(plan) => {
                     Digest::of(&plan);
                     plan.warnings();
-                    engine::check(&plan).map_err(|refusal| explain::plan(&plan, refusal)).err()
+                    let refused = engine::check(&plan).map_err(|refusal| explain::plan(&plan, refusal)).err();
+                    if refused.is_none() {
+                        tolerance::nothing_violated(&plan);
+                        prop_assert_eq!(plan.tolerances.len(), plan.names.len());
+                    }
+                    refused
                 }
                 Err(e) => Some(e),
             };

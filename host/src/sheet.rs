@@ -20,10 +20,13 @@ pub type Form = &'static [&'static str];
 #[derive(Debug)]
 pub struct Sheet {
     pub source: Source,
-    /// The wanted columns, in the form that the file has.
-    names: Form,
+    form: Form,
+    /// The wanted columns: those of the form, then those that the file has beside it.
+    names: Vec<&'static str>,
     /// For each wanted column, its number in the file.
     columns: Vec<usize>,
+    /// The byte where the record starts that names the columns.
+    header: usize,
     /// The wanted columns of the first rows: one row more than is allowed, so that the library sees it and refuses.
     records: Vec<StringRecord>,
     rows: usize,
@@ -38,12 +41,12 @@ pub struct Field<'a> {
 }
 
 impl Sheet {
-    /// Reads a file with the columns of one of these forms, which may stand in any order and among others. A line that starts with # is a
-    /// comment.
-    pub fn read(path: &Path, forms: &[Form]) -> Result<Sheet, Fault> {
-        Sheet::of(Source::read(path, MOST_BYTES)?, forms)
+    /// Reads a file with the columns of one of these forms, which may stand in any order and among others. Those of `beside` are read too where
+    /// it has them. A line that starts with # is a comment.
+    pub fn read(path: &Path, forms: &[Form], beside: &[&'static str]) -> Result<Sheet, Fault> {
+        Sheet::of(Source::read(path, MOST_BYTES)?, forms, beside)
     }
-    pub fn of(mut source: Source, forms: &[Form]) -> Result<Sheet, Fault> {
+    pub fn of(mut source: Source, forms: &[Form], beside: &[&'static str]) -> Result<Sheet, Fault> {
         if !source.text.contains('\n') {
             // csv takes a carriage return for a line's end, but not for a comment's.
             source.text = source.text.replace('\r', "\n");
@@ -54,10 +57,11 @@ impl Sheet {
         let mut reader = builder().from_reader(text);
         let mut record = StringRecord::new();
         let mut next = |record: &mut StringRecord| reader.read_record(record).map_err(|e| csv_fault(&source, e));
-        let (names, columns) = match next(&mut record)? {
-            true => find(&source, &record, forms)?,
-            false => return Err(source.fault(0, "the file is empty", &allowed(forms))),
-        };
+        if !next(&mut record)? {
+            return Err(source.fault(0, "the file is empty", &allowed(forms)));
+        }
+        let header = start(&source, record.position());
+        let (form, names, columns) = find(&source, &record, forms, beside)?;
         let (mut records, mut rows) = (Vec::new(), 0);
         let mut last = record.position().cloned();
         while next(&mut record)? {
@@ -72,10 +76,18 @@ impl Sheet {
         if let Some(fault) = open_quote(&source, start(&source, last.as_ref())) {
             return Err(fault);
         }
-        Ok(Sheet { source, names, columns, records, rows })
+        Ok(Sheet { source, form, names, columns, header, records, rows })
     }
     pub fn form(&self) -> Form {
-        self.names
+        self.form
+    }
+    /// The wanted column of this name, if the file has it.
+    pub fn column(&self, name: &str) -> Option<usize> {
+        self.names.iter().position(|&n| n == name)
+    }
+    /// Where a wanted column is named.
+    pub fn column_at(&self, column: usize) -> String {
+        self.source.at(place(&self.source.text, self.header, self.columns[column], 0))
     }
     /// How many rows the file has.
     pub fn len(&self) -> usize {
@@ -112,19 +124,27 @@ fn allowed(forms: &[Form]) -> String {
     format!("a first line that names the columns {}, with commas between them; a line that starts with # is a comment", forms.join(" or "))
 }
 
-/// The form that the file's first record has, and where its columns stand there.
-fn find(source: &Source, header: &StringRecord, forms: &[Form]) -> Result<(Form, Vec<usize>), Fault> {
+/// The form that the file's first record has; its columns and those beside it; and where they stand there.
+fn find(
+    source: &Source,
+    header: &StringRecord,
+    forms: &[Form],
+    beside: &[&'static str],
+) -> Result<(Form, Vec<&'static str>, Vec<usize>), Fault> {
     let fault = |read: String| source.fault(start(source, header.position()), read, &allowed(forms));
-    let names = form_of(header, forms).map_err(fault)?;
+    let form = form_of(header, forms).map_err(fault)?;
+    let is_there = |name: &&&str| header.iter().any(|column| column.eq_ignore_ascii_case(name));
+    let names: Vec<_> = form.iter().chain(beside.iter().filter(is_there)).copied().collect();
     let column = |name: &&str| {
         let mut found = (0..header.len()).filter(|&i| header[i].eq_ignore_ascii_case(name));
         match (found.next(), found.next()) {
             (Some(i), None) => Ok(i),
             (None, _) => Err(fault(format!("no column `{}` in `{}`{}", name, columns(header), rename(header, &[name])))),
-            _ => Err(fault(format!("two columns `{}`", name))),
+            _ => Err(fault(format!("two columns `{}`: remove or rename one", name))),
         }
     };
-    Ok((names, names.iter().map(column).collect::<Result<_, _>>()?))
+    let columns = names.iter().map(column).collect::<Result<_, _>>()?;
+    Ok((form, names, columns))
 }
 
 /// The one form of which the first record has columns; where that is none or several, what is wrong.
@@ -323,6 +343,10 @@ impl<'a> Field<'a> {
             false => "",
         })
     }
+    /// A tolerance, which may be any number.
+    pub fn tolerance(self) -> Result<f64, Fault> {
+        self.parsed("degrees of roll as one number, such as 5 or 0.25", |_| "")
+    }
     fn parsed(self, allowed: &str, hint: impl Fn(&str) -> &'static str) -> Result<f64, Fault> {
         let text = self.text();
         let would_read = |from: &[char], to| text.replace(from, to).parse::<f64>().is_ok();
@@ -351,7 +375,7 @@ mod tests {
     use proptest::prelude::*;
 
     fn sheet(text: &str) -> Result<Sheet, Fault> {
-        Sheet::of(Source::of(Path::new("t.csv"), text.into()).unwrap(), &[&["name", "x"]])
+        Sheet::of(Source::of(Path::new("t.csv"), text.into()).unwrap(), &[&["name", "x"]], &[])
     }
     fn fault(text: &str) -> String {
         sheet(text).unwrap_err().to_string()
@@ -406,7 +430,8 @@ mod tests {
     }
     /// Two forms, as targets have them.
     fn in_forms(text: &str) -> Result<Sheet, Fault> {
-        Sheet::of(Source::of(Path::new("t.csv"), text.into()).unwrap(), &[&["name", "ra", "dec"], &["name", "x", "y", "z"]])
+        let forms: [Form; 2] = [&["name", "ra", "dec"], &["name", "x", "y", "z"]];
+        Sheet::of(Source::of(Path::new("t.csv"), text.into()).unwrap(), &forms, &["tolerance"])
     }
     #[test]
     fn a_file_has_one_form() {
@@ -418,6 +443,44 @@ mod tests {
         ] {
             let s = in_forms(&format!("# of\n{}\n", head)).unwrap();
             assert_eq!((s.form(), s.columns), (form, columns), "{}", head);
+        }
+    }
+    #[test]
+    fn a_column_beside_either_form() {
+        for (text, at, value) in [
+            ("name,ra,dec,tolerance\nA,1,2, -5 \n", "t.csv, line 1, column 13", -5.0),
+            ("# of\nTOLERANCE,dec,name,ra\ninf,1,A,2\n", "t.csv, line 2, column 1", f64::INFINITY),
+            ("x,y,\" Tolerance\",z,name\n1,0,\"1e-3\",0,A\n", "t.csv, line 1, column 7", 1e-3),
+        ] {
+            let s = in_forms(text).unwrap();
+            let column = s.column("tolerance").unwrap();
+            assert_eq!((column, s.column_at(column).as_str()), (s.form().len(), at), "{}", text);
+            assert_eq!((s.field(0, 0).text(), s.field(0, column).tolerance().unwrap()), ("A", value), "{}", text);
+            assert_eq!((s.field(0, column).name(), s.fields().next().unwrap().len()), ("tolerance", column + 1));
+        }
+        let s = in_forms("name,ra,dec,tolerance_deg\nA,1,2,5\n").unwrap();
+        assert_eq!((s.column("tolerance"), s.fields().next().unwrap().len()), (None, 3));
+        assert!(in_forms("name,tolerance,ra,dec,Tolerance\n")
+            .unwrap_err()
+            .to_string()
+            .contains("line 1, column 1: two columns `tolerance`"));
+    }
+    #[test]
+    fn a_tolerance_is_any_number_and_one() {
+        let read = |cell: &str| in_forms(&format!("name,ra,dec,tolerance\nA,0,0,{}\n", cell)).unwrap().field(0, 3).tolerance();
+        for (cell, value) in
+            [("5", 5.0), ("-1", -1.0), ("inf", f64::INFINITY), ("-inf", f64::NEG_INFINITY), ("1e300", 1e300), ("+0.5", 0.5)]
+        {
+            assert_eq!(read(cell).unwrap(), value);
+        }
+        assert!(["nan", "NaN", "-nan"].iter().all(|cell| read(cell).unwrap().is_nan()));
+        assert_eq!(read("-0").unwrap().to_bits(), (-0.0f64).to_bits());
+        for (cell, shown, hint) in
+            [("", "", ""), ("wide", "wide", ""), ("5 deg", "5 deg", ""), ("\"0,5\"", "0,5", " (this has a comma for its point)")]
+        {
+            let says = format!(": tolerance reads `{}`; allowed: degrees of roll as one number, such as 5 or 0.25{}", shown, hint);
+            let text = read(cell).unwrap_err().to_string();
+            assert!(text.starts_with("t.csv, line 2, column ") && text.ends_with(&says), "{}", text);
         }
     }
     #[test]
@@ -437,7 +500,7 @@ mod tests {
             ("dec,name", "no column `ra` in `dec,name`"),
             ("name,x,z", "no column `y` in `name,x,z`"),
             ("id,ra,dec", "no column `name` in `id,ra,dec`"),
-            ("name,ra,dec,RA", "two columns `ra`"),
+            ("name,ra,dec,RA", "two columns `ra`: remove or rename one"),
             // What catalogues call them.
             (
                 "name,RA_ICRS,DE_ICRS",
@@ -583,7 +646,7 @@ mod tests {
         fn any_text_is_a_sheet_or_a_fault(head in "(name,x\n)?", text in "(\\PC|\\s|[\",#\n]|[0-9a-z]{1,3},[0-9.]{1,3}\n){0,40}") {
             if let Ok(s) = sheet(&(head + &text)) {
                 for f in s.fields().flatten() {
-                    let faults = [f.number().err(), f.degrees().err(), f.time().err()].map(|e| e.map_or(String::new(), |e| e.to_string()));
+                    let faults = [f.number().err(), f.degrees().err(), f.tolerance().err(), f.time().err()].map(|e| e.map_or(String::new(), |e| e.to_string()));
                     prop_assert!(faults.iter().all(|text| text.len() < 800));
                     prop_assert!(f.line() <= s.source.text.lines().count());
                 }

@@ -3,6 +3,7 @@ use crate::{
     instant::{self, date_of, days_of, days_since_1970},
     listing::{Kind, Listed, Listing, Row},
     text::{counted, grouped, number, printable},
+    tolerance::in_words,
 };
 use std::{
     fmt::Write as _,
@@ -72,7 +73,7 @@ fn heading_of(svg: &mut String, listing: &Listing) -> f64 {
         Some(roll) => format!(", roll {}°", number(roll)),
         None => format!(", {}", counted(plan.rolls, "roll")),
     };
-    about += &format!(", tolerance {}°", number(plan.tolerance));
+    about += &format!(", tolerance {}", in_words(&plan.tolerances, "°"));
     if listing.has_severities() {
         about += &format!("; darkest: severity {:.3}°", worst(listing));
     }
@@ -106,14 +107,16 @@ fn heading_of(svg: &mut String, listing: &Listing) -> f64 {
 fn bands(svg: &mut String, listing: &Listing, axis: &Axis, row: &Row, y: f64, worst: f64) {
     let times = &listing.plan.times;
     let name = printable(row.name);
+    let tolerance = if listing.has_tolerances() { format!(": tolerance {}°", number(row.tolerance)) } else { String::new() };
     let _ = writeln!(
         svg,
-        "<text x=\"{:.1}\" y=\"{:.1}\" text-anchor=\"end\" fill=\"{}\">{}<title>{}</title></text>",
+        "<text x=\"{:.1}\" y=\"{:.1}\" text-anchor=\"end\" fill=\"{}\">{}<title>{}{}</title></text>",
         axis.left - 10.0,
         y + ROW / 2.0 + 4.0,
         INK,
         escaped(&cut(&name)),
-        escaped(&name)
+        escaped(&name),
+        tolerance
     );
     let mut band = |first: usize, last: usize, color, strength: f64, what: String| {
         let (from, to) = (axis.x(times[first]), axis.x(end_of(times, last)));

@@ -145,7 +145,7 @@ impl Sweep {
         let bytes = journal.used();
         let (mask, probes) = engine::collect(plan, bytes).map_err(|r| explain::journal(plan, &journal.path, bytes, r))?;
         tell!("{}; {} tried", about, counted(probes, "roll"));
-        let listing = Listing::of_mask(plan, selected, &mask, probes).map_err(|r| explain::plan(plan, r))?;
+        let listing = Listing::of_mask(plan, selected, &mask, probes).map_err(|(i, r)| explain::row(plan, i, r))?;
         self.outputs.write(&listing)
     }
 }

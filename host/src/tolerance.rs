@@ -1,26 +1,109 @@
-//! Whether a tolerance can tell any roll from another: among evenly spaced rolls one is never further from a roll than half their step.
-use crate::plan::Plan;
+//! The tolerances of a plan, one a target, whichever way its files give them; and where one is so wide that nothing can be violated: among
+//! evenly spaced rolls one is never further from a roll than half their step.
+use crate::{
+    digest::bits,
+    plan::Plan,
+    text::{grouped, number},
+};
+
+/// How a plan tells its tolerances.
+#[derive(Clone, Copy, Debug, PartialEq, Eq)]
+pub enum Told {
+    /// The key has one number for all targets.
+    Number,
+    /// The key has a list.
+    List,
+    /// The targets file has a column: its number among those that are read.
+    Column(usize),
+}
+
+/// What the key may be.
+pub const ALLOWED: &str = "one number of degrees for all targets, or a list with one for each";
+
+/// The tolerance of every target, where it is the same: to the bit, as the journal's header has it, so that one NaN stands for all.
+pub fn common(tolerances: &[f64]) -> Option<f64> {
+    let (first, rest) = tolerances.split_first()?;
+    rest.iter().all(|t| bits(t) == bits(first)).then_some(*first)
+}
+
+/// The tolerances in a few words, with a unit after each number. NaN is in no range.
+pub fn in_words(tolerances: &[f64], unit: &str) -> String {
+    let shown = |x: f64| number(x) + unit;
+    if let Some(x) = common(tolerances) {
+        return shown(x);
+    }
+    let mut numbers: Vec<f64> = tolerances.iter().copied().filter(|t| !t.is_nan()).collect();
+    numbers.sort_by(f64::total_cmp);
+    let range = match (common(&numbers), &numbers[..]) {
+        (Some(x), _) => shown(x),
+        (None, [least, .., most]) => format!("{} to {}", shown(*least), shown(*most)),
+        // Only NaN would be the same for all.
+        _ => return "none".into(),
+    };
+    let nan = if numbers.len() < tolerances.len() { ", or NaN," } else { "" };
+    format!("{}{} by target", range, nan)
+}
+
+/// Where the tolerances are told: the key's value, or the column's name.
+pub fn place(plan: &Plan) -> String {
+    match plan.told {
+        Told::Column(column) => plan.targets_sheet.column_at(column),
+        Told::Number | Told::List => plan.at("tolerance"),
+    }
+}
+
+/// Where a target's tolerance stands, and what it reads there.
+pub fn reads(plan: &Plan, target: usize) -> String {
+    let name = plan.targets_sheet.field(target, 0).shown();
+    match plan.told {
+        Told::Number => format!("{}: tolerance reads {}", place(plan), plan.tolerances[target]),
+        Told::List => format!("{}: tolerance of target `{}` reads {}", place(plan), name, plan.tolerances[target]),
+        Told::Column(column) => {
+            let field = plan.targets_sheet.field(target, column);
+            format!("{}: tolerance of target `{}` reads `{}`", field.at(), name, field.shown())
+        }
+    }
+}
 
 /// What rounding can add to a difference of two rolls, in degrees: the step, a sample, the difference and its arc are each rounded once
 /// or twice at up to 720, so it stays below 3e-13.
 const ROUNDING: f64 = 1e-12;
 
-/// Says so where no position can make the sweep of this plan mark a cell.
+/// How many targets the message names; the rest are counted.
+const NAMED: usize = 5;
+
+/// Says so where no position can make the sweep of this plan mark a cell, or a cell of some targets.
 pub fn nothing_violated(plan: &Plan) -> Option<String> {
     let half_step = 180.0 / plan.rolls as f64;
-    // A configured roll stands for every sample; a NaN is not at least anything.
-    if plan.configured_roll.is_some() || !(plan.tolerance >= half_step) {
+    // A NaN is not at least anything.
+    let wide: Vec<usize> = plan.tolerances.iter().enumerate().filter(|(_, &t)| t >= half_step).map(|(i, _)| i).collect();
+    // A configured roll stands for every sample.
+    if plan.configured_roll.is_some() || wide.is_empty() {
         return None;
     }
     // A difference is at most 180, so of one roll rounding takes nothing away.
-    let sure = plan.rolls == 1 || plan.tolerance > half_step + ROUNDING;
+    let sure = plan.rolls == 1 || wide.iter().all(|&i| plan.tolerances[i] > half_step + ROUNDING);
+    let (count, all) = (wide.len(), plan.tolerances.len());
+    let read = match common(&plan.tolerances) {
+        Some(x) => format!("tolerance reads {}", x),
+        None if count == all => format!("each tolerance reads {} or more", half_step),
+        None => {
+            let mut names: Vec<_> = wide.iter().take(NAMED).map(|&i| format!("`{}`", plan.targets_sheet.field(i, 0).shown())).collect();
+            if count > NAMED {
+                names.push(format!("and {} more", grouped(count - NAMED)));
+            }
+            let read = if count == 1 { "reads" } else { "read" };
+            format!("{} of {} tolerances {} {} or more ({})", grouped(count), grouped(all), read, half_step, names.join(", "))
+        }
+    };
     Some(format!(
-        "{}: tolerance reads {}, and no roll is further than {} degrees from the nearest of {}: {}",
-        plan.at("tolerance"),
-        plan.tolerance,
+        "{}: {}, and no roll is further than {} degrees from the nearest of {}: nothing can be violated{}{}",
+        place(plan),
+        read,
         half_step,
         plan.rolls,
-        if sure { "nothing can be violated" } else { "nothing can be violated but by rounding, midway between two of them" }
+        if count == all { "" } else { " there" },
+        if sure { "" } else { " but by rounding, midway between two of them" }
     ))
 }
 
@@ -32,14 +115,30 @@ mod tests {
 
     /// A plan of one target along x, with these settings and the Sun here.
     fn with(settings: &str, sun: [f64; 3]) -> Plan {
+        of_targets(settings, "name,x,y,z\nA,1,0,0\n", sun)
+    }
+    fn of_targets(settings: &str, targets: &str, sun: [f64; 3]) -> Plan {
         let ephemeris = format!(
             "time,sun_x,sun_y,sun_z,observer_x,observer_y,observer_z\n2026-03-20T00:00:00Z,{},{},{},0,0,0\n",
             sun[0], sun[1], sun[2]
         );
-        plan(&format!("targets = \"t.csv\"\nephemeris = \"e.csv\"\n{}", settings), "name,x,y,z\nA,1,0,0\n", &ephemeris).unwrap()
+        plan(&format!("targets = \"t.csv\"\nephemeris = \"e.csv\"\n{}", settings), targets, &ephemeris).unwrap()
     }
     fn said(settings: &str) -> Option<String> {
         nothing_violated(&with(settings, [0.0, 1.0, 0.0])).map(|text| text[text.find("plan.toml").unwrap()..].to_owned())
+    }
+    /// What is said of 24 rolls and targets A, B, .. with these tolerances: by the key's list, and by the column.
+    fn said_of(tolerances: &[&str]) -> [Option<String>; 2] {
+        let names = (b'A'..).map(char::from);
+        let rows = || names.clone().zip(tolerances);
+        let plain: String = rows().map(|(name, _)| format!("{},1,0,0\n", name)).collect();
+        let column: String = rows().map(|(name, t)| format!("{},1,0,0,{}\n", name, t)).collect();
+        let list =
+            of_targets(&format!("rolls = 24\ntolerance = [{}]", tolerances.join(", ")), &format!("name,x,y,z\n{}", plain), [0.0, 1.0, 0.0]);
+        let column = of_targets("rolls = 24", &format!("name,x,y,z,tolerance\n{}", column), [0.0, 1.0, 0.0]);
+        assert_eq!(list.tolerances.iter().map(bits).collect::<Vec<_>>(), column.tolerances.iter().map(bits).collect::<Vec<_>>());
+        [(list, "plan.toml, line 4, column 13: "), (column, "t.csv, line 1, column 12: ")]
+            .map(|(plan, place)| nothing_violated(&plan).map(|text| text[text.find(place).unwrap() + place.len()..].to_owned()))
     }
     /// Whether the sweep marks the plan's only cell.
     fn marked(plan: &Plan) -> bool {
@@ -72,13 +171,59 @@ mod tests {
             assert_eq!(said(can), None, "{}", can);
         }
     }
+    #[test]
+    fn half_a_step_of_some_targets_is_told_with_their_names() {
+        const NEAREST: &str = "and no roll is further than 7.5 degrees from the nearest of 24: nothing can be violated";
+        const ROUNDING: &str = " but by rounding, midway between two of them";
+        for (tolerances, says) in [
+            (&["5", "7"][..], None),
+            (&["nan", "-1", "-inf"], None),
+            (&["10", "10"], Some(format!("tolerance reads 10, {}", NEAREST))),
+            (&["10", "inf"], Some(format!("each tolerance reads 7.5 or more, {}", NEAREST))),
+            (&["10", "7.5"], Some(format!("each tolerance reads 7.5 or more, {}{}", NEAREST, ROUNDING))),
+            (&["5", "8", "nan"], Some(format!("1 of 3 tolerances reads 7.5 or more (`B`), {} there", NEAREST))),
+            (&["8", "5", "7.5"], Some(format!("2 of 3 tolerances read 7.5 or more (`A`, `C`), {} there{}", NEAREST, ROUNDING))),
+            (
+                &["5", "8", "9", "8", "8", "8", "8", "8"],
+                Some(format!("7 of 8 tolerances read 7.5 or more (`B`, `C`, `D`, `E`, `F`, and 2 more), {} there", NEAREST)),
+            ),
+        ] {
+            assert_eq!(said_of(tolerances), [says.clone(), says], "{:?}", tolerances);
+        }
+        // Without targets there is no tolerance.
+        let none = of_targets("rolls = 24\ntolerance = 10", "name,x,y,z\n", [0.0, 1.0, 0.0]);
+        assert_eq!((none.tolerances.len(), nothing_violated(&none)), (0, None));
+    }
+    #[test]
+    fn the_same_to_the_bit_and_every_nan_one() {
+        let other_nan = f64::from_bits(0xfff0_0000_0000_0001);
+        assert_eq!((common(&[]), common(&[5.0]), common(&[5.0, 5.0, 5.0])), (None, Some(5.0), Some(5.0)));
+        assert!(matches!(common(&[f64::NAN, other_nan, f64::NAN]), Some(x) if x.is_nan()));
+        for different in [&[5.0, 5.0, 5.000000000000001][..], &[0.0, -0.0], &[f64::NAN, 5.0], &[5.0, f64::NAN]] {
+            assert_eq!(common(different), None, "{:?}", different);
+        }
+    }
+    #[test]
+    fn in_a_few_words() {
+        for (tolerances, words) in [
+            (&[][..], "none"),
+            (&[5.0, 5.0], "5°"),
+            (&[30.0, 0.25, 5.0], "0.25° to 30° by target"),
+            (&[-0.0, 0.0], "-0° to 0° by target"),
+            (&[f64::NAN, f64::from_bits(0xfff8_0000_0000_0000)], "NaN°"),
+            (&[f64::NAN, f64::NEG_INFINITY], "-inf°, or NaN, by target"),
+            (&[f64::from_bits(0xfff8_0000_0000_0000), 7.0, 1.0], "1° to 7°, or NaN, by target"),
+        ] {
+            assert_eq!(in_words(tolerances, "°"), words);
+        }
+    }
     /// 180 degrees are midway between two of seven rolls, of which the nearer is 7e-15 further than half a step.
     #[test]
     fn at_just_half_a_step_rounding_marks_a_cell() {
         let sun = [0.0, -1.0, 0.0];
         let half_step = 180.0 / 7.0;
         let just = with(&format!("rolls = 7\ntolerance = {}", half_step), sun);
-        assert_eq!(just.tolerance, half_step);
+        assert_eq!(just.tolerances, [half_step]);
         assert!(marked(&just));
         assert!(nothing_violated(&just).unwrap().contains("but by rounding"));
         let more = with(&format!("rolls = 7\ntolerance = {}", half_step + 2.0 * ROUNDING), sun);

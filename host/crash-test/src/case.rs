@@ -9,18 +9,27 @@ pub struct Case {
     pub times: Vec<i64>,
     /// Right ascensions and declinations, where the targets file has those in place of vectors.
     positions: Option<(Vec<f64>, Vec<f64>)>,
+    told: Told,
 }
 
-/// The first line of targets by right ascension and declination.
-pub const CATALOGUE_HEAD: &str = "name,ra,dec\n";
+/// How the plan's files tell its tolerances.
+#[derive(Clone, Copy)]
+pub enum Told {
+    Number(f64),
+    List,
+    Column,
+}
+
+/// How the first line of targets by right ascension and declination begins.
+pub const CATALOGUE_HEAD: &str = "name,ra,dec";
 
 const FIRST_TIME: i64 = 1_774_000_000_000_000_000;
 const STEP: i64 = 60_000_000_000;
 
 impl Case {
-    fn new(name: &'static str, plan: Plan) -> Case {
+    fn new(name: &'static str, plan: Plan, told: Told) -> Case {
         let times = (0..plan.times() as i64).map(|j| FIRST_TIME + STEP * j).collect();
-        Case { name, sweep: Sweep::new(plan).expect("an accepted plan"), times, positions: None }
+        Case { name, sweep: Sweep::new(plan).expect("an accepted plan"), times, positions: None, told }
     }
     /// Document 01's example.
     pub fn example() -> Case {
@@ -33,12 +42,12 @@ impl Case {
             panels: vec![0.0, 1.0, 0.0],
             rolls: Rolls::Even(1),
         };
-        Case::new("document 01's example", plan)
+        Case::new("document 01's example", plan, Told::Number(10.0))
     }
     /// Random directions, and Suns that turn slowly, so that marks come in runs.
     pub fn drawn(name: &'static str, seed: u64, targets: usize, times: usize, n: u64, tolerance_deg: f64, roll_deg: Option<f64>) -> Case {
         let mut seeded = Seeded::new(seed);
-        let (tolerances, panels, rolls) = (vec![tolerance_deg], vec![0.0, 1.0, 0.25], Rolls::Even(n));
+        let (tolerances, panels, rolls) = (vec![tolerance_deg; targets], vec![0.0, 1.0, 0.25], Rolls::Even(n));
         let mut plan = Plan { tolerances, roll_deg, panels, rolls, ..Plan::default() };
         for _ in 0..targets {
             plan.targets.extend(direction(&mut seeded));
@@ -48,14 +57,26 @@ impl Case {
             plan.suns.extend([1.5e8 * c, 1.4e8 * s, 0.6e8 * s]);
             plan.observers.extend(direction(&mut seeded).map(|x| 7000.0 * x));
         }
-        Case::new(name, plan)
+        Case::new(name, plan, Told::Number(tolerance_deg))
     }
     /// The same with other targets, by right ascension and declination; their vectors are the model's.
     pub fn of_catalogue(self, seed: u64) -> Case {
         let mut plan = self.sweep.plan;
         let (ra, dec) = positions(&mut Seeded::new(seed), plan.rows());
         plan.targets = ra.iter().zip(&dec).flat_map(|(&ra, &dec)| radec_to_unit(ra, dec)).collect();
-        Case { positions: Some((ra, dec)), ..Case::new(self.name, plan) }
+        Case { positions: Some((ra, dec)), ..Case::new(self.name, plan, self.told) }
+    }
+    /// The same with a tolerance for each target: these, over and over. With the first for all of them the sweep would be another.
+    pub fn with_tolerances(self, told: Told, tolerances: &[f64]) -> Case {
+        let mut plan = self.sweep.plan.clone();
+        plan.tolerances = tolerances.iter().copied().cycle().take(plan.rows()).collect();
+        let one = Plan { tolerances: vec![plan.tolerances[0]; plan.rows()], ..plan.clone() };
+        let case = Case { positions: self.positions, ..Case::new(self.name, plan, told) };
+        assert!(case.sweep.mask != Sweep::new(one).expect("an accepted plan").mask, "{}: tolerances that mark alike", case.name);
+        case
+    }
+    pub fn has_tolerances(&self) -> bool {
+        !matches!(self.told, Told::Number(_))
     }
     pub fn chunks(&self) -> usize {
         self.sweep.chunks()
@@ -64,17 +85,26 @@ impl Case {
     pub fn write(&self, folder: &Path) {
         let plan = &self.sweep.plan;
         let mut toml = String::from("targets = \"targets.csv\"\nephemeris = \"ephemeris.csv\"\n");
-        let (tolerance, panel) = (toml_number(plan.head_tolerance()), plan.head_panel());
-        let _ = writeln!(toml, "rolls = {}\ntolerance = {}\npanel = {:?}", plan.even_n(), tolerance, panel);
+        let _ = writeln!(toml, "rolls = {}\npanel = {:?}", plan.even_n(), plan.head_panel());
+        let list: Vec<_> = plan.tolerances.iter().copied().map(toml_number).collect();
+        let (mut column, mut cells) = ("", vec![String::new(); plan.rows()]);
+        let _ = match self.told {
+            Told::Number(x) => writeln!(toml, "tolerance = {}", toml_number(x)),
+            Told::List => writeln!(toml, "tolerance = [{}]", list.join(", ")),
+            Told::Column => {
+                (column, cells) = (",tolerance", list.iter().map(|cell| format!(",{}", cell)).collect());
+                Ok(())
+            }
+        };
         if let Some(roll) = plan.roll_deg {
             let _ = writeln!(toml, "configured_roll = {}", toml_number(roll));
         }
-        let mut targets = String::from(if self.positions.is_some() { CATALOGUE_HEAD } else { "name,x,y,z\n" });
-        for i in 0..plan.rows() {
+        let mut targets = format!("{}{}\n", if self.positions.is_some() { CATALOGUE_HEAD } else { "name,x,y,z" }, column);
+        for (i, cell) in cells.iter().enumerate() {
             let [x, y, z] = plan.target(i);
             let _ = match &self.positions {
-                Some((ra, dec)) => writeln!(targets, "T{},{:?},{:?}", i, ra[i], dec[i]),
-                None => writeln!(targets, "T{},{:?},{:?},{:?}", i, x, y, z),
+                Some((ra, dec)) => writeln!(targets, "T{},{:?},{:?}{}", i, ra[i], dec[i], cell),
+                None => writeln!(targets, "T{},{:?},{:?},{:?}{}", i, x, y, z, cell),
             };
         }
         let mut ephemeris = String::from("time,sun_x,sun_y,sun_z,observer_x,observer_y,observer_z\n");

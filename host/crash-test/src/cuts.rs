@@ -125,6 +125,9 @@ pub fn every_byte(case: &Case, order: &[usize], folder: &Path, tally: &mut Tally
     if machine.is_catalogue() {
         tally.catalogue += tally.cuts - before;
     }
+    if case.has_tolerances() {
+        tally.by_target += tally.cuts - before;
+    }
 }
 
 /// The power fails while the digest is written, before the first byte of the journal: at every byte of it.

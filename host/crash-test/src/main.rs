@@ -11,7 +11,7 @@ mod syncs;
 mod trace;
 mod trouble;
 
-use case::Case;
+use case::{Case, Told};
 use cases::Seeded;
 use std::{
     env, fs,
@@ -28,6 +28,8 @@ pub struct Tally {
     pub cuts: u64,
     /// Those of plans whose targets are right ascensions and declinations.
     pub catalogue: u64,
+    /// Those of plans whose targets have tolerances of their own.
+    pub by_target: u64,
     /// Bytes of journals at which it was cut.
     pub bytes: u64,
     /// System calls at which it was cut.
@@ -67,11 +69,12 @@ fn main() {
     let tally = run(&folder, seconds, seed);
     fs::remove_dir_all(&folder).unwrap();
     println!(
-        "{} power cuts ({} of them took bytes that were not synced, {} were on targets by right ascension and declination), up to {} in a row on \
-         one journal, {} split sweeps, {} damaged journals ({} refused, the rest still right): nothing was lost",
+        "{} power cuts ({} of them took bytes that were not synced, {} were on targets by right ascension and declination, {} on tolerances by \
+         target), up to {} in a row on one journal, {} split sweeps, {} damaged journals ({} refused, the rest still right): nothing was lost",
         tally.cuts + tally.unsynced,
         tally.unsynced,
         tally.catalogue,
+        tally.by_target,
         tally.longest,
         tally.splits,
         tally.damaged,
@@ -91,7 +94,13 @@ fn run(folder: &Path, seconds: u64, seed: u64) -> Tally {
     let fixed = Case::drawn("2 targets, 50 times, a configured roll", 3, 2, 50, 3, 30.0, Some(-40.5));
     let none = Case::drawn("no targets", 4, 0, 5, 360, f64::NAN, None);
     let catalogue = Case::drawn("3 targets by ra and dec, 21 times, 24 rolls", 7, 3, 21, 24, 5.0, None).of_catalogue(5);
-    for case in [&example, &four, &fixed, &none, &catalogue] {
+    // The first chunk has cells of all six targets, and the second the last of them.
+    let list = Case::drawn("6 targets, a list of tolerances, 11 times, 8 rolls", 8, 6, 11, 8, 15.0, None)
+        .with_tolerances(Told::List, &[15.0, 3.0, f64::NAN, -1.0, 21.0, 9.0]);
+    let column = Case::drawn("4 targets by ra and dec, a column of tolerances, 19 times, a configured roll", 9, 4, 19, 5, 30.0, Some(20.5))
+        .of_catalogue(6)
+        .with_tolerances(Told::Column, &[30.0, -1.0, f64::INFINITY, 75.0]);
+    for case in [&example, &four, &fixed, &none, &catalogue, &list, &column] {
         let chunks = case.chunks();
         let mut orders = vec![(0..chunks).collect::<Vec<_>>()];
         if chunks > 1 {
@@ -109,6 +118,7 @@ fn run(folder: &Path, seconds: u64, seed: u64) -> Tally {
         done(format!("every byte: {}, orders of chunks: {}, cuts: {}", case.name, orders.len(), tally.cuts - before));
     }
     assert!(tally.catalogue > 0, "no plan by right ascension and declination was cut");
+    assert!(tally.by_target > 0, "no plan with a tolerance for each target was cut");
     let missed = syncs::missed(&four, &at("missed"));
     done(format!("a sync that is missing: {} of {} told", missed, missed));
     cuts::every_byte_of_the_digest(&example, &at("digest"), &mut tally);
@@ -123,6 +133,10 @@ fn run(folder: &Path, seconds: u64, seed: u64) -> Tally {
     for what in trouble::all(&four, &at("trouble")) {
         done(what);
     }
+    for (case, file) in [(&list, "plan.toml"), (&column, "targets.csv")] {
+        trouble::edited_tolerance(case, file, &at("trouble"));
+        done(format!("an edited tolerance of the last target in {}", file));
+    }
 
     let large = Case::drawn("40 targets, 1,000 times, 3,600 rolls", 5, 40, 1000, 3600, 0.03, None);
     let (writes, syncs) = syncs::watched(&large, &[(0..large.chunks()).collect()], &[None], &at("watched"));
@@ -132,7 +146,8 @@ fn run(folder: &Path, seconds: u64, seed: u64) -> Tally {
     let before = tally.cuts;
     cuts::any_moment(&large, &at("moments"), &mut seeded, half, &mut tally);
     done(format!("any moment: {}: {} cuts on one journal", large.name, tally.cuts - before));
-    let middle = Case::drawn("9 targets, 200 times, 90 rolls", 6, 9, 200, 90, 1.7, None);
+    let middle = Case::drawn("9 targets, a list of tolerances, 200 times, 90 rolls", 6, 9, 200, 90, 1.7, None)
+        .with_tolerances(Told::List, &[1.7, 0.4, 1.2]);
     loop {
         for machines in [2, 5] {
             split::split(&middle, machines, &at("split"), &mut seeded, &mut tally);
