@@ -64,6 +64,9 @@
  * Up to version 0.1.0, before document 02's request Two (tolerance by target), one number for all targets, tolerance_deg, stood in the place
  * of tolerances and its length. A caller of that time lends a list with that number once a target, and is compiled anew.
  *
+ * Up to version 0.2.0, before request Three (rolls between 0 and 360), optimal rolls lay from -360 to 360. By rounding, a few marks and counts of
+ * tried rolls differ, and a journal's header does not tell: a journal begun then is swept anew, not resumed.
+ *
  * A cell is a target i and a time j; its number is i * times + j. A mask has one byte a cell, in this order: 1 marked (violated), 0 clear.
  * A cell is Free if no roll is better than another: the Sun is on the boresight's line, ahead or behind, or the panel's normal has no part
  * across it (both to about 1e-12).
@@ -83,11 +86,12 @@
  *    y = cos R * east + sin R * north        z = cos R * north - sin R * east
  *
  * so z's position angle, from north through east, is -R. The panel's normal is given in these axes and turns with them. The optimal roll is
- * the Sun's angle in the y-z plane at roll 0, from y toward z, less the normal's: at it the normal, across the boresight, points where the
- * Sun is. A configured roll is such a roll, and the tolerance an arc between two of them. docs/HOST.md has a drawing.
+ * the Sun's angle in the y-z plane at roll 0, from y toward z, less the normal's, as a remainder by 360: it lies from 0 up to but not at
+ * 360. At it the normal, across the boresight, points where the Sun is. A configured roll is such a roll, any number of degrees, and the tolerance an
+ * arc between two of them. docs/HOST.md has a drawing.
  *
  * For the target 1, 0, 0 and the normal 0, 1, 0: a Sun at 0, 1, 0 (east) has the optimal roll 0; at 0, 0, 1 (north) 90; at 0, -1, 0
- * (west) 180.
+ * (west) 180; at 0, 0, -1 (south) 270.
  */
 #ifndef WILFNUSK_H
 #define WILFNUSK_H
@@ -134,12 +138,13 @@ int64_t wilfnusk_radec_to_unit_vectors_batch(const double *ra, size_t ra_len, co
 
 /* ---- Rolls ----------------------------------------------------------------------------------------------------------------------- */
 
-/* The optimal roll of one cell, in degrees. 0: the cell is Free, and *roll is not written. 1: *roll is the optimal roll.
- * Refuses: -4, -5, -6. */
+/* The optimal roll of one cell, in degrees. 0: the cell is Free, and *roll is not written. 1: *roll is the optimal roll, from 0 up to but
+ * not at 360; it may be -0. Refuses: -4, -5, -6. */
 int64_t wilfnusk_cell(double target_x, double target_y, double target_z, double sun_x, double sun_y, double sun_z, double observer_x,
                       double observer_y, double observer_z, double panel_x, double panel_y, double panel_z, double *roll);
 
-/* Writes the optimal roll of each cell, in degrees, Free cells too. Answers 0. The numbers in tolerances, and roll_deg, do not matter.
+/* Writes the optimal roll of each cell, in degrees, Free cells too: each from 0 up to but not at 360, and it may be -0. Answers 0. The
+ * numbers in tolerances, and roll_deg, do not matter.
  * Refuses: -1, -2, -4, -5, -6, -17; -7 if out_len is below the number of cells. */
 int64_t wilfnusk_named_values(WILFNUSK_PLAN, double *out, size_t out_len);
 

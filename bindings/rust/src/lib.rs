@@ -90,7 +90,7 @@ macro_rules! with_plan {
 }
 
 impl Plan<'_> {
-    /// The optimal roll of each cell, of Free ones too.
+    /// The optimal roll of each cell, of Free ones too, in degrees: each from 0 up to but not at 360.
     pub fn named_values(&self, out: &mut [f64]) -> Result<(), Refusal> {
         with_plan!(self, Masks, wilfnusk_named_values, out.as_mut_ptr(), out.len()).map(drop)
     }
@@ -171,7 +171,7 @@ pub fn cos(r: f64) -> f64 {
 pub fn circular_diff_deg(a: f64, b: f64) -> f64 {
     unsafe { sys::wilfnusk_circular_diff_deg(a, b) }
 }
-/// The optimal roll of one cell.
+/// The optimal roll of one cell, in degrees: from 0 up to but not at 360.
 pub fn cell(target: [f64; 3], sun: [f64; 3], observer: [f64; 3], panel_normal: [f64; 3]) -> Result<OptimalRoll, Refusal> {
     let mut roll = 0.0;
     let ([a, b, c], [d, e, f], [g, h, i], [x, y, z]) = (target, sun, observer, panel_normal);

@@ -1,4 +1,4 @@
--- Laws of refusals: a step along a chain of conditions, and back from an accepted call to what it knows. Assumes nothing.
+-- Laws of refusals: a step along a chain of conditions, back from an accepted call to what it knows, and how large a number can be. Assumes nothing.
 use mathlib.Core.Path.{_≡_, refl, sym, ap, _∙_}
 use mathlib.Core.Bool.{Bool, true, false, cond, not, _&&_}
 use mathlib.Core.List.{[], _∷_}
@@ -63,6 +63,17 @@ first-clears ((b, k) ∷ cs) n e =
     let h : 0 < k = ltb-true 0 k (and-left (ltb 0 k) (numbered cs) n) in
     let r = first-clear b k cs h e in
     (r .0, first-clears cs (and-right (ltb 0 k) (numbered cs) n) (r .1))
+
+-- each number of a chain is below n: so is the one that it gives
+abbrev pub AllBelow : ℕ → Conditions → Type 0
+AllBelow n [] = Unit {0}
+AllBelow n (c ∷ cs) = (c .1 < n) × AllBelow n cs
+
+pub given-below : (n : ℕ) (cs : Conditions) → 0 < n → AllBelow n cs → first cs < n
+unfolding first
+given-below n [] h b = h
+given-below n ((true, k) ∷ cs) h b = b .0
+given-below n ((false, k) ∷ cs) h b = given-below n cs h (b .1)
 
 module _ {A : Type 0} where
   pub reply-none : (k : ℕ) (a : A) → k ≡ 0 → reply k a ≡ accepted a

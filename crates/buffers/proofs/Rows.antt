@@ -19,6 +19,11 @@ use Rattle.buffers.proofs.Lent.{length-put, getD-before, getD-inside, g
 
 -- ---- cell numbers: in rows of `times` cells, row i at time j is the cell i * times + j
 
+-- where there is a cell there is a time
+pub some-time : (rows times k : ℕ) → k < rows * times → 0 < times
+some-time rows zero k l = absurd (omega (arith, l))
+some-time rows (suc t) k l = omega arith
+
 pub cell-row : (times i j : ℕ) → j < times → (i * times + j) / times ≡ i
 cell-row times i j h =
     let p : 0 < times = omega arith in
@@ -138,13 +143,9 @@ module _ {A : Type 0} (rows times : ℕ) (f : ℕ → ℕ → A) (d : A) where
 
       written : (k : ℕ) → k < rows * times → getD new k d ≡ f (k / times) (k % times)
       written k l =
-          let p : 0 < times = positive times l in
+          let p : 0 < times = some-time rows times k l in
           let q : k / times * times + k % times ≡ k = div-add-mod' k times in
           ap (λ (i : ℕ). getD new i d) (sym q) ∙ c .inside (k / times) (k % times) ((div-lt-iff-lt-mul p) .1 l) (omega arith) (omega (arith, mod-lt k p))
-        where
-          positive : (t : ℕ) → k < rows * t → 0 < t
-          positive zero l = absurd (omega (arith, l))
-          positive (suc t) l = omega arith
 
       at : (k : ℕ) (b : Bool) → ltb k (rows * times) ≡ b → getD new k d ≡ getD (filled (rows * times) F old) k d
       at k true e = written k (ltb-true _ _ e) ∙ sym (getD-filled F (rows * times) old d k (ltb-true _ _ e))

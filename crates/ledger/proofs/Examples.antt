@@ -9,7 +9,7 @@ use Rattle.float.specs.Arithmetic.{zero·0, absOf, remEuclid, toDegrees, signBi
 use Rattle.float.specs.Series.{coefficient, horner}
 use Rattle.float.specs.Arctangent.{halved, seriesAngle, ratio, quadrantAngle, turnedAngle, arctangent}
 use Rattle.solar_roll.specs.Vectors.{Vector, vector, dot3, norm3, cross3, over3, normalize3, unwrapOr}
-use Rattle.solar_roll.specs.Roll.{xHat, yHat, sunUnit, sunAlongBoresight, panelIsFree, panelAngle, rollIsUnconstrained, perpendicular, poleFallback, north, yAxis, bodyAxes, rollDegIn, solarOptimalRollDeg, circularDiffDeg}
+use Rattle.solar_roll.specs.Roll.{xHat, yHat, sunUnit, sunAlongBoresight, panelIsFree, panelAngle, rollIsUnconstrained, perpendicular, poleFallback, north, yAxis, bodyAxes, foldedRoll, rollBetween, rollDegIn, solarOptimalRollDeg, circularDiffDeg}
 use Rattle.solar_roll.specs.Cell.{optimalRoll}
 use Rattle.solar_roll.specs.declared.cell.CellRoll.the-variants.{Free, At}
 use Rattle.windows.specs.Runs.{run, visibilityRuns}
@@ -46,5 +46,5 @@ pub starred :
     × (visibilityRuns (1 ∷ 0 ∷ []) ≡ run 1 1 ∷ [])
     × (visibilityRuns (0 ∷ 0 ∷ 1 ∷ 0 ∷ []) ≡ run 0 1 ∷ run 3 3 ∷ [])
     × (visibilityRuns [] ≡ [])
-unfolding circularDiffDeg remEuclid absOf add sub mul div rem neg lt le eq ofInt ofBits sqrtOf sunUnit optimalRoll rollIsUnconstrained sunAlongBoresight panelIsFree panelAngle solarOptimalRollDeg rollDegIn bodyAxes yAxis north perpendicular poleFallback unwrapOr normalize3 over3 cross3 norm3 dot3 toDegrees arctangent quadrantAngle ratio turnedAngle seriesAngle horner halved coefficient signBitOf finite visibilityRuns violationWindows
+unfolding circularDiffDeg remEuclid absOf add sub mul div rem neg lt le eq ofInt ofBits sqrtOf sunUnit optimalRoll rollIsUnconstrained sunAlongBoresight panelIsFree panelAngle solarOptimalRollDeg rollDegIn rollBetween foldedRoll bodyAxes yAxis north perpendicular poleFallback unwrapOr normalize3 over3 cross3 norm3 dot3 toDegrees arctangent quadrantAngle ratio turnedAngle seriesAngle horner halved coefficient signBitOf finite visibilityRuns violationWindows
 starred = (refl, refl, refl, refl, refl, refl, (λ a b c d e severities. refl), refl, refl, refl, refl)

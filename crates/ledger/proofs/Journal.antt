@@ -13,7 +13,7 @@ use Rattle.float.specs.Arithmetic.{zero·0, absOf, remEuclid, toDegrees, signBi
 use Rattle.float.specs.Series.{coefficient, horner}
 use Rattle.float.specs.Arctangent.{halved, seriesAngle, ratio, quadrantAngle, turnedAngle, arctangent}
 use Rattle.solar_roll.specs.Vectors.{Vector, vector, dot3, norm3, cross3, over3, normalize3, unwrapOr}
-use Rattle.solar_roll.specs.Roll.{xHat, yHat, zHat, sunUnit, sunAlongBoresight, panelIsFree, panelAngle, rollIsUnconstrained, perpendicular, poleFallback, north, yAxis, bodyAxes, rollDegIn, solarOptimalRollDeg, circularDiffDeg}
+use Rattle.solar_roll.specs.Roll.{xHat, yHat, zHat, sunUnit, sunAlongBoresight, panelIsFree, panelAngle, rollIsUnconstrained, perpendicular, poleFallback, north, yAxis, bodyAxes, foldedRoll, rollBetween, rollDegIn, solarOptimalRollDeg, circularDiffDeg}
 use Rattle.solar_roll.specs.Cell.{optimalRoll, violates, inForce, badPosition, badDirection, tooLarge, directionRefusal, numbersRefusal}
 use Rattle.solar_roll.specs.Plan.{Plan, planOf, planRefusal, sizesRefusal, samplesRefusal, unlikeLengths, tooMany, triple, rowDirection, rowPanel, rowConfig, sunAt, cellOf, violatesAt, headTolerance, headPanel}
 use Rattle.solar_roll.specs.declared.cell.ConfiguredRoll.the-variants.{None}
@@ -47,7 +47,7 @@ unfolding headerOf headTolerance headPanel triple toBits ofInt ofBits
 example-header = refl
 
 pub example-line : lineOf (evenSweep plan 1) 0 ≡ line
-unfolding lineOf sweepOf evenRolls evenRoll triple rowDirection rowPanel rowConfig sunAt cellOf violatesAt violates inForce circularDiffDeg remEuclid absOf add sub mul div rem neg lt le eq ofInt ofBits sqrtOf sunUnit optimalRoll rollIsUnconstrained sunAlongBoresight panelIsFree panelAngle solarOptimalRollDeg rollDegIn bodyAxes yAxis north perpendicular poleFallback unwrapOr normalize3 over3 cross3 norm3 dot3 toDegrees arctangent quadrantAngle ratio turnedAngle seriesAngle horner halved coefficient signBitOf finite
+unfolding lineOf sweepOf evenRolls evenRoll triple rowDirection rowPanel rowConfig sunAt cellOf violatesAt violates inForce circularDiffDeg remEuclid absOf add sub mul div rem neg lt le eq ofInt ofBits sqrtOf sunUnit optimalRoll rollIsUnconstrained sunAlongBoresight panelIsFree panelAngle solarOptimalRollDeg rollDegIn rollBetween foldedRoll bodyAxes yAxis north perpendicular poleFallback unwrapOr normalize3 over3 cross3 norm3 dot3 toDegrees arctangent quadrantAngle ratio turnedAngle seriesAngle horner halved coefficient signBitOf finite
 example-line = refl
 
 -- ---- a list of entries, from an empty journal: every call is lent the plan, and 200 bytes beyond J
@@ -67,5 +67,5 @@ pub example-trace : trace (evenSweep plan 1) (begin room ∷ work 0 room ∷ cut
     ∷ record { reply = refused 10; bytes = header ++ line }
     ∷ record { reply = accepted (gathered (0 ∷ 1 ∷ []) 2); bytes = header ++ line }
     ∷ []
-unfolding trace hexText ones headerOf headTolerance headPanel toBits planRefusal samplesRefusal unlikeLengths tooMany first carried any badPosition badDirection tooLarge directionRefusal numbersRefusal sizesRefusal sweepOf evenRolls evenRoll triple rowDirection rowPanel rowConfig sunAt cellOf violatesAt violates inForce circularDiffDeg remEuclid absOf add sub mul div rem neg lt le eq ofInt ofBits sqrtOf sunUnit optimalRoll rollIsUnconstrained sunAlongBoresight panelIsFree panelAngle solarOptimalRollDeg rollDegIn bodyAxes yAxis north perpendicular poleFallback unwrapOr normalize3 over3 cross3 norm3 dot3 toDegrees arctangent quadrantAngle ratio turnedAngle seriesAngle horner halved coefficient signBitOf finite
+unfolding trace hexText ones headerOf headTolerance headPanel toBits planRefusal samplesRefusal unlikeLengths tooMany first carried any badPosition badDirection tooLarge directionRefusal numbersRefusal sizesRefusal sweepOf evenRolls evenRoll triple rowDirection rowPanel rowConfig sunAt cellOf violatesAt violates inForce circularDiffDeg remEuclid absOf add sub mul div rem neg lt le eq ofInt ofBits sqrtOf sunUnit optimalRoll rollIsUnconstrained sunAlongBoresight panelIsFree panelAngle solarOptimalRollDeg rollDegIn rollBetween foldedRoll bodyAxes yAxis north perpendicular poleFallback unwrapOr normalize3 over3 cross3 norm3 dot3 toDegrees arctangent quadrantAngle ratio turnedAngle seriesAngle horner halved coefficient signBitOf finite
 example-trace = refl

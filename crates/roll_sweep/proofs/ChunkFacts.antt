@@ -8,6 +8,7 @@ use borrow.Author.Tests.{eqb-false, ltb-false, leb-true, leb-false, ne-eqb, le-l
 use Rattle.buffers.specs.Refusal.{accepted}
 use Rattle.buffers.proofs.Refusal.{first-none, first-skip, first-clear, carried-skip, carried-clear}
 use Rattle.buffers.proofs.Tests.{and-left, and-right, or-left, or-right}
+use Rattle.buffers.proofs.Rows.{some-time}
 use Rattle.solar_roll.specs.Plan.{Plan, rowsOf, timesOf, mostRows, mostTimes, mostCells, mostSamples, tooMany, samplesRefusal, PlanFacts}
 use Rattle.roll_sweep.specs.Sweep.{chunks, cellsIn}
 use Rattle.roll_sweep.specs.Chunk.{chunkRefusal, chunkReply}
@@ -77,11 +78,7 @@ pub held : (rows times units samples c w : ℕ) → ChunkFacts rows times units 
 unfolding cellsIn
 held rows times units samples c w f e =
     let h = first-below f in
-    record { few = omega arith; positive = go times (omega arith); within = omega arith; whole = e }
-  where
-    go : (t : ℕ) → 0 < rows * t → 0 < t
-    go zero h = omega arith
-    go (suc t) h = omega arith
+    record { few = omega arith; positive = some-time rows times 0 (omega arith); within = omega arith; whole = e }
 
 -- a chunk of a plan that is not refused, with a unit or more
 pub chunk-accepted : (p : Plan) (units samples c : ℕ) → PlanFacts p → 0 < units → samplesRefusal samples ≡ 0 → c < chunks (rowsOf p * timesOf p)

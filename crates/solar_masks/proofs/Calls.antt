@@ -1,17 +1,18 @@
--- What a call knows once its refusal is 0: the plan's facts, and room enough. Assumes nothing.
+-- What a call knows once its refusal is 0: the plan's facts, and room enough; and how large the number of a refusal can be. Assumes nothing.
 use mathlib.Core.Path.{_≡_, refl}
 use mathlib.Core.Bool.{Bool, true, false, cond, _||_}
-use Prim.Native.Nat.{ℕ, _≤_}
+use Prim.Native.Nat.{ℕ, _≤_, _<_}
 use native.Mathlib.Omega.{arith}
 use lib.Dec.{leb, ltb, lit<}
 use borrow.Author.Tests.{ltb-false, leb-true}
-use Rattle.buffers.proofs.Refusal.{first-clear, carried-clear}
+use Rattle.buffers.specs.Refusal.{carried}
+use Rattle.buffers.proofs.Refusal.{first-clear, carried-clear, given-below}
 use Rattle.buffers.proofs.Tests.{or-left, or-right}
 use Rattle.solar_roll.specs.Plan.{Plan, rowsOf, timesOf, cellsOf, mostSamples, samplesOrNoneRefusal, planRefusal, PlanFacts}
 use Rattle.solar_masks.specs.Mask.{cellsShort, cellsRefusal}
 use Rattle.solar_masks.specs.Row.{rowShort, rowRefusal}
 use Rattle.solar_masks.specs.Field.{fieldShort, fieldRefusal}
-use Rattle.solar_roll.proofs.PlanFacts.{plan-facts, nothing-said}
+use Rattle.solar_roll.proofs.PlanFacts.{plan-facts, nothing-said, plan-below}
 
 -- 3 was not said
 pub few-samples : (n : ℕ) → samplesOrNoneRefusal n ≡ 0 → n ≤ mostSamples
@@ -36,6 +37,11 @@ module _ (p : Plan) (said room : ℕ) (h : cellsRefusal p said room ≡ 0) where
 
   pub cells-said : said ≡ 0
   cells-said = nothing-said p said false cells-plan
+
+-- the number that such a call is refused by
+pub cells-below : (p : Plan) (said room : ℕ) → said < 64 → cellsRefusal p said room < 64
+unfolding cellsRefusal carried
+cells-below p said room h = given-below 64 _ (lit< tt) (plan-below p said false h, (lit< tt, tt))
 
 module _ (p : Plan) (said time room : ℕ) (h : fieldRefusal p said time room ≡ 0) where
   pub field-said : said ≡ 0

@@ -1,5 +1,6 @@
 -- Laws of specs/.
 pub mod Blocks
 pub mod Calls
+pub mod NamedValues
 pub mod Shared
 pub mod Tiles

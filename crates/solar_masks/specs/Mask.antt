@@ -2,15 +2,15 @@
 -- of the refusals. Definitions only. Assumes nothing.
 use mathlib.Core.Bool.{Bool, false, cond}
 use mathlib.Core.List.{List, [], _∷_}
-use Prim.Native.Nat.{ℕ, _/_, _%_}
+use Prim.Native.Nat.{ℕ, _/_, _%_, _<_}
 use lib.Dec.{eqb, ltb}
-use lib.ListN.{length}
-use lib.Ieee.{Float, lt}
+use lib.ListN.{length, getD}
+use lib.Ieee.{Float, nan, lt}
 use Rattle.buffers.specs.Ranges.{flag}
 use Rattle.buffers.specs.Lent.{filled}
 use Rattle.buffers.specs.Refusal.{first, carried, Reply, reply, unlessRefused}
 use Rattle.float.specs.Arithmetic.{_⊖_, remEuclid}
-use Rattle.solar_roll.specs.Roll.{sampleStep}
+use Rattle.solar_roll.specs.Roll.{InTurn, sampleStep}
 use Rattle.solar_roll.specs.Cell.{violates, inForce}
 use Rattle.solar_roll.specs.Plan.{Plan, timesOf, cellsOf, configOf, cellOf, optimalAt, planRefusal}
 use Rattle.solar_roll.specs.declared.cell.CellRoll.{CellRoll}
@@ -70,6 +70,10 @@ cellMark p rule k = markAt p rule (k / timesOf p) (k % timesOf p)
 -- the named value of the cell of number k: its optimal roll, of a Free cell too
 unfoldable pub cellValue : Plan → ℕ → Float
 cellValue p k = optimalAt p (k / timesOf p) (k % timesOf p)
+
+-- the named value of each cell, in a list that begins with them, lies from 0 up to but not at 360
+abbrev pub ValuesInTurn : Plan → List Float → Type 0
+ValuesInTurn p values = (k : ℕ) → k < cellsOf p → InTurn (getD values k nan)
 
 -- ---- the calls: the plan's refusals, then 7, a lent output shorter than needed
 

@@ -17,11 +17,11 @@ ghost use lib.Ieee.{Float};
 ghost use Rattle.float.specs.Arithmetic.{zero·0};
 ghost use Rattle.buffers.specs.Lent.{filled};
 ghost use Rattle.buffers.specs.Rows.{ColumnsWritten};
-ghost use Rattle.buffers.specs.Refusal.{replyOf};
+ghost use Rattle.buffers.specs.Refusal.{accepted, replyOf};
 ghost use Rattle.solar_roll.specs.Roll.{Axes, bodyAxes, rollDegIn};
 ghost use Rattle.solar_roll.specs.Plan.{count as countOf};
 ghost use Rattle.solar_roll.specs.Plan.{Plan, planOf, rowDirection, cellsOf, mostTimes};
-ghost use Rattle.solar_masks.specs.Mask.{cellValue, cellsReply, valuesAfter};
+ghost use Rattle.solar_masks.specs.Mask.{cellValue, ValuesInTurn, cellsReply, valuesAfter};
 
 // Writes the rolls of `count` cells of a row, whose Sun units lie in `units`.
 fn value_row(
@@ -116,6 +116,9 @@ pub fn named_values(
     ensures { λ r.
         let p : Plan = planOf (now (targets .entry)) (now (suns .entry)) (now (observers .entry)) (now (tolerances .entry)) configured (now (panels .entry)) in
         ⌜ now (values .exit) ≡ valuesAfter p (now (values .entry)) ⌝ }
+    ensures { λ r.
+        let p : Plan = planOf (now (targets .entry)) (now (suns .entry)) (now (observers .entry)) (now (tolerances .entry)) configured (now (panels .entry)) in
+        ⌜ (3 ≤ length (now (panels .entry)) → replyOf r ≡ accepted 0 → ValuesInTurn p (now (values .exit))) ⌝ }
 {
     let refusal = cells_refusal(
         targets,

@@ -1,6 +1,6 @@
--- Laws of one cell: the answer from what rows and panels share; an answer that is not refused; a triple past the end. Assumes nothing.
-use mathlib.Core.Path.{_≡_, refl}
-use mathlib.Core.Bool.{Bool, true, false, cond}
+-- Laws of one cell: the answer from what rows and panels share; an answer that is not refused, and the roll of one At a roll; a triple past the end. Assumes nothing.
+use mathlib.Core.Path.{_≡_, refl, sym, ap}
+use mathlib.Core.Bool.{Bool, true, false, cond, true≢false}
 use mathlib.Core.List.{List}
 use Prim.Native.Nat.{ℕ, _+_, _*_, _≤_}
 use native.Mathlib.Omega.{arith}
@@ -12,7 +12,8 @@ use Rattle.solar_roll.specs.Roll.{Axes, bodyAxes, rollDegIn, panelAngle,
 use Rattle.solar_roll.specs.Cell.{optimalRoll, rollIn, cellReply}
 use Rattle.solar_roll.specs.Plan.{Plan, triple, directionOf, rowPanel, rowConfig, sunAt, cellOf}
 use Rattle.solar_roll.specs.declared.roll.Panel.{Panel}
-use Rattle.solar_roll.specs.declared.cell.CellRoll.the-variants.{Free, At}
+use Rattle.solar_roll.specs.declared.cell.CellRoll.{CellRoll}
+use Rattle.solar_roll.specs.declared.cell.CellRoll.the-variants.{Free, At, Refused}
 
 -- what a row and a panel share makes the same optimal roll, and the same answer
 pub optimal-shared : (target sun normal : Vector) → rollDegIn (bodyAxes target) sun (panelAngle normal) ≡ solarOptimalRollDeg target sun normal
@@ -23,6 +24,27 @@ pub roll-shared : (target sun normal : Vector) → rollIn (bodyAxes target) sun 
 unfolding rollIn rollDegIn optimalRoll bodyAxes panelOf rollIsUnconstrained solarOptimalRollDeg
 roll-shared target sun normal = refl
 
+-- ---- the three kinds of answer
+
+is-at : CellRoll → Bool
+is-at Free = false
+is-at (At roll) = true
+is-at (Refused k) = false
+
+-- the roll of an answer At a roll, NaN of others
+roll-of : CellRoll → Float
+roll-of Free = nan
+roll-of (At roll) = roll
+roll-of (Refused k) = nan
+
+pub free-not-at : (roll : Float) → Free ≡ At roll → ⊥
+unfolding is-at
+free-not-at roll e = true≢false (sym (ap is-at e))
+
+pub refused-not-at : (k : ℕ) (roll : Float) → Refused k ≡ At roll → ⊥
+unfolding is-at
+refused-not-at k roll e = true≢false (sym (ap is-at e))
+
 -- an answer that is not refused
 pub answered : (target sun normal : Vector) → cellReply (optimalRoll target sun normal) ≡ accepted (optimalRoll target sun normal)
 unfolding optimalRoll cellReply
@@ -31,6 +53,15 @@ answered target sun normal = go (rollIsUnconstrained target sun normal)
     go : (b : Bool) → cellReply (cond b Free (At (solarOptimalRollDeg target sun normal))) ≡ accepted (cond b Free (At (solarOptimalRollDeg target sun normal)))
     go true = refl
     go false = refl
+
+-- of an answer At a roll, that roll is the optimal one
+pub at-optimal : (target sun normal : Vector) (roll : Float) → optimalRoll target sun normal ≡ At roll → solarOptimalRollDeg target sun normal ≡ roll
+unfolding optimalRoll roll-of
+at-optimal target sun normal roll = go (rollIsUnconstrained target sun normal)
+  where
+    go : (b : Bool) → cond b Free (At (solarOptimalRollDeg target sun normal)) ≡ At roll → solarOptimalRollDeg target sun normal ≡ roll
+    go true e = absurd (free-not-at roll e)
+    go false e = ap roll-of e
 
 -- past the end a triple is NaN
 pub triple-past : (xs : List Float) (i : ℕ) → length xs ≤ i → vector nan nan nan ≡ triple xs i

@@ -1,5 +1,5 @@
--- The optimal roll of an accepted plan is at most 2 ^ 20 in size, and so finite (`roll-within`). The bounds are powers of two, far from
--- tight: they only show that no step overflows. Assumes nothing.
+-- The optimal roll of an accepted plan is at most 2 ^ 20 in size, and so finite (`roll-within`), and lies from 0 up to but not at 360 (`roll-range`; of
+-- one cell's four triples `cell-range`). The bounds are powers of two, far from tight: they only show that no step overflows. Assumes nothing.
 use mathlib.Core.Path.{_≡_, refl, sym, ap, _∙_, subst}
 use mathlib.Core.Bool.{Bool, true, false, cond, false≢true}
 use mathlib.Core.List.{List}
@@ -14,14 +14,19 @@ use lib.Ieee.{Float, nan, inf, fin, binary64, up, down, sub, mul, lt, le, eq, of
 use Rattle.buffers.specs.Ranges.{any}
 use Rattle.buffers.proofs.Ranges.{any-getD}
 use Rattle.buffers.proofs.Tests.{or-left}
-use Rattle.float.specs.Arithmetic.{zero·0, one, absOf}
+use Rattle.float.specs.Arithmetic.{_⊖_, zero·0, one, absOf, toDegrees, finite}
+use Rattle.float.specs.Arctangent.{arctangent}
 use Rattle.float.proofs.Bounds.{resign, round-resign, Within, within-add, within-sub, within-mul, within-div, within-finite, weaken, Beyond, Size, size-of, size-add, size-weaken, root-keeps, at-most, one-value}
 use Rattle.float.proofs.Angle.{within-arctangent, within-degrees}
 use Rattle.solar_roll.specs.Vectors.{Vector, x, y, z, vector, NEAR_ZERO, dot3, norm3, cross3, over3, normalize3, unwrapOr}
-use Rattle.solar_roll.specs.Roll.{xHat, yHat, zHat, nineTenths, sunUnit, panelAngle, perpendicular, poleFallback, north, yAxis, solarOptimalRollDeg}
-use Rattle.solar_roll.specs.Cell.{LIMIT, tooLarge, badPosition, badDirection}
+use Rattle.solar_roll.specs.Roll.{xHat, yHat, zHat, nineTenths, sunUnit, panelAngle, perpendicular, poleFallback, north, yAxis, zAxis, InTurn, rollBetween, solarOptimalRollDeg}
+use Rattle.solar_roll.specs.Cell.{LIMIT, tooLarge, badPosition, badDirection, optimalRoll}
 use Rattle.solar_roll.specs.Plan.{Plan, triple, rowsOf, timesOf, rowDirection, directionOf, rowPanel, rowConfig, sunAt, optimalAt, PlanFacts}
 use Rattle.solar_roll.specs.declared.vectors.Normalized.{Normalized}
+use Rattle.solar_roll.specs.declared.cell.CellRoll.the-variants.{At}
+use Rattle.solar_roll.proofs.PlanFacts.{Numbers}
+use Rattle.solar_roll.proofs.Cells.{at-optimal}
+use Rattle.solar_roll.proofs.Folding.{folded-range, folded-within}
 
 -- each component at most 2 ^ j in size
 pub record Vec (j : ℕ) (v : Vector) : Type 0 where
@@ -173,16 +178,30 @@ within-sun s o a b = go (lt (norm3 v) NEAR_ZERO) refl
     go true e = x-hat 374
     go false e = within-over 334 (lit< tt) w (beyond 670 (size-norm 334 (lit< tt) w) e)
 
--- the optimal roll is at most 2 ^ 20
-within-roll : (t s n : Vector) → Vec 0 t → Vec 374 s → Within 333 (y n) → Within 333 (z n) → Within 20 (solarOptimalRollDeg t s n)
-unfolding solarOptimalRollDeg panelAngle
-within-roll t s n a b ny nz =
-    let ya = within-y-axis t a in
-    let sy = within-dot 374 84 (lit< tt) b ya in
-    let sz = within-dot 374 85 (lit< tt) b (within-cross 0 84 (lit< tt) a ya) in
-    let sun = within-arctangent _ _ (within-finite 461 sz) (within-finite 460 sy) in
-    let panel = within-arctangent _ _ (within-finite 333 nz) (within-finite 333 ny) in
-    within-degrees 14 (lit< tt) (within-sub 13 (lit< tt) sun panel)
+-- the angles' difference in degrees, before it is folded
+abbrev before-fold : Vector → Vector → Vector → Float
+before-fold t s n = toDegrees (arctangent (dot3 s (zAxis t)) (dot3 s (yAxis t)) ⊖ panelAngle n)
+
+module _ (t s n : Vector) (a : Vec 0 t) (b : Vec 374 s) (ny : Within 333 (y n)) (nz : Within 333 (z n)) where
+  -- it is finite: at most 2 ^ 20 in size
+  before-fold-finite : finite (before-fold t s n) ≡ true
+  unfolding panelAngle
+  before-fold-finite =
+      let ya = within-y-axis t a in
+      let sy = within-dot 374 84 (lit< tt) b ya in
+      let sz = within-dot 374 85 (lit< tt) b (within-cross 0 84 (lit< tt) a ya) in
+      let sun = within-arctangent _ _ (within-finite 461 sz) (within-finite 460 sy) in
+      let panel = within-arctangent _ _ (within-finite 333 nz) (within-finite 333 ny) in
+      within-finite 20 (within-degrees 14 (lit< tt) (within-sub 13 (lit< tt) sun panel))
+
+  -- the optimal roll is at most 2 ^ 20, and lies in its turn
+  within-roll : Within 20 (solarOptimalRollDeg t s n)
+  unfolding solarOptimalRollDeg rollBetween
+  within-roll = weaken 9 20 (lit≤ tt) (folded-within _ before-fold-finite)
+
+  roll-in-turn : InTurn (solarOptimalRollDeg t s n)
+  unfolding solarOptimalRollDeg rollBetween
+  roll-in-turn = folded-range _ before-fold-finite
 
 -- ---- an accepted plan's numbers
 
@@ -228,9 +247,40 @@ module _ (p : Plan) (facts : PlanFacts p) (three : 3 ≤ length (p .panels)) (r 
       (triple-within LIMIT 333 position-within (p .suns) j (facts .suns-small) (omega (arith, facts .suns-length)))
       (triple-within LIMIT 333 position-within (p .observers) j (facts .observers-small) (omega (arith, facts .observers-length)))
 
+  panel-vec : Vec 333 (triple (p .panels) 0)
+  unfolding badPosition
+  panel-vec = triple-within LIMIT 333 position-within (p .panels) 0 (facts .panels-small) (omega (arith, three))
+
   -- the optimal roll of an accepted plan's cell is at most 2 ^ 20 in size
   pub roll-within : Within 20 (optimalAt p r j)
-  unfolding optimalAt rowConfig rowPanel badPosition
-  roll-within =
-      let n = triple-within LIMIT 333 position-within (p .panels) 0 (facts .panels-small) (omega (arith, three)) in
-      within-roll (directionOf p r) (sunAt p j) (triple (p .panels) 0) direction-vec sun-vec (n .at-y) (n .at-z)
+  unfolding optimalAt rowConfig rowPanel
+  roll-within = within-roll (directionOf p r) (sunAt p j) (triple (p .panels) 0) direction-vec sun-vec (panel-vec .at-y) (panel-vec .at-z)
+
+  -- and lies from 0 up to but not at 360, Free or not
+  pub roll-range : InTurn (optimalAt p r j)
+  unfolding optimalAt rowConfig rowPanel
+  roll-range = roll-in-turn (directionOf p r) (sunAt p j) (triple (p .panels) 0) direction-vec sun-vec (panel-vec .at-y) (panel-vec .at-z)
+
+-- ---- the same of four triples, the call of one cell
+
+module _ (target sun observer normal : Vector) (numbers : Numbers target sun observer normal)
+    (target-length : length target ≡ 3) (sun-length : length sun ≡ 3) (observer-length : length observer ≡ 3) (normal-length : length normal ≡ 3) where
+  -- a list of three is its own triple 0
+  position : (v : Vector) → badPosition v ≡ false → length v ≡ 3 → Vec 333 v
+  unfolding badPosition triple
+  position v h l = let t = triple-within LIMIT 333 position-within v 0 h (omega (arith, l)) in record { at-x = t .at-x; at-y = t .at-y; at-z = t .at-z }
+
+  direction : Vec 0 target
+  unfolding badDirection triple
+  direction = let t = triple-within one 0 direction-within target 0 (numbers .targets-small) (omega (arith, target-length)) in
+      record { at-x = t .at-x; at-y = t .at-y; at-z = t .at-z }
+
+  pub cell-range : InTurn (solarOptimalRollDeg target (sunUnit sun observer) normal)
+  cell-range =
+      let n = position normal (numbers .panels-small) normal-length in
+      let unit = within-sun sun observer (position sun (numbers .suns-small) sun-length) (position observer (numbers .observers-small) observer-length) in
+      roll-in-turn target (sunUnit sun observer) normal direction unit (n .at-y) (n .at-z)
+
+  -- so does the roll of the answer
+  pub answer-range : (roll : Float) → optimalRoll target (sunUnit sun observer) normal ≡ At roll → InTurn roll
+  answer-range roll e = subst InTurn (at-optimal target (sunUnit sun observer) normal roll e) cell-range

@@ -1,14 +1,15 @@
--- What is known of a plan that is not refused. Assumes nothing.
+-- What is known of a plan that is not refused, and how large the number of one that is can be. Assumes nothing.
 use mathlib.Core.Path.{_≡_}
 use mathlib.Core.Bool.{Bool, false, not, _||_}
 use mathlib.Core.List.{List}
-use Prim.Native.Nat.{ℕ, _*_, _/_, _%_, _≤_}
+use Prim.Native.Nat.{ℕ, _*_, _/_, _%_, _≤_, _<_}
 use native.Mathlib.Omega.{arith}
 use lib.Dec.{eqb, ltb, lit<}
 use lib.Ieee.{Float}
 use lib.ListN.{length}
 use borrow.Author.Tests.{not-false, eqb-true, ltb-false}
-use Rattle.buffers.proofs.Refusal.{first-clear, carried-clear}
+use Rattle.buffers.specs.Refusal.{carried}
+use Rattle.buffers.proofs.Refusal.{first-clear, carried-clear, given-below}
 use Rattle.buffers.proofs.Tests.{or-left, or-right}
 use Rattle.solar_roll.specs.Cell.{badPosition, badDirection, directionRefusal, numbersRefusal}
 use Rattle.solar_roll.specs.Plan.{Plan, unlikeLengths, mostRows, mostTimes, mostCells, tooMany, sizesRefusal, planRefusal, PlanFacts}
@@ -48,13 +49,13 @@ sizes targets suns observers beyond h =
 
 -- ---- the numbers: none is too large
 
-record Numbers (targets suns observers panels : List Float) : Type 0 where
+pub record Numbers (targets suns observers panels : List Float) : Type 0 where
   pub suns-small : badPosition suns ≡ false
   pub observers-small : badPosition observers ≡ false
   pub targets-small : badDirection targets ≡ false
   pub panels-small : badPosition panels ≡ false
 
-numbers : (targets suns observers panels : List Float) → numbersRefusal targets suns observers panels ≡ 0 → Numbers targets suns observers panels
+pub numbers : (targets suns observers panels : List Float) → numbersRefusal targets suns observers panels ≡ 0 → Numbers targets suns observers panels
 unfolding numbersRefusal directionRefusal
 numbers targets suns observers panels h =
     let c1 = first-clear _ _ _ (lit< tt) h in
@@ -66,6 +67,24 @@ numbers targets suns observers panels h =
       targets-small = first-clear _ _ _ (lit< tt) (c2 .0) .0;
       panels-small = c3 .0;
     }
+
+-- ---- every number that a plan is refused by is below 64, where the one said in the place of 3 is
+
+direction-below : (targets : List Float) → directionRefusal targets < 64
+unfolding directionRefusal
+direction-below targets = given-below 64 _ (lit< tt) (lit< tt, tt)
+
+pub numbers-below : (targets suns observers panels : List Float) → numbersRefusal targets suns observers panels < 64
+unfolding numbersRefusal carried
+numbers-below targets suns observers panels = given-below 64 _ (lit< tt) (lit< tt, (direction-below targets, (lit< tt, tt)))
+
+sizes-below : (targets suns observers : ℕ) (beyond : Bool) → sizesRefusal targets suns observers beyond < 64
+unfolding sizesRefusal
+sizes-below targets suns observers beyond = given-below 64 _ (lit< tt) (lit< tt, (lit< tt, tt))
+
+pub plan-below : (p : Plan) (said : ℕ) (beyond : Bool) → said < 64 → planRefusal p said beyond < 64
+unfolding planRefusal carried
+plan-below p said beyond h = given-below 64 _ (lit< tt) (sizes-below _ _ _ beyond, (h, (numbers-below _ _ _ _, (lit< tt, tt))))
 
 -- ---- the plan
 

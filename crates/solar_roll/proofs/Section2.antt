@@ -1,5 +1,5 @@
 -- Section 2's sentences hold of each cell of an accepted plan (`section2`). Assumes nothing.
-use mathlib.Core.Path.{_≡_, refl, ap, _∙_}
+use mathlib.Core.Path.{_≡_, refl, sym, ap, _∙_}
 use mathlib.Core.Logic.{_⊎_, inl, inr, ⊎-elim, _↔_}
 use mathlib.Core.Bool.{Bool, true, false, cond, _||_, false≢true}
 use Prim.Native.Nat.{ℕ, _≤_, _<_}
@@ -15,10 +15,11 @@ use Rattle.solar_roll.specs.Cell.{optimalRoll, violates}
 use Rattle.solar_roll.specs.Plan.{Plan, rowsOf, timesOf, directionOf, configOf, sunAt, cellOf, optimalAt, planRefusal}
 use Rattle.solar_roll.specs.Section2.{FiniteFloat, Section2}
 use Rattle.solar_roll.specs.declared.cell.CellRoll.{CellRoll}
-use Rattle.solar_roll.specs.declared.cell.CellRoll.the-variants.{Free, At, Refused}
+use Rattle.solar_roll.specs.declared.cell.CellRoll.the-variants.{Free, At}
 use Rattle.solar_roll.proofs.PlanFacts.{plan-facts}
+use Rattle.solar_roll.proofs.Cells.{free-not-at}
 use Rattle.solar_roll.proofs.Difference.{difference-range, difference-nan, difference-not-finite}
-use Rattle.solar_roll.proofs.Finite.{roll-within}
+use Rattle.solar_roll.proofs.Finite.{roll-within, roll-range}
 
 lt-nan : (t : Float) → lt t nan ≡ false
 unfolding lt
@@ -39,14 +40,8 @@ or-true false b = ((λ h. inr h), (λ h. ⊎-elim (λ e. absurd (false≢true e)
 abbrev answer : Bool → Float → CellRoll
 answer free optimal = cond free Free (At optimal)
 
-is-free : CellRoll → Bool
-is-free Free = true
-is-free (At optimal) = false
-is-free (Refused k) = false
-
 at-not-free : (optimal : Float) → At optimal ≡ Free → ⊥
-unfolding is-free
-at-not-free optimal e = false≢true (ap is-free e)
+at-not-free optimal e = free-not-at optimal (sym e)
 
 answer-free : (b : Bool) (optimal : Float) → (answer b optimal ≡ Free) ↔ (b ≡ true)
 answer-free true optimal = ((λ h. refl), (λ h. refl))
@@ -96,6 +91,7 @@ module _ (p : Plan) (said : ℕ) (beyond : Bool) (accepted : planRefusal p said 
   section2 = record {
     free = rw cell (let f = answer-free (along || facing) optimal in let o = or-true along facing in ((λ h. o .0 (f .0 h)), (λ h. f .1 (o .1 h))));
     otherwise = rw cell (answer-at (along || facing) optimal);
+    roll-range = roll-range p (plan-facts p said beyond accepted) three i j in-rows in-times;
     roll-finite = within-finite 20 within;
     no-overflow = no-overflow;
     range = difference-range;

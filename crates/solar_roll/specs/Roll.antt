@@ -1,12 +1,13 @@
 -- Section 2: the Sun's unit, the Free cells, the body's axes, the optimal roll and the difference of two rolls, as solar_roll.rs has them, with
--- every fallback; and the step of even samples (sections 3 and 6). What the code works out once for many cells, or sooner, follows them.
+-- every fallback, the optimal roll folded into 0 to 360 (document 02, Three); and the step of even samples (sections 3 and 6). What the code works out once for many cells, or sooner, follows them.
 -- Definitions only. Assumes nothing.
-use mathlib.Core.Bool.{Bool, cond, _||_}
+use mathlib.Core.Path.{_≡_}
+use mathlib.Core.Bool.{Bool, true, cond, _||_}
 use mathlib.Core.List.{List, [], _∷_}
 use Prim.Native.Nat.{ℕ}
 use lib.IntN.{pos}
 use lib.ListN.{getD}
-use lib.Ieee.{Float, binary64, lt, le, ofInt, ofBits}
+use lib.Ieee.{Float, binary64, lt, le, eq, ofInt, ofBits}
 use Rattle.float.specs.Root.{sqrtOf}
 use Rattle.float.specs.Arithmetic.{_⊕_, _⊖_, _⊗_, _⊘_, zero·0, one, halfTurn, fullTurn, absOf, remEuclid, toDegrees}
 use Rattle.float.specs.Arctangent.{arctangent}
@@ -77,9 +78,22 @@ zAxis t = cross3 t (yAxis t)
 unfoldable pub panelAngle : Vector → Float
 panelAngle normal = arctangent (z normal) (y normal)
 
--- of a target, the Sun's unit and the panel's normal: the Sun's angle in the body's y-z plane less the panel's
+-- a roll's remainder by 360, with 360 itself, to which the sum for a small negative roll rounds, turned to 0
+unfoldable pub foldedRoll : Float → Float
+foldedRoll x = let r = remEuclid x fullTurn in cond (eq r fullTurn) zero·0 r
+
+-- from 0 up to but not at 360
+pub record InTurn (x : Float) : Type 0 where
+  pub low : le zero·0 x ≡ true
+  pub high : lt x fullTurn ≡ true
+
+-- from the Sun's angle and the panel's, in the body's y-z plane: the first less the second, folded
+unfoldable pub rollBetween : Float → Float → Float
+rollBetween sun panel = foldedRoll (toDegrees (sun ⊖ panel))
+
+-- of a target, the Sun's unit and the panel's normal
 unfoldable pub solarOptimalRollDeg : Vector → Vector → Vector → Float
-solarOptimalRollDeg target sun normal = toDegrees (arctangent (dot3 sun (zAxis target)) (dot3 sun (yAxis target)) ⊖ panelAngle normal)
+solarOptimalRollDeg target sun normal = rollBetween (arctangent (dot3 sun (zAxis target)) (dot3 sun (yAxis target))) (panelAngle normal)
 
 -- ---- the difference of the rolls a and b, in degrees: the shorter arc between them, in 0 to 180, or NaN
 
@@ -111,7 +125,7 @@ panelOf normal = record { free = panelIsFree normal; angle = panelAngle normal }
 
 -- the optimal roll, from a body's axes, the Sun's unit and the panel's angle
 unfoldable pub rollDegIn : Axes → Vector → Float → Float
-rollDegIn axes sun angle = toDegrees (arctangent (dot3 sun (axis 2 axes)) (dot3 sun (axis 1 axes)) ⊖ angle)
+rollDegIn axes sun angle = rollBetween (arctangent (dot3 sun (axis 2 axes)) (dot3 sun (axis 1 axes))) angle
 
 -- the shorter arc of a turn by x
 unfoldable pub arc : Float → Float

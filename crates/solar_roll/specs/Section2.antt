@@ -1,4 +1,4 @@
--- Section 2's sentences on a cell: each clause stands under document 01's words. The theorem `section2` (proofs/Section2) gives the record for each cell,
+-- Section 2's sentences on a cell: each clause stands under document 01's words, `roll-range` under document 02's. The theorem `section2` (proofs/Section2) gives the record for each cell,
 -- row i at time j, of every plan that is accepted (`planRefusal .. ≡ 0`) and has a panel. Definitions only. Assumes nothing.
 use mathlib.Core.Path.{_≡_}
 use mathlib.Core.Logic.{_⊎_, _↔_}
@@ -7,7 +7,7 @@ use Prim.Native.Nat.{ℕ}
 use lib.Dec.{T}
 use lib.Ieee.{Float, nan, binary64, fits, lt, le}
 use Rattle.float.specs.Arithmetic.{_⊖_, zero·0, halfTurn, finite}
-use Rattle.solar_roll.specs.Roll.{sunAlongBoresight, panelIsFree, circularDiffDeg}
+use Rattle.solar_roll.specs.Roll.{sunAlongBoresight, panelIsFree, InTurn, circularDiffDeg}
 use Rattle.solar_roll.specs.Cell.{violates}
 use Rattle.solar_roll.specs.Plan.{Plan, directionOf, configOf, sunAt, cellOf, optimalAt}
 use Rattle.solar_roll.specs.declared.cell.CellRoll.the-variants.{Free, At}
@@ -27,6 +27,8 @@ pub record Section2 (p : Plan) (i j : ℕ) : Type 0 where
   pub free : (cellOf p i j ≡ Free) ↔ ((sunAlongBoresight (directionOf p i) (sunAt p j) ≡ true) ⊎ (panelIsFree (configOf p i .«panel_normal») ≡ true))
   -- "Otherwise the axes and roll of `solar_optimal_roll_deg`": At(roll)
   pub otherwise : (cellOf p i j ≡ Free → ⊥) → cellOf p i j ≡ At (optimalAt p i j)
+  -- "it lies from 0 up to but not at 360" (document 02, Three), of a Free cell too
+  pub roll-range : InTurn (optimalAt p i j)
   -- that roll is finite, and no finite roll minus it overflows (docs/DECISIONS.md, 6)
   pub roll-finite : finite (optimalAt p i j) ≡ true
   pub no-overflow : (roll : Float) → FiniteFloat roll → finite (roll ⊖ optimalAt p i j) ≡ true

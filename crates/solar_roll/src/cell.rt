@@ -10,8 +10,10 @@ use float::abs;
 ghost use mathlib.Core.Path.{_≡_};
 ghost use Rattle.buffers.specs.Ranges.{any};
 ghost use Rattle.buffers.specs.Refusal.{reply};
-ghost use Rattle.solar_roll.specs.Roll.{sunUnit};
+ghost use lib.Ieee.{Float};
+ghost use Rattle.solar_roll.specs.Roll.{sunUnit, InTurn};
 ghost use Rattle.solar_roll.specs.Cell.{optimalRoll, freeOrAt, rollIn, cellReply, violates, inForce};
+ghost use Rattle.solar_roll.specs.declared.cell.CellRoll.the-variants.{At};
 ghost use Rattle.solar_roll.specs.Cell.{tooLarge, badPosition, badDirection, directionRefusal, numbersRefusal};
 
 // The largest size of a position's or a panel's number.
@@ -165,6 +167,7 @@ pub fn cell_roll(
     panel_normal: [f64; 3],
 ) -> CellRoll
     ensures { λ r. ⌜ cellReply r ≡ reply (numbersRefusal target sun observer «panel_normal») (optimalRoll target (sunUnit sun observer) «panel_normal») ⌝ }
+    ensures { λ r. ⌜ ((roll : Float) → r ≡ At roll → InTurn roll) ⌝ }
 {
     let refusal = numbers_refusal(&target, &sun, &observer, &panel_normal);
     if refusal != 0 {

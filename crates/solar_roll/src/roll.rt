@@ -20,9 +20,9 @@ ghost use mathlib.Core.Bool.{true};
 ghost use lib.Ieee.{nan, neg, lt};
 ghost use lib.ListN.{length, getD};
 ghost use Rattle.buffers.specs.Lent.{filled};
-ghost use Rattle.float.specs.Arithmetic.{_⊖_, fullTurn, toDegrees};
+ghost use Rattle.float.specs.Arithmetic.{fullTurn, finite};
 ghost use Rattle.solar_roll.specs.Vectors.{dot3};
-ghost use Rattle.solar_roll.specs.Roll.{sunUnit, sunAlongBoresight, panelIsFree, panelOf, rollIsUnconstrained, perpendicular, poleFallback, north, bodyAxes, rollDegIn, solarOptimalRollDeg, arc, circularDiffDeg};
+ghost use Rattle.solar_roll.specs.Roll.{sunUnit, sunAlongBoresight, panelIsFree, panelOf, rollIsUnconstrained, perpendicular, poleFallback, north, bodyAxes, InTurn, rollBetween, rollDegIn, solarOptimalRollDeg, arc, circularDiffDeg};
 
 // The unit vector from the observer to the Sun.
 pub fn sun_unit(sun: [f64; 3], observer: [f64; 3]) -> [f64; 3]
@@ -121,15 +121,25 @@ pub fn body_axes(target: [f64; 3]) -> [[f64; 3]; 3]
     [target, y_axis, z_axis]
 }
 
+// The optimal roll: the Sun's angle less the panel's, in degrees, as a remainder by 360. 360 more than a small negative
+// number rounds to 360, which becomes 0.
+fn roll_between(sun_angle: f64, panel_angle: f64) -> f64
+    ensures { λ r. ⌜ r ≡ rollBetween «sun_angle» «panel_angle» ⌝ }
+{
+    let r = rem_euclid_turn(to_degrees(sun_angle - panel_angle));
+    if r == 360.0 { 0.0 } else { r }
+}
+
 // The optimal roll of a cell, from what its row and its panel share.
 pub(crate) fn roll_deg_in(axes: [[f64; 3]; 3], sun_unit: [f64; 3], panel_angle: f64) -> f64
     ensures { λ r. ⌜ r ≡ rollDegIn axes «sun_unit» «panel_angle» ⌝ }
+    ensures { λ r. ⌜ (finite r ≡ true → InTurn r) ⌝ }
 {
     let y_axis = axes[1];
     let z_axis = axes[2];
     let sun_y = dot3(sun_unit, y_axis);
     let sun_z = dot3(sun_unit, z_axis);
-    to_degrees(atan2(sun_z, sun_y) - panel_angle)
+    roll_between(atan2(sun_z, sun_y), panel_angle)
 }
 
 // The part of each of the Sun's units along an axis.
@@ -148,12 +158,13 @@ fn parts_along(units: &[[f64; 3]], axis: [f64; 3], count: usize, parts: &mut [f6
 // Makes of each of the Sun's angles the roll.
 fn to_rolls(panel_angle: f64, count: usize, rolls: &mut [f64])
     requires { ⌜ count ≤ length (now rolls) ⌝ }
-    ensures { λ _. ⌜ now (rolls .exit) ≡ filled count (λ k. toDegrees (getD (now (rolls .entry)) k nan ⊖ «panel_angle»)) (now (rolls .entry)) ⌝ }
+    ensures { λ _. ⌜ now (rolls .exit) ≡ filled count (λ k. rollBetween (getD (now (rolls .entry)) k nan) «panel_angle») (now (rolls .entry)) ⌝ }
 {
     let mut k = 0;
     while k < count {
         let angle = rolls[k];
-        rolls[k] = to_degrees(angle - panel_angle);
+        let roll = roll_between(angle, panel_angle);
+        rolls[k] = roll;
         k += 1;
     }
 }
@@ -178,6 +189,7 @@ pub fn rolls_deg_in(axes: [[f64; 3]; 3], units: &[[f64; 3]], panel_angle: f64, r
 // The roll, in degrees from north, at which the panel gets the most light.
 pub fn solar_optimal_roll_deg(target: [f64; 3], sun_unit: [f64; 3], panel_normal: [f64; 3]) -> f64
     ensures { λ r. ⌜ r ≡ solarOptimalRollDeg target «sun_unit» «panel_normal» ⌝ }
+    ensures { λ r. ⌜ (finite r ≡ true → InTurn r) ⌝ }
 {
     let panel_angle = atan2(panel_normal[2], panel_normal[1]);
     roll_deg_in(body_axes(target), sun_unit, panel_angle)

@@ -5,7 +5,7 @@ use crate::plans::configured;
 ghost use mathlib.Core.Path.{_≡_};
 ghost use lib.ListN.{length};
 ghost use Rattle.solar_roll.specs.Plan.{Plan, samplesOrNoneRefusal};
-ghost use Rattle.solar_masks.specs.Mask.{atRoll, atConfigured, atEveryRoll, cellsReply, maskAfter, valuesAfter};
+ghost use Rattle.solar_masks.specs.Mask.{atRoll, atConfigured, atEveryRoll, ValuesInTurn, cellsReply, maskAfter, valuesAfter};
 ghost use Rattle.solar_masks.specs.Row.{rowReply, rowMaskAfter, severitiesAfter};
 ghost use Rattle.solar_masks.specs.Field.{fieldReply, fieldAfter};
 ghost use Rattle.solar_roll.specs.declared.cell.EvaluationRoll.the-variants.{Sweep};
@@ -28,7 +28,8 @@ pub extern "C" fn wilfnusk_named_values(
     ensures { λ r. let p : Plan = lentPlan (now (targets .entry)) (now (suns .entry)) (now (observers .entry))
         (now (tolerances .entry)) «has_roll» «roll_deg» «panel_x» «panel_y» «panel_z» in
         ⌜ (r ≡ int64 (cellsReply p 0 (length (now (out .entry)))))
-        × (now (out .exit) ≡ valuesAfter p (now (out .entry))) ⌝ }
+        × (now (out .exit) ≡ valuesAfter p (now (out .entry)))
+        × (r ≡ 0 → ValuesInTurn p (now (out .exit))) ⌝ }
 {
     let configured = configured(has_roll, roll_deg);
     let panels = [panel_x, panel_y, panel_z];

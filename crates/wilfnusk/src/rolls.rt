@@ -5,7 +5,7 @@ use solar_roll::cell_roll;
 ghost use mathlib.Core.Path.{_≡_};
 ghost use Rattle.buffers.specs.Refusal.{Reply, reply};
 ghost use Rattle.solar_roll.specs.Vectors.{Vector, vector};
-ghost use Rattle.solar_roll.specs.Roll.{sunUnit};
+ghost use Rattle.solar_roll.specs.Roll.{sunUnit, InTurn};
 ghost use Rattle.solar_roll.specs.Cell.{numbersRefusal, optimalRoll};
 ghost use Rattle.wilfnusk.specs.Answers.{int64, cellAnswer, cellWritten};
 
@@ -30,7 +30,7 @@ pub extern "C" fn wilfnusk_cell(
         let observer : Vector = vector «observer_x» «observer_y» «observer_z» in
         let panel : Vector = vector «panel_x» «panel_y» «panel_z» in
         let said : Reply CellRoll = reply (numbersRefusal target sun observer panel) (optimalRoll target (sunUnit sun observer) panel) in
-        ⌜ (r ≡ int64 (cellAnswer said)) × (now (roll .exit) ≡ cellWritten said (now (roll .entry))) ⌝ }
+        ⌜ (r ≡ int64 (cellAnswer said)) × (now (roll .exit) ≡ cellWritten said (now (roll .entry))) × (r ≡ 1 → InTurn (now (roll .exit))) ⌝ }
 {
     let target = [target_x, target_y, target_z];
     let sun = [sun_x, sun_y, sun_z];

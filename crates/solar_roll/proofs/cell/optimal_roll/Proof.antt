@@ -16,7 +16,7 @@ returns c = simp (sym (c .before .roll-is-unconstrained .ensures) ∙ c .if1 .ta
 
 returns-2 : tie.Need-returns-2
 unfolding optimalRoll
-returns-2 c = simp (sym (c .before .before .roll-is-unconstrained .ensures) ∙ c .before .if1 .left, c .solar-optimal-roll-deg .ensures)
+returns-2 c = simp (sym (c .before .before .roll-is-unconstrained .ensures) ∙ c .before .if1 .left, c .solar-optimal-roll-deg .ensures .0)
 
 pub optimal-roll-spec : {M : Type 1} → statement M
 optimal-roll-spec =

@@ -1,4 +1,5 @@
 use Rattle.solar_roll.specs.Roll.{rollDegIn}
+use Rattle.solar_roll.proofs.Folding.{between-in-turn}
 use borrow.Author.Needs.{needs}
 use Rattle.solar_roll.proofs.roll.roll_deg_in.Statement.{statement}
 use Rattle.solar_roll.proofs.roll.roll_deg_in.Tie as tie
@@ -18,12 +19,12 @@ dot3-requires-2 c κs = search needs
 atan2-requires : tie.Need-atan2-requires
 atan2-requires c κs = search needs
 
-to-degrees-requires : tie.Need-to-degrees-requires
-to-degrees-requires c κs = search needs
+roll-between-requires : tie.Need-roll-between-requires
+roll-between-requires c κs = search needs
 
 returns : tie.Need-returns
 unfolding rollDegIn
-returns c = cc
+returns c = (cc, between-in-turn _ _ _ (c .roll-between .ensures))
 
 pub roll-deg-in-spec : {M : Type 1} → statement M
 roll-deg-in-spec =
@@ -34,5 +35,5 @@ roll-deg-in-spec =
     dot3-requires
     dot3-requires-2
     atan2-requires
-    to-degrees-requires
+    roll-between-requires
     returns)

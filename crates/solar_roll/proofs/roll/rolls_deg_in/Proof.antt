@@ -1,18 +1,17 @@
--- `rolls_deg_in`: the Sun's parts along two axes, their arctangents, and these less the panel's angle in degrees. Assumes nothing.
+-- `rolls_deg_in`: the Sun's parts along two axes, their arctangents, and the rolls between these and the panel's angle. Assumes nothing.
 use mathlib.Core.Path.{_≡_, sym, ap, _∙_}
 use mathlib.Core.List.{List, []}
 use Prim.Native.Nat.{ℕ, _<_, min}
 use native.Mathlib.Omega.{arith}
 use denote.Ref.{now}
-use lib.Ieee.{Float, binary64, nan, sub}
+use lib.Ieee.{Float, nan}
 use lib.ListN.{length, getD, take}
 use Rattle.buffers.specs.Ranges.{tab}
 use Rattle.buffers.specs.Lent.{filled}
 use Rattle.buffers.proofs.Ranges.{length-tab, getD-tab}
 use Rattle.buffers.proofs.Lent.{filled-ext, filled-then, take-filled}
-use Rattle.float.specs.Arithmetic.{toDegrees}
 use Rattle.float.specs.Arctangent.{arctangent}
-use Rattle.solar_roll.specs.Roll.{rollDegIn}
+use Rattle.solar_roll.specs.Roll.{rollBetween, rollDegIn}
 use borrow.Author.Needs.{needs}
 use Rattle.solar_roll.proofs.roll.rolls_deg_in.Statement.{statement}
 use Rattle.solar_roll.proofs.roll.rolls_deg_in.Tie as tie
@@ -93,7 +92,7 @@ returns c =
     let zn = ap length zs ∙ length-tab _ _ in
     let yn = ap length ys ∙ length-tab _ _ in
     let angles = arctangents (n .smaller2 .result) _ _ _ _ _ _ _ zs ys (omega (arith, zn, yn, count)) (r .atan2-each .ensures) in
-    filled-then _ (λ k angle. toDegrees (sub binary64 angle (a .panel-angle))) _ nan _ _ _ angles (t .to-rolls .ensures)
+    filled-then _ (λ k angle. rollBetween angle (a .panel-angle)) _ nan _ _ _ angles (t .to-rolls .ensures)
     ∙ ap (λ (i : ℕ). filled i (λ k. rollDegIn (a .t1) (getD (now (a .units)) k []) (a .panel-angle)) (now (a .rolls))) count
 
 pub rolls-deg-in-spec : {M : Type 1} → statement M

@@ -24,9 +24,9 @@ roll-deg-in-requires c κs = search needs
 returns : tie.Need-returns
 unfolding panelAngle
 returns c =
-    c .roll-deg-in .ensures
-    ∙ ap₂ (λ (axes : Axes) (angle : Float). rollDegIn axes (c .before .before .before .args .sun-unit) angle) (c .before .body-axes .ensures) (c .before .before .atan2 .ensures)
-    ∙ optimal-shared _ _ _
+    let call = c .roll-deg-in .ensures in
+    let shared = ap₂ (λ (axes : Axes) (angle : Float). rollDegIn axes (c .before .before .before .args .sun-unit) angle) (c .before .body-axes .ensures) (c .before .before .atan2 .ensures) in
+    (call .0 ∙ shared ∙ optimal-shared _ _ _, call .1)
 
 pub solar-optimal-roll-deg-spec : {M : Type 1} → statement M
 solar-optimal-roll-deg-spec =

@@ -5,16 +5,16 @@ use mathlib.Core.List.{List}
 use native.Mathlib.Omega.{arith}
 use borrow.Author.Needs.{needs}
 use denote.Ref.{now}
-use lib.Ieee.{Float, binary64, nan, sub}
+use lib.Ieee.{Float, nan}
 use lib.ListN.{length, length-set, getD, set}
 use Rattle.buffers.specs.Lent.{filled}
 use Rattle.buffers.proofs.Lent.{filled-zero, filled-next, getD-filled-beyond}
-use Rattle.float.specs.Arithmetic.{toDegrees}
+use Rattle.solar_roll.specs.Roll.{rollBetween}
 use Rattle.solar_roll.proofs.roll.to_rolls.Statement.{statement}
 use Rattle.solar_roll.proofs.roll.to_rolls.Tie as tie
 
 abbrev Inv-loop : tie.InvT-loop
-Inv-loop panel-angle count rolls₀ k₀ rolls k = (k ≤ count) × (count ≤ length rolls₀) × (length rolls ≡ length rolls₀) × (rolls ≡ filled k (λ t. toDegrees (sub binary64 (getD rolls₀ t nan) panel-angle)) rolls₀)
+Inv-loop panel-angle count rolls₀ k₀ rolls k = (k ≤ count) × (count ≤ length rolls₀) × (length rolls ≡ length rolls₀) × (rolls ≡ filled k (λ t. rollBetween (getD rolls₀ t nan) panel-angle) rolls₀)
 
 abbrev μ-loop : tie.MeasureT-loop
 μ-loop panel-angle count rolls₀ k₀ rolls k = count - k
@@ -28,8 +28,8 @@ mul-angle c = search needs
 slice-read-angle : tie.Need-slice-read-angle Inv-loop μ-loop
 slice-read-angle c = search needs
 
-to-degrees-requires : tie.Need-to-degrees-requires Inv-loop μ-loop
-to-degrees-requires c κs = search needs
+roll-between-requires : tie.Need-roll-between-requires Inv-loop μ-loop
+roll-between-requires c κs = search needs
 
 mul-rolls : tie.Need-mul-rolls Inv-loop μ-loop
 mul-rolls c = search needs
@@ -49,7 +49,7 @@ loop-again c =
     let r = now (c .before .before .before .before .before .args .rolls) in
     let l : at .k < length r = omega arith in
     let v = ap (λ (x : List Float). getD x (at .k) nan) (at .inv .3) ∙ getD-filled-beyond _ (at .k) r nan (at .k) (omega arith) in
-    (omega arith, at .inv .1, simp length-set (at .inv .2), ap (λ (x : List Float). set x (at .k) (c .to-degrees .result)) (at .inv .3) ∙ filled-next _ _ _ _ l (simp (c .to-degrees .ensures, v)))
+    (omega arith, at .inv .1, simp length-set (at .inv .2), ap (λ (x : List Float). set x (at .k) (c .roll-between .result)) (at .inv .3) ∙ filled-next _ _ _ _ l (simp (c .roll-between .ensures, v)))
 
 same-length : tie.Need-same-length Inv-loop μ-loop
 same-length c = search needs
@@ -68,7 +68,7 @@ to-rolls-spec =
     loop-holds
     mul-angle
     slice-read-angle
-    to-degrees-requires
+    roll-between-requires
     mul-rolls
     slice-write-rolls
     add-k
