@@ -1,4 +1,4 @@
-/* Uses include/wilfnusk.h as a program in C or C++ does: the examples of document 01, and of document 02's requests One and Two. Prints document
+/* Uses include/wilfnusk.h as a program in C or C++ does: the examples of document 01, and of document 02's requests One to Three. Prints document
  * 01's journal. */
 #include <stdio.h>
 #include <string.h>
@@ -130,6 +130,7 @@ int main(void)
     tolerances();
 
     expect(wilfnusk_cell(1, 0, 0, 1, 0, 0, 0, 0, 0, 0, 1, 0, &roll) == 0 && roll == -1, "Sun on the boresight: Free, roll unwritten");
+    expect(wilfnusk_cell(1, 0, 0, 0, 0, -1, 0, 0, 0, 0, 1, 0, &roll) == 1 && roll == 270, "Sun [0,0,-1]: At 270, not -90");
     expect(wilfnusk_cell(1, 0, 0, 0, 0, 1, 0, 0, 0, 0, 1, 0, &roll) == 1 && roll == 90, "Sun [0,0,1]: At 90");
     expect(wilfnusk_cell(2, 0, 0, 0, 0, 1, 0, 0, 0, 0, 1, 0, &roll) == -5 && roll == 90, "a target beyond 1: -5, roll unwritten");
 

@@ -10,9 +10,16 @@ struct Patch {
     times: usize,
 }
 
-const PATCHES: [Patch; 10] = [
+const PATCHES: [Patch; 11] = [
     // Document 01, section 1: the harness patches f64::atan2.
     Patch { file: "src/constraints/solar_roll.rs", from: "f64::atan2(", to: "crate::patch::atan2(", times: 2 },
+    // Document 02, request Three: `solar_optimal_roll_deg` folds its roll. This is its last expression after the patch above.
+    Patch {
+        file: "src/constraints/solar_roll.rs",
+        from: "(crate::patch::atan2(sun_z, sun_y) - panel_angle).to_degrees()",
+        to: "crate::patch::folded(move || (crate::patch::atan2(sun_z, sun_y) - panel_angle).to_degrees())",
+        times: 1,
+    },
     // Document 02, request One: the harness patches `sin_cos`, `sin` and `cos`. Each file gets the trait that has them.
     Patch { file: "src/constraints/solar_roll.rs", from: ".sin_cos()", to: ".patched_sin_cos()", times: 2 },
     Patch {

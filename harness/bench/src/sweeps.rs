@@ -88,7 +88,8 @@ fn bytes(numbers: &[f64]) -> Vec<u8> {
     numbers.iter().flat_map(|x| x.to_le_bytes()).collect()
 }
 
-/// `patched`: with section 1's arctangent on both sides; else the original has the C library's, and the answers differ in the last bits.
+/// `patched`: with section 1's arctangent on both sides; else the original has the C library's, and the answers differ in the last bits. Its rolls
+/// are folded either way.
 pub fn named_case(name: &'static str, (targets, times): (usize, usize), patched: bool, limit: Limit) -> Case {
     let plan = inputs::plan(targets, times, 1, 10.0);
     let (o, cells) = (oracle(&plan), plan.cells() as u64);

@@ -1,11 +1,34 @@
 //! Plans: poles, zero vectors, the Sun on the boresight and close to it, the Sun at the observer, signed zeros, panels without y-z part,
-//! tolerances at exact distances, NaN and infinite tolerances and rolls.
+//! tolerances at exact distances, NaN and infinite tolerances and rolls; and plans whose rolls are at whole, half, quarter and eighth turns.
+use crate::catalogue::beside;
 use crate::Seeded;
 use model::plan::{is_unit, Rolls};
 use model::roll::{difference, optimal_roll, sun_unit};
 use model::{arithmetic::remainder, Plan};
 
 type Vector = [f64; 3];
+
+/// What is folded, and what becomes of it: request Three.
+pub const FOLDED: [(f64, f64); 16] = [
+    (-270.0, 90.0),
+    (-180.0, 180.0),
+    (-360.0, -0.0),
+    (360.0, 0.0),
+    (-0.0, -0.0),
+    (0.0, 0.0),
+    // 360 - 2^-45 lies halfway between 360 and the number below it.
+    (-2.842170943040401e-14, 0.0),
+    (-2.8421709430404014e-14, f64::from_bits(0x4076_7fff_ffff_ffff)),
+    (-5e-324, 0.0),
+    (f64::from_bits(0xc076_7fff_ffff_ffff), f64::from_bits(0x3d30_0000_0000_0000)),
+    (f64::from_bits(0x4076_7fff_ffff_ffff), f64::from_bits(0x4076_7fff_ffff_ffff)),
+    // Larger than any cell's roll that was seen: the remainder is not one addition of 360.
+    (-450.0, 270.0),
+    (-720.0, -0.0),
+    (720.0, 0.0),
+    (1_048_576.0, 256.0),
+    (-1_048_576.0, 104.0),
+];
 
 /// Whether all targets have length 1, as `is_unit` has it.
 #[derive(Clone, Copy, PartialEq, Debug)]
@@ -164,6 +187,45 @@ pub fn plan(s: &mut Seeded, targets: Targets, rows: usize, times: usize) -> Plan
     }
 }
 
+/// How far a Sun or panel at distance 1 may be from an axis to be just off it.
+fn tiny(s: &mut Seeded) -> f64 {
+    match s.below(3) {
+        0 => s.one_of(&[5e-324, 1e-300, 1e-16]),
+        // A few of P's last bits: the rolls beside -360.
+        1 => s.within(2, 5) as f64 * f64::EPSILON,
+        // 2^-45 degrees and the numbers beside: `FOLDED` says why.
+        _ => beside(4.960524086056721e-16, s.below(3) as i64 - 1),
+    }
+}
+
+/// In the y-z plane: along an axis or just off it, zeros of either sign, or halfway between two axes.
+fn at_a_turn(s: &mut Seeded) -> Vector {
+    let mut v = [signed_zero(s), s.one_of(&[1.0, -1.0]), signed_zero(s)];
+    match s.below(5) {
+        0 | 1 => (),
+        2 | 3 => v[2] = tiny(s) * s.one_of(&[1.0, -1.0]),
+        _ => v[2] = s.one_of(&[1.0, -1.0]),
+    }
+    if s.once_in(3) {
+        v.swap(1, 2);
+    }
+    v
+}
+
+/// Rows times columns, with rolls at eighths of a turn and just off them. Before the folding some are -360, some 360, -0, or so little below 0 that
+/// 360 more is 360. `for_sweep` or `for_roll` gives it tolerances, and a sweep its rolls.
+pub fn at_turns(s: &mut Seeded, rows: usize, times: usize) -> Plan {
+    let target = |s: &mut Seeded| if s.once_in(4) { axis(s) } else { [1.0, 0.0, 0.0] };
+    let panel = if s.once_in(2) { at_a_turn(s) } else { [0.0, s.one_of(&[1.0, -1.0]), signed_zero(s)] };
+    Plan {
+        targets: (0..rows).flat_map(|_| target(s)).collect(),
+        suns: (0..times).flat_map(|_| at_a_turn(s)).collect(),
+        observers: vec![0.0; 3 * times],
+        panels: panel.to_vec(),
+        ..Plan::default()
+    }
+}
+
 /// The optimal roll of some cell of a row, 0 where there is none.
 fn roll_in_row(s: &mut Seeded, plan: &Plan, row: usize) -> f64 {
     if plan.times() == 0 {
@@ -304,6 +366,15 @@ mod tests {
     use super::*;
     use model::arithmetic::bits;
     use model::journal::Sweep;
+    use model::roll::folded;
+
+    #[test]
+    fn folding_to_the_bit() {
+        for (roll, to) in FOLDED {
+            let found = folded(roll);
+            assert!(bits(found) == bits(to), "{roll:e} to {found:e} and not {to:e}");
+        }
+    }
 
     #[test]
     fn unit_targets_have_length_1() {

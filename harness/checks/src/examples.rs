@@ -1,8 +1,9 @@
 //! Document 01's examples: what is asked, and the answer that it prints. Beside its own list, the bits and roots that section 1 names, and
-//! what it rules out. Apart from them what document 02's request One says of sine, cosine and catalogue positions, worked out by hand.
+//! what it rules out. Apart from them what document 02's request One says of sine, cosine and catalogue positions, and what request Three says of
+//! rolls, worked out by hand.
 use crate::Calls;
 use model::arithmetic::{bits, P};
-use model::plan::Rolls;
+use model::plan;
 use model::windows::Window;
 use model::{Answer, Optimal, Plan, Roll};
 use Asked::*;
@@ -21,6 +22,8 @@ pub enum Asked {
     Vector(f64, f64),
     /// The roll with the Sun there.
     RollOf([f64; 3]),
+    /// The roll with the Sun there and this panel, and then the named values of a row with the Sun there all along.
+    Rolls([f64; 3], [f64; 3]),
     /// The mark at roll 0 with the Sun there and this tolerance.
     Mark([f64; 3], f64),
     /// A row's marks.
@@ -119,6 +122,26 @@ pub const REQUEST_ONE: [(Asked, &str); 26] = [
     (Cosine(f64::NEG_INFINITY), "inf"),
 ];
 
+pub const REQUEST_THREE: [(Asked, &str); 13] = [
+    (Rolls([0.0, 1.0, 0.0], [0.0, 1.0, 0.0]), "0 0"),
+    (Rolls([0.0, 0.0, 1.0], [0.0, 1.0, 0.0]), "90 90"),
+    (Rolls([0.0, -1.0, 0.0], [0.0, 1.0, 0.0]), "180 180"),
+    // -90, -180, -270 and -360 before they are folded, and 360.
+    (Rolls([0.0, 0.0, -1.0], [0.0, 1.0, 0.0]), "270 270"),
+    (Rolls([-0.0, -1.0, -0.0], [0.0, 1.0, 0.0]), "180 180"),
+    (Rolls([-0.0, -1.0, -0.0], [0.0, 0.0, 1.0]), "90 90"),
+    (Rolls([-0.0, -1.0, -0.0], [0.0, -1.0, 0.0]), "-0 -0"),
+    (Rolls([0.0, -1.0, 0.0], [0.0, -1.0, -0.0]), "0 0"),
+    // -5.7e-15; -2^-45, and 360 more is a tie; the number below it.
+    (Rolls([0.0, 1.0, -1e-16], [0.0, 1.0, 0.0]), "0 0"),
+    (Rolls([0.0, 1.0, -4.960524086056721e-16], [0.0, 1.0, 0.0]), "0 0"),
+    (Rolls([0.0, 1.0, -4.960524086056722e-16], [0.0, 1.0, 0.0]), "359.99999999999994 359.99999999999994"),
+    // The number above -360.
+    (Rolls([0.0, -1.0, -4.0 * f64::EPSILON], [0.0, -1.0, 0.0]), "0.00000000000005684341886080802 0.00000000000005684341886080802"),
+    // A cell that is Free has a named value, -90 before it is folded.
+    (Rolls([1.0, 0.0, 0.0], [0.0, 0.0, 1.0]), "Free 270"),
+];
+
 /// The examples' target and panel, with a Sun a time, seen from 0; n is 1.
 pub fn plan(suns: &[[f64; 3]], tolerance_deg: f64) -> Plan {
     Plan {
@@ -128,8 +151,13 @@ pub fn plan(suns: &[[f64; 3]], tolerance_deg: f64) -> Plan {
         tolerances: vec![tolerance_deg],
         roll_deg: None,
         panels: vec![0.0, 1.0, 0.0],
-        rolls: Rolls::Even(1),
+        rolls: plan::Rolls::Even(1),
     }
+}
+
+/// More times than the 64 whose rolls the library works out side by side, all with this Sun.
+pub fn long_row(sun: [f64; 3], panel: [f64; 3]) -> Plan {
+    Plan { panels: panel.to_vec(), ..plan(&[sun; 70], 0.0) }
 }
 
 /// The plan of the example's journal.
@@ -162,6 +190,12 @@ pub fn roll(optimal: Optimal) -> String {
     }
 }
 
+/// A roll, and the values of a row that is the same all along; every value where it is not.
+pub fn rolls(optimal: Optimal, mut values: Vec<f64>) -> String {
+    values.dedup_by_key(|value| bits(*value));
+    format!("{} {}", roll(optimal), vector(&values))
+}
+
 /// What an implementation says, as document 01 prints it.
 pub fn answer(calls: &dyn Calls, asked: Asked) -> Answer<String> {
     Ok(match asked {
@@ -175,6 +209,10 @@ pub fn answer(calls: &dyn Calls, asked: Asked) -> Answer<String> {
         CosineBits(r) => format!("{:016x}", bits(calls.cosine(r))),
         Vector(ra, dec) => vector(&calls.radec_to_unit_vectors_batch(&[ra], &[dec], 3)?),
         RollOf(sun) => roll(calls.cell([1.0, 0.0, 0.0], sun, [0.0; 3], [0.0, 1.0, 0.0])?),
+        Rolls(sun, panel) => {
+            let optimal = calls.cell([1.0, 0.0, 0.0], sun, [0.0; 3], panel)?;
+            rolls(optimal, calls.named_values(&long_row(sun, panel), 70)?)
+        }
         Mark(sun, tolerance) => marks(&calls.in_constraint_batch_at_roll(&plan(&[sun], tolerance), Roll::Sweep(0.0), 1)?),
         Violations(marks) => {
             let (mask, times) = row(marks);
@@ -194,10 +232,13 @@ pub fn answer(calls: &dyn Calls, asked: Asked) -> Answer<String> {
     })
 }
 
+const SOURCES: [(&str, &[(Asked, &str)]); 3] =
+    [("document 01", &EXAMPLES), ("request One", &REQUEST_ONE), ("request Three", &REQUEST_THREE)];
+
 /// Holds an implementation's answers against the printed ones: how many differ.
 pub fn run(who: &str, answer: impl Fn(Asked) -> Answer<String>) -> usize {
     let mut differ = 0;
-    for (source, list) in [("document 01", &EXAMPLES[..]), ("request One", &REQUEST_ONE)] {
+    for (source, list) in SOURCES {
         for &(asked, printed) in list {
             let said = answer(asked);
             if said.as_deref() != Ok(printed) {
@@ -206,6 +247,7 @@ pub fn run(who: &str, answer: impl Fn(Asked) -> Answer<String>) -> usize {
             }
         }
     }
-    println!("examples: {} of document 01, {} of request One, {differ} differ in {who}", EXAMPLES.len(), REQUEST_ONE.len());
+    let counts: Vec<String> = SOURCES.iter().map(|(source, list)| format!("{} of {source}", list.len())).collect();
+    println!("examples: {}, {differ} differ in {who}", counts.join(", "));
     differ
 }

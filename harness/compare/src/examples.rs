@@ -1,17 +1,28 @@
-//! The examples of document 01 and of request One against the customer's Rust. What it does not have, root, arctangent, sine, cosine, header
-//! and recovery, is the plain model's.
-use checks::examples::{self, journal_plan, marks, plan, roll, row, vector, windows, Asked, Asked::*};
+//! The examples of document 01 and of requests One and Three against the customer's Rust. What it does not have, root, arctangent, sine,
+//! cosine, header and recovery, is the plain model's.
+use checks::examples::{self, journal_plan, long_row, marks, plan, roll, rolls, row, vector, windows, Asked, Asked::*};
 use checks::Model;
-use model::{Answer, Optimal, Roll};
+use model::{Answer, Optimal, Plan, Roll};
 use oracle::Oracle;
+
+/// Of the first cell.
+fn optimal(plan: &Plan) -> Optimal {
+    let o = Oracle::new(plan, &vec![0; plan.times()]);
+    if o.not_free()[0] == 1 {
+        Optimal::At(o.named_values()[0])
+    } else {
+        Optimal::Free
+    }
+}
 
 fn answer(asked: Asked) -> Answer<String> {
     Ok(match asked {
         Difference(a, b) => oracle::circular_diff_deg(a, b).to_string(),
         Vector(ra, dec) => vector(&oracle::radec_to_unit(ra, dec)),
-        RollOf(sun) => {
-            let o = Oracle::new(&plan(&[sun], 0.0), &[0]);
-            roll(if o.not_free()[0] == 1 { Optimal::At(o.named_values()[0]) } else { Optimal::Free })
+        RollOf(sun) => roll(optimal(&plan(&[sun], 0.0))),
+        Rolls(sun, panel) => {
+            let p = long_row(sun, panel);
+            rolls(optimal(&p), Oracle::new(&p, &[0; 70]).named_values())
         }
         Mark(sun, tolerance) => marks(&Oracle::new(&plan(&[sun], tolerance), &[0]).in_constraint_batch_at_roll(Roll::Sweep(0.0))),
         Violations(marks) => {

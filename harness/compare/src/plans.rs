@@ -1,11 +1,13 @@
 //! Random plans: rolls, masks of every call, rows, and the sweep through its journal.
 use crate::tally::{Shape, Tally};
-use cases::plans::{around_the_turn, for_roll, for_sweep, plan, roll, samples, units, Entries, Targets};
+use cases::catalogue::beside;
+use cases::plans::{around_the_turn, at_turns, for_roll, for_sweep, plan, roll, samples, units, Entries, Targets, FOLDED};
 use cases::{rows, Seeded};
 use checks::{Calls, Model};
 use model::arithmetic::bits;
 use model::journal::HEADER;
-use model::{Optimal, Plan, Roll};
+use model::{Answer, Optimal, Plan, Roll};
+use oracle::patch::{self, without};
 use oracle::Oracle;
 
 /// Right ascensions and declinations in degrees.
@@ -45,6 +47,7 @@ pub const RANGES: [&str; 3] = ["range, units in a table", "range, too short for 
 pub fn run(calls: &dyn Calls, t: &mut Tally, factor: u64) {
     let mut s = Seeded::new(2);
     differences(calls, t, &mut s, 300_000 * factor);
+    foldings(t, &mut Seeded::new(5), 300_000 * factor);
     // Plans beyond the Rust's own chunks of 65,536 cells, which one evaluator is to go through; the most targets, with a tolerance each; then
     // many small ones.
     t.uncounted = true;
@@ -65,6 +68,12 @@ pub fn run(calls: &dyn Calls, t: &mut Tally, factor: u64) {
         random(calls, t, &mut s, (30, 5), n, Targets::Unit, Entries::Own);
         random(calls, t, &mut s, (130, 1), n, Targets::Unit, Entries::Own);
     }
+    // Rolls at turns: a cell, blocks of 64 in which a row's rolls are worked out, and their ends.
+    for k in 0..400 * factor {
+        let (rows, times) = s.one_of(&[(1, 1), (1, 64), (2, 65), (3, 130), (30, 7)]);
+        let p = at_turns(&mut s, rows, times);
+        one(calls, t, &mut s, p, [1, 2, 3, 4, 7, 8, 24, 360][k as usize % 8], Entries::Either, None);
+    }
     while t.cells < 2_200_000 * factor {
         let n = samples(&mut s);
         let most = (100_000 / n).clamp(20, 3000);
@@ -80,6 +89,26 @@ fn differences(calls: &dyn Calls, t: &mut Tally, s: &mut Seeded, count: u64) {
     for _ in 0..count {
         let (a, b) = if s.once_in(4) { (f64::from_bits(s.bits()), f64::from_bits(s.bits())) } else { (roll(s, &none), roll(s, &none)) };
         t.same("difference", Ok(calls.difference(a, b)), oracle::circular_diff_deg(a, b), &|| format!("{a:e} {b:e}"));
+    }
+}
+
+/// Request Three's folding by itself, for which the library has no call: the patch and the model, and listed bits. Also of numbers of up to 2^20
+/// in size, larger than any cell's roll that was seen.
+fn foldings(t: &mut Tally, s: &mut Seeded, count: u64) {
+    for (roll, to) in FOLDED {
+        t.same("folding, listed", Ok(patch::fold(roll)), to, &|| format!("{roll:e}"));
+    }
+    for _ in 0..count {
+        let roll = match s.below(4) {
+            0 => s.between(-360.0, 360.0),
+            1 => s.between(-1_048_576.0, 1_048_576.0),
+            // Every size alike.
+            2 => f64::from_bits(s.below(1_048_576f64.to_bits()) | s.below(2) << 63),
+            _ => beside(s.one_of(&FOLDED).0, s.below(9) as i64 - 4),
+        };
+        let ours = model::roll::folded(roll);
+        t.same("folding, plain model", Ok(ours), patch::fold(roll), &|| format!("{roll:e}"));
+        t.within("folding, from 0 to below 360", &[ours], &|| format!("{roll:e}"));
     }
 }
 
@@ -150,23 +179,33 @@ pub fn one(calls: &dyn Calls, t: &mut Tally, s: &mut Seeded, mut p: Plan, n: u64
     }
 }
 
-/// Free, and every roll to the bit.
+/// Free, and every roll to the bit, from 0 to below 360.
 fn rolls(calls: &dyn Calls, t: &mut Tally, p: &Plan, o: &Original, room: usize) {
     let (named, not_free) = (o.says(t, "named values", Oracle::named_values), o.says(t, "not Free", Oracle::not_free));
+    t.count_unfolded(&without(&patch::FOLD, || o.by_row.named_values()));
     let shown = || format!("{p:?}");
+    let ours = calls.named_values(p, room);
+    t.within("named values from 0 to below 360", ours.as_deref().unwrap_or(&[]), &shown);
     if p.cells() < 4000 {
         let times = p.times();
         for c in 0..p.cells() {
             let (i, j) = (c / times, c % times);
-            let cell = calls.cell(p.target(i), p.sun(j), p.observer(j), p.panel(i)).map(|optimal| match optimal {
-                Optimal::Free => (0u8, 0.0),
-                Optimal::At(roll) => (1, roll),
-            });
-            let theirs = if not_free[c] == 1 { (1, named[c]) } else { (0, 0.0) };
-            t.same("cell", cell, theirs, &|| format!("target {i} time {j} {p:?}"));
+            let at = (p.target(i), p.sun(j), p.observer(j), p.panel(i));
+            let shown = || format!("target {i} time {j} {p:?}");
+            let of = |answer: Answer<Optimal>| {
+                answer.map(|optimal| match optimal {
+                    Optimal::Free => (0u8, 0.0),
+                    Optimal::At(roll) => (1, roll),
+                })
+            };
+            let cell = of(calls.cell(at.0, at.1, at.2, at.3));
+            t.within("cell from 0 to below 360", &cell.map_or(vec![], |(_, roll)| vec![roll]), &shown);
+            t.same("cell", cell, if not_free[c] == 1 { (1, named[c]) } else { (0, 0.0) }, &shown);
+            t.same("cell, plain model", cell, of(Model.cell(at.0, at.1, at.2, at.3)).expect("accepted"), &shown);
         }
+        t.same("named values, plain model", ours.clone(), Model.named_values(p, room).expect("accepted"), &shown);
     }
-    t.same("named values", calls.named_values(p, room), named, &shown);
+    t.same("named values", ours, named, &shown);
 }
 
 /// Section 4's line of each chunk, from each cell's mark and how often it was tried.

@@ -14,6 +14,21 @@ struct Kind {
     differ: u64,
 }
 
+/// Rolls of the original that are special to request Three's folding.
+const UNFOLDED: [(&str, fn(f64) -> bool); 9] = [
+    ("below 0", |r| r < 0.0),
+    ("-360", |r| r == -360.0),
+    ("the number above -360", |r| bits(r) == bits(-360.0) - 1),
+    ("-270", |r| r == -270.0),
+    ("-180", |r| r == -180.0),
+    ("the number below -2^-45", |r| bits(r) == bits(TIE) + 1),
+    ("from -2^-45 to below 0", |r| (TIE..0.0).contains(&r)),
+    ("-0", |r| bits(r) == bits(-0.0)),
+    ("360", |r| r == 360.0),
+];
+/// -2^-45: 360 more lies halfway between 360 and the number below it.
+const TIE: f64 = -2.842170943040401e-14;
+
 #[derive(Default)]
 pub struct Tally {
     kinds: BTreeMap<&'static str, Kind>,
@@ -33,6 +48,9 @@ pub struct Tally {
     /// Rows of ten times or more, and how many of them the sweep leaves both marked and clear.
     rows: u64,
     both: u64,
+    /// Rolls of the original, and how many of them are of each kind of `UNFOLDED`.
+    rolls: u64,
+    unfolded: [u64; UNFOLDED.len()],
     /// Marks are not counted: one large plan would outweigh all others.
     pub uncounted: bool,
 }
@@ -118,7 +136,19 @@ impl Tally {
             println!("DIFFERS {what}: {found:?}, docs/DIFFERENCES.md has {listed:?}");
         }
     }
-    /// The same of a mask, whose marks are counted.
+    /// Request Three's promise of the library's rolls; -0 is not below 0.
+    pub fn within(&mut self, kind: &'static str, rolls: &[f64], input: &dyn Fn() -> String) {
+        let outside: Vec<f64> = rolls.iter().copied().filter(|roll| !(0.0..360.0).contains(roll)).collect();
+        self.held(kind, [("outside", outside), ("promised", vec![])], input);
+    }
+    /// Counts the original's rolls, not folded, by what the folding does to them.
+    pub fn count_unfolded(&mut self, rolls: &[f64]) {
+        self.rolls += rolls.len() as u64;
+        for (count, (_, is)) in self.unfolded.iter_mut().zip(UNFOLDED) {
+            *count += rolls.iter().filter(|&&roll| is(roll)).count() as u64;
+        }
+    }
+    /// As `same`, of a mask, whose marks are counted.
     pub fn mask(&mut self, kind: &'static str, ours: Answer<Vec<u8>>, theirs: Vec<u8>, input: &dyn Fn() -> String) -> bool {
         if !self.uncounted {
             let marked = theirs.iter().filter(|&&b| b == 1).count() as u64;
@@ -144,6 +174,7 @@ impl Tally {
             (self.largest_whole > 65_536, "no plan beyond the original's own chunks was asked of one evaluator".to_string()),
             (self.mixed_chunks >= 1000, "fewer than 1,000 chunks have several tolerances".to_string()),
             (5 * self.both >= 2 * self.rows, "fewer than two fifths of the rows are both marked and clear".to_string()),
+            (4 * self.unfolded[0] >= self.rolls, "fewer than a quarter of the original's rolls are below 0".to_string()),
         ]
     }
     fn print_plans(&self) {
@@ -151,6 +182,8 @@ impl Tally {
             "tolerances: {} of {} plans have differing ones, {} chunks several; {} of {} rows of 10 times or more are both marked and clear",
             self.differing, self.plans, self.mixed_chunks, self.both, self.rows
         );
+        let counted = self.unfolded.iter().zip(UNFOLDED).map(|(count, (what, _))| format!("{count} {what}"));
+        println!("{} rolls of the original, before they are folded: {}", self.rolls, counted.collect::<Vec<_>>().join("; "));
     }
     /// Prints the counts and what is demanded of them in vain; false where something differs or is so.
     fn table(&self, demanded: &[(bool, String)]) -> bool {
@@ -181,6 +214,9 @@ impl Tally {
         demanded.push((self.cells >= 2_000_000 && self.masks >= 1_000_000, "fewer than 2,000,000 cells or 1,000,000 masks".to_string()));
         for name in RANGES {
             demanded.push((self.kinds.get(name).map_or(0, |k| k.answers) >= 20, format!("fewer than 20 of {name}")));
+        }
+        for (count, (what, _)) in self.unfolded.iter().zip(UNFOLDED) {
+            demanded.push((*count >= 50, format!("fewer than 50 of the original's rolls are {what}")));
         }
         let good = self.table(&demanded);
         println!(

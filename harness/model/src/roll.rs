@@ -55,6 +55,16 @@ pub fn is_free(target: Vector, sun: Vector, panel: Vector) -> bool {
     dot(sun, target).abs() > 1.0 - NEAR_ZERO || (panel[1] * panel[1] + panel[2] * panel[2]).sqrt() <= NEAR_ZERO
 }
 
+/// Request Three, from 0 to below 360: the remainder by 360, and 0 where a small negative number plus 360 rounds to 360. -0 stays -0.
+pub fn folded(roll: f64) -> f64 {
+    let r = remainder(roll, 360.0);
+    if r == 360.0 {
+        0.0
+    } else {
+        r
+    }
+}
+
 /// The roll of a cell, Free or not.
 pub fn optimal_roll(x: Vector, sun: Vector, panel: Vector) -> f64 {
     let north = beside([0.0, 0.0, 1.0], x);
@@ -64,7 +74,7 @@ pub fn optimal_roll(x: Vector, sun: Vector, panel: Vector) -> f64 {
     });
     let y = normalized(cross(z, x)).unwrap_or([0.0, 1.0, 0.0]);
     let z = cross(x, y);
-    degrees(arctangent(dot(sun, z), dot(sun, y)) - arctangent(panel[2], panel[1]))
+    folded(degrees(arctangent(dot(sun, z), dot(sun, y)) - arctangent(panel[2], panel[1])))
 }
 
 pub fn difference(a: f64, b: f64) -> f64 {

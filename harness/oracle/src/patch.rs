@@ -6,6 +6,8 @@ use std::sync::atomic::{AtomicBool, Ordering::Relaxed};
 
 /// Section 1's arctangent instead of the C library's.
 pub static ATAN2: AtomicBool = AtomicBool::new(true);
+/// Document 02's optimal roll, from 0 to below 360, instead of one from -360 to 360.
+pub static FOLD: AtomicBool = AtomicBool::new(true);
 /// Document 02's sine and cosine instead of the C library's.
 pub static TRIG: AtomicBool = AtomicBool::new(true);
 /// Vectors handed over instead of right ascension and declination.
@@ -62,6 +64,27 @@ pub fn atan2(y: f64, z: f64) -> f64 {
         model::arithmetic::arctangent(y, z)
     } else {
         f64::atan2(y, z)
+    }
+}
+
+/// By the Rust library's own remainder, where the model goes by section 1's steps.
+pub fn fold(roll: f64) -> f64 {
+    let r = roll.rem_euclid(360.0);
+    if r == 360.0 {
+        0.0
+    } else {
+        r
+    }
+}
+
+/// What `solar_optimal_roll_deg` works out last, folded. It is one call in the place of the arctangent's, since with more in that function the
+/// compiler leaves it out of the loop of `compute_named_values`: the original would take twice its time, and not by the folding.
+#[inline(never)]
+pub fn folded(roll: impl FnOnce() -> f64) -> f64 {
+    if FOLD.load(Relaxed) {
+        fold(roll())
+    } else {
+        roll()
     }
 }
 

@@ -14,6 +14,7 @@ use model::arithmetic::bits;
 use model::plan::is_unit;
 use model::windows::Window;
 use model::{Plan, Roll};
+use oracle::patch::{self, without};
 use oracle::Oracle;
 use std::{env, fs, path::Path};
 
@@ -102,9 +103,42 @@ fn equal_and_differing(file: &File) -> [usize; 2] {
     [true, false].map(|kind| plans.iter().filter(|line| line[1] > 3 && equal(line) == kind).count())
 }
 
+/// Panels, and Suns with the roll of target [1, 0, 0] before it is folded: some for each case of the folding.
+const TURNS: [([f64; 3], &[([f64; 3], f64)]); 4] = [
+    ([0.0, -1.0, 0.0], &[([-0.0, -1.0, -0.0], -360.0), ([0.0, -1.0, -4.0 * f64::EPSILON], -359.99999999999994)]),
+    ([0.0, -1.0, -0.0], &[([0.0, -1.0, 0.0], 360.0)]),
+    // The second is Free.
+    ([0.0, 0.0, 1.0], &[([-0.0, -1.0, -0.0], -270.0), ([1.0, 0.0, 0.0], -90.0)]),
+    (
+        [0.0, 1.0, 0.0],
+        &[
+            ([0.0, 0.0, -1.0], -90.0),
+            ([-0.0, -1.0, -0.0], -180.0),
+            ([0.0, 1.0, -1e-16], -5.729577951308232e-15),
+            // -2^-45, and the number below it.
+            ([0.0, 1.0, -4.960524086056721e-16], -2.842170943040401e-14),
+            ([0.0, 1.0, -4.960524086056722e-16], -2.8421709430404014e-14),
+        ],
+    ),
+];
+
+/// The plan with this panel, and with these Suns for its first target.
+fn turned(p: &mut Plan, (panel, suns): ([f64; 3], &[([f64; 3], f64)])) {
+    p.panels = panel.to_vec();
+    p.targets[..3].copy_from_slice(&[1.0, 0.0, 0.0]);
+    for (j, (sun, _)) in suns.iter().enumerate() {
+        p.suns[3 * j..3 * j + 3].copy_from_slice(sun);
+        p.observers[3 * j..3 * j + 3].fill(0.0);
+    }
+    let row = Plan { targets: p.targets[..3].to_vec(), tolerances: vec![0.0], ..p.clone() };
+    let values = without(&patch::FOLD, || Oracle::new(&row, &vec![0; p.times()]).named_values());
+    for ((_, roll), value) in suns.iter().zip(values) {
+        assert_eq!(bits(value), bits(*roll), "before it is folded");
+    }
+}
+
 /// Section 2: rolls, marks at one roll, a row.
-fn rolls(f: &mut File, s: &mut Seeded, targets: Targets) {
-    let mut p = small(s, targets);
+fn rolls(f: &mut File, s: &mut Seeded, mut p: Plan) {
     p.roll_deg = if s.once_in(4) { None } else { Some(roll(s, &p)) };
     for_roll(s, &mut p, Entries::Either);
     let o = given(f, &p);
@@ -125,8 +159,7 @@ fn rolls(f: &mut File, s: &mut Seeded, targets: Targets) {
 }
 
 /// Section 3: sweeps.
-fn sweeps(f: &mut File, s: &mut Seeded, targets: Targets) {
-    let mut p = small(s, targets);
+fn sweeps(f: &mut File, s: &mut Seeded, mut p: Plan) {
     let n = samples(s);
     for_sweep(s, &mut p, n, Entries::Either);
     let (marks, tried) = given(f, &p).sweep();
@@ -134,8 +167,7 @@ fn sweeps(f: &mut File, s: &mut Seeded, targets: Targets) {
 }
 
 /// Section 6.
-fn others(f: &mut File, s: &mut Seeded, targets: Targets) {
-    let mut p = small(s, targets);
+fn others(f: &mut File, s: &mut Seeded, mut p: Plan) {
     let n = if s.once_in(10) { 0 } else { samples(s) };
     for_sweep(s, &mut p, n.max(1), Entries::Either);
     let (o, time, at) = (given(f, &p), s.index(p.times()), roll(s, &p));
@@ -145,17 +177,26 @@ fn others(f: &mut File, s: &mut Seeded, targets: Targets) {
 }
 
 /// Records of one kind of plan, each by its own seed.
-fn many(seed: u64, count: u64, targets: Targets, record: impl Fn(&mut File, &mut Seeded, Targets)) -> File {
+fn many(seed: u64, count: u64, targets: Targets, mut record: impl FnMut(&mut File, &mut Seeded, Plan)) -> File {
     let mut f = File::default();
     for k in 0..count {
-        record(&mut f, &mut Seeded::new(seed * 1000 + k), targets);
+        let mut s = Seeded::new(seed * 1000 + k);
+        let p = small(&mut s, targets);
+        record(&mut f, &mut s, p);
     }
     f
 }
 
 fn section_2() -> File {
+    let mut turns = TURNS.into_iter();
     // Seed 12 makes more than the 65,535 bytes for which the program has room.
-    let mut f = many(42, 30, Targets::Unit, rolls);
+    let mut f = many(42, 30, Targets::Unit, |f, s, mut p| {
+        if p.times() == 20 {
+            turns.next().into_iter().for_each(|turn| turned(&mut p, turn));
+        }
+        rolls(f, s, p);
+    });
+    assert!(turns.next().is_none(), "every turn is recorded");
     let mut s = Seeded::new(12);
     let none = Plan::default();
     for _ in 0..100 {
