@@ -128,7 +128,9 @@ pub fn same(held: &[Held]) -> Result<Vec<String>, Fault> {
     let count = |n: usize| if n == 1 { "1 is".into() } else { format!("{} are", grouped(n)) };
     let about =
         |h: &&Held| format!("{}, and {} not the same; nothing was changed\n{}\n", h.looked_at, count(h.differ.len()), h.differ.join("\n"));
-    let advice = "Such lines are damaged, or were made from other files. To work all out again, sweep into another journal with --journal";
+    let advice =
+        "Such lines are damaged, or were made from other files or by a wilfnusk before 0.3.0. To work all out again, sweep into another \
+        journal with --journal";
     Err(Fault::Differs(wrong.iter().map(about).collect::<String>() + advice))
 }
 

@@ -6,7 +6,7 @@ use crate::{
     files::{self, sync_folder, write_whole},
     journal::{opened, read},
     plan::Plan,
-    source::Source,
+    source::{shown, Source},
     tolerance::{common, Told},
 };
 use sha2::{Digest as _, Sha256};
@@ -18,8 +18,9 @@ use std::{
 
 /// The first line: this and the version.
 const TITLE: &str = "wilfnusk plan ";
-/// The version that is written. Older ones are read too, each by its own rule for the settings (see `settings`).
-const VERSION: u64 = 2;
+/// The version that is written. An older one says that the lines rest on rolls that were not yet folded: it is known as a digest, and speaks
+/// for no line.
+const VERSION: u64 = 3;
 const PARTS: [&str; 3] = ["settings", "targets", "ephemeris"];
 
 /// Three digests: of the settings, of the targets' numbers, of the ephemeris' numbers; and the file of each.
@@ -32,15 +33,11 @@ pub struct Digest {
 
 impl Digest {
     pub fn of(plan: &Plan) -> Digest {
-        Digest::by(VERSION, plan)
-    }
-    /// The digest that a program of this version writes for the plan.
-    fn by(version: u64, plan: &Plan) -> Digest {
         let targets = hash(plan.targets.iter().map(bits));
         let ephemeris = hash(plan.times.iter().map(|&t| t as u64).chain(plan.suns.iter().chain(&plan.observers).map(bits)));
         let name = plan.path().file_name().unwrap_or_default().to_string_lossy();
         let files = [&name, &*plan.targets_file, &plan.ephemeris_file].map(one_line);
-        Digest { version, digests: [settings(version, plan), targets, ephemeris], files }
+        Digest { version: VERSION, digests: [settings(plan), targets, ephemeris], files }
     }
     /// Where the digest of a journal stands.
     pub fn path(journal: &Path) -> PathBuf {
@@ -69,7 +66,7 @@ impl Digest {
             return Err(source.fault(
                 0,
                 format!("a digest of version {}, which a newer wilfnusk wrote and this one cannot read", version),
-                &format!("versions 1 to {}; use that program, or move the file away{}", VERSION, again),
+                &format!("version {}; use that program, or move the file away{}", VERSION, again),
             ));
         }
         let mut digest = Digest { version, digests: Default::default(), files: Default::default() };
@@ -123,13 +120,16 @@ fn one_line(name: &str) -> String {
     name.chars().map(|c| if c.is_control() { c.escape_default().to_string() } else { c.to_string() }).collect()
 }
 
-/// Holds the plan against the digest beside a journal. Whether there is one.
+/// Holds the plan against the digest beside a journal that has lines. Whether there is one.
 pub fn is_known(plan: &Plan, journal: &Path) -> Result<bool, Fault> {
     let then = match Digest::beside(journal, true)? {
         Some(then) => then,
         None => return Ok(false),
     };
-    let mut now = Digest::by(then.version, plan);
+    if then.version < VERSION {
+        return Err(unfolded(then.version, plan, journal));
+    }
+    let mut now = Digest::of(plan);
     // The tolerances are settings, wherever they stand.
     if let Told::Column(_) = plan.told {
         now.files[0] = format!("{} or the column `tolerance` of {}", now.files[0], now.files[1]);
@@ -147,7 +147,23 @@ pub fn is_known(plan: &Plan, journal: &Path) -> Result<bool, Fault> {
     )))
 }
 
-/// The same for a journal that has lines; says on standard error if there is none.
+/// What is said of lines beside a digest of an older version.
+fn unfolded(version: u64, plan: &Plan, journal: &Path) -> Fault {
+    Fault::Files(format!(
+        "{1}, line 1, column 1: a digest of version {2}; allowed: version {3}. The lines of {0} were worked out by an earlier wilfnusk (before 0.3.0), \
+         whose optimal rolls were not yet folded into 0 to 360, so some lines might come out differently now; nothing was changed\n  \
+         to work all out again: sweep into another journal with --journal, or move {0} and {1} away and sweep\n  \
+         to keep the lines: move {1} away and work every line out again with `{4} --recompute --write-digest`, which writes a new digest if \
+         every line is the same",
+        shown(journal),
+        shown(&Digest::path(journal)),
+        version,
+        VERSION,
+        explain::command("check", plan, journal)
+    ))
+}
+
+/// As `is_known`, and says on standard error if there is none.
 pub fn same_plan(plan: &Plan, journal: &Path) -> Result<bool, Fault> {
     let known = is_known(plan, journal)?;
     if !known {
@@ -161,28 +177,20 @@ pub fn same_plan(plan: &Plan, journal: &Path) -> Result<bool, Fault> {
     Ok(known)
 }
 
-/// The settings' digest.
+/// The settings' digest: n, whether a roll is configured, that roll or 0; then lists, each after the count of its numbers: tolerances, panels
+/// (three numbers each), rolls. Even steps are said by n alone, and their list of rolls is empty. It stands last, so that a table of rolls
+/// moves nothing before it.
 ///
-/// Version 1: n, whether a roll is configured, the tolerance, that roll or 0, the panel. These are seven words, for one tolerance, one panel and
-/// even steps: of a plan with more of them it is never the digest, as more words are hashed.
-///
-/// Version 2: n, whether a roll is configured, that roll or 0; then lists, each after the count of its numbers: tolerances, panels (three numbers
-/// each), rolls. Even steps are said by n alone, and their list of rolls is empty. It stands last, so that a table of rolls moves nothing before it.
-///
-/// In both the tolerances are one number where it is the same for all targets, so that it does not matter how the files tell it, else one a
-/// target; without targets +0, as the header has it.
-fn settings(version: u64, plan: &Plan) -> String {
+/// The tolerances are one number where it is the same for all targets, so that it does not matter how the files tell it, else one a target;
+/// without targets +0, as the header has it.
+fn settings(plan: &Plan) -> String {
     let (n, is_configured, roll) = (plan.rolls, plan.configured_roll.is_some() as u64, bits(&plan.configured_roll.unwrap_or(0.0)));
     let tolerances = match common(&plan.tolerances) {
         Some(same) => vec![same],
         None if plan.tolerances.is_empty() => vec![0.0],
         None => plan.tolerances.clone(),
     };
-    let words = |numbers: &[f64]| numbers.iter().map(bits).collect::<Vec<_>>();
-    if version == 1 {
-        return hash([vec![n, is_configured], words(&tolerances), vec![roll], words(&plan.panel)].concat());
-    }
-    let list = |numbers: &[f64]| [vec![numbers.len() as u64], words(numbers)].concat();
+    let list = |numbers: &[f64]| [vec![numbers.len() as u64], numbers.iter().map(bits).collect()].concat();
     hash([vec![n, is_configured, roll], list(&tolerances), list(&plan.panel), list(&[])].concat())
 }
 
@@ -212,96 +220,89 @@ mod tests {
     const TARGETS: &str = "name,x,y,z\nA,1,0,0\nB,0,1,0\n";
     const EPHEMERIS: &str = "time,sun_x,sun_y,sun_z,observer_x,observer_y,observer_z\n2026-03-20T00:00:00Z,0,1,0,0,0,0\n";
 
-    /// What a program that knew version 1 alone wrote for these files.
-    const OLD: &str = "wilfnusk plan 1\n\
+    /// What the programs of versions 1 and 2 wrote for these files.
+    const OLD: [&str; 2] = [
+        "wilfnusk plan 1\n\
         settings 5e754224acbd7ed75550e75c950b02210a9ba34f0e4b182532ee82cdf068f5b0 plan.toml\n\
         targets e7c6bff0f84ed48b4f18ee4f3f45716a62d7b2c9d6000334483986fa86bbbe3d t.csv\n\
-        ephemeris 0aa904f16e78fce6fddc61f3eba8c681186152119d04de730795ef52040e3888 e.csv\n";
+        ephemeris 0aa904f16e78fce6fddc61f3eba8c681186152119d04de730795ef52040e3888 e.csv\n",
+        "wilfnusk plan 2\n\
+        settings 839d7dfb8d119dcd36c4670a61e9227371d375e531cf4d9fdd4d100dffbd07c1 plan.toml\n\
+        targets e7c6bff0f84ed48b4f18ee4f3f45716a62d7b2c9d6000334483986fa86bbbe3d t.csv\n\
+        ephemeris 0aa904f16e78fce6fddc61f3eba8c681186152119d04de730795ef52040e3888 e.csv\n",
+    ];
 
     fn digest(toml: &str, targets: &str, ephemeris: &str) -> Digest {
         Digest::of(&plan(toml, targets, ephemeris).unwrap())
     }
+    /// What version 3 writes for these files: hashed as by version 2.
+    fn new() -> String {
+        OLD[1].replace("plan 2\n", "plan 3\n")
+    }
 
-    /// The settings of version 2 as bytes put together by another program: 1, 0, 0; 1, 10.0; 3, 0.0, 1.0, 0.0; 0.
+    /// The settings as bytes put together by another program: 1, 0, 0; 1, 10.0; 3, 0.0, 1.0, 0.0; 0. However one tolerance is told.
     #[test]
-    fn each_version_has_its_own_rule() {
-        let plan = plan(TOML, TARGETS, EPHEMERIS).unwrap();
-        assert_eq!(Digest::by(1, &plan).text(), OLD);
-        let settings = "settings 839d7dfb8d119dcd36c4670a61e9227371d375e531cf4d9fdd4d100dffbd07c1 plan.toml\n";
-        assert_eq!(Digest::of(&plan).text(), format!("wilfnusk plan 2\n{}{}", settings, &OLD[OLD.find("targets").unwrap()..]));
+    fn what_is_written() {
+        let without = TOML.replace("tolerance = 10\n", "");
+        let column = TARGETS.replace("z\n", "z,tolerance\n").replace("0\n", "0,10\n");
+        for (toml, targets) in [(TOML, TARGETS), (&(without.clone() + "tolerance = [10, 1e1]\n"), TARGETS), (&without, &column)] {
+            assert_eq!(digest(toml, targets, EPHEMERIS).text(), new(), "{}", toml);
+        }
     }
     #[test]
-    fn an_older_digest_is_read_and_a_newer_one_told() {
+    fn an_older_digest_speaks_for_no_line() {
         let folder = tempfile::tempdir().unwrap();
         let journal = folder.path().join("j");
         let path = Digest::path(&journal);
-        fs::write(&path, OLD).unwrap();
+        for old in OLD {
+            fs::write(&path, old).unwrap();
+            // Whether the plan changed since or not.
+            for toml in [TOML.to_owned(), TOML.replace("10", "11")] {
+                let plan = plan(&toml, TARGETS, EPHEMERIS).unwrap();
+                for fault in [is_known(&plan, &journal).unwrap_err(), same_plan(&plan, &journal).unwrap_err()] {
+                    let says = format!("j.plan, line 1, column 1: a digest of version {}; allowed: version 3. ", &old[14..15]);
+                    assert!(fault.status() == 3 && fault.to_string().contains(&says), "{}", fault);
+                }
+            }
+            assert_eq!(fs::read_to_string(&path).unwrap(), old);
+            // Without lines it is a digest like any other: it makes way, and may be taken away.
+            digest(TOML, TARGETS, EPHEMERIS).write(&journal).unwrap();
+            assert_eq!(fs::read_to_string(&path).unwrap(), new());
+            assert!(is_known(&plan(TOML, TARGETS, EPHEMERIS).unwrap(), &journal).unwrap());
+            fs::write(&path, old).unwrap();
+            assert!(Digest::remove(&journal).unwrap() && !path.exists());
+        }
+    }
+    #[test]
+    fn another_version_is_told() {
+        let folder = tempfile::tempdir().unwrap();
+        let journal = folder.path().join("j");
+        let path = Digest::path(&journal);
         let same = plan(TOML, TARGETS, EPHEMERIS).unwrap();
-        assert!(is_known(&same, &journal).unwrap());
-        for (toml, targets, ephemeris, changed) in [
-            (TOML.replace("10", "11"), TARGETS.to_owned(), EPHEMERIS.to_owned(), "plan.toml: "),
-            (TOML.to_owned() + "panel = [0, 0, 1]", TARGETS.to_owned(), EPHEMERIS.to_owned(), "plan.toml: "),
-            (TOML.to_owned(), TARGETS.replace("0,1,0", "0,0,1"), EPHEMERIS.to_owned(), "t.csv: "),
-            (TOML.to_owned(), TARGETS.to_owned(), EPHEMERIS.replace("0,1,0", "0,0,1"), "e.csv: "),
-        ] {
-            let fault = is_known(&plan(toml, targets, ephemeris).unwrap(), &journal).unwrap_err();
-            assert!(fault.status() == 3 && fault.to_string().starts_with(changed), "{}", fault);
-        }
-        // Under the other version's title a digest is no longer this plan's.
-        let new = Digest::of(&same).text();
-        for (text, version) in [(OLD, "2"), (&new, "1")] {
-            fs::write(&path, format!("wilfnusk plan {}{}", version, &text[TITLE.len() + 1..])).unwrap();
-            let fault = is_known(&same, &journal).unwrap_err();
-            assert!(fault.to_string().starts_with("plan.toml: its numbers are not"), "{}", fault);
-        }
         for (version, says) in
-            [("3", "a digest of version 3, which a newer"), ("10", "a digest of version 10"), ("0", "no digest of a plan")]
+            [("4", "a digest of version 4, which a newer"), ("10", "a digest of version 10, which a newer"), ("0", "no digest of a plan")]
         {
-            fs::write(&path, new.replace("plan 2", &format!("plan {}", version))).unwrap();
+            fs::write(&path, new().replace("plan 3", &format!("plan {}", version))).unwrap();
             let fault = is_known(&same, &journal).unwrap_err();
             assert!(fault.status() == 3 && fault.to_string().contains(says), "{}", fault);
             assert!(Digest::of(&same).write(&journal).is_err() && Digest::remove(&journal).is_err());
         }
-        for title in ["wilfnusk plan", "wilfnusk plan ", "wilfnusk plan 02", "wilfnusk plan +2", "wilfnusk plan 2 ", "wilfnusk plan two"] {
-            fs::write(&path, new.replace("wilfnusk plan 2", title)).unwrap();
+        for title in ["wilfnusk plan", "wilfnusk plan ", "wilfnusk plan 03", "wilfnusk plan +3", "wilfnusk plan 3 ", "wilfnusk plan three"]
+        {
+            fs::write(&path, new().replace("wilfnusk plan 3", title)).unwrap();
             assert!(Digest::beside(&journal, true).unwrap_err().to_string().contains("no digest of a plan"), "{}", title);
         }
     }
-
-    /// What earlier programs, which knew one tolerance, wrote for these files, in each version.
-    #[test]
-    fn a_digest_of_one_tolerance_is_the_old_one_however_it_is_told() {
-        let new = OLD.replace("plan 1", "plan 2").replace(
-            "5e754224acbd7ed75550e75c950b02210a9ba34f0e4b182532ee82cdf068f5b0",
-            "839d7dfb8d119dcd36c4670a61e9227371d375e531cf4d9fdd4d100dffbd07c1",
-        );
-        let without = TOML.replace("tolerance = 10\n", "");
-        let column = TARGETS.replace("z\n", "z,tolerance\n").replace("0\n", "0,10\n");
-        let folder = tempfile::tempdir().unwrap();
-        let journal = folder.path().join("j");
-        for (toml, targets) in [(TOML, TARGETS), (&(without.clone() + "tolerance = [10, 1e1]\n"), TARGETS), (&without, &column)] {
-            let plan = plan(toml, targets, EPHEMERIS).unwrap();
-            for (version, text) in [(1, OLD), (2, &new)] {
-                assert_eq!(Digest::by(version, &plan).text(), text, "{}", toml);
-                fs::write(Digest::path(&journal), text).unwrap();
-                assert!(is_known(&plan, &journal).unwrap());
-            }
-        }
-    }
-    /// By the old programs too: one that knew version 1 alone, then one of version 2.
+    /// As a program of version 2 hashed it, too.
     #[test]
     fn every_nan_is_one() {
-        let old = [
-            "9c9f7b437d851b359deba0f15cdd01c11fb527abe99be9cff223c6338c700995",
-            "a1358abd4afafe6cf76725ec2d67b15dbe9196f02854e5337e083c9fb038c20d",
-        ];
         let without = TOML.replace("tolerance = 10\n", "");
         let column = TARGETS.replace("z\n", "z,tolerance\n").replace("A,1,0,0", "A,1,0,0,nan").replace("B,0,1,0", "B,0,1,0,-NaN");
         for (toml, targets) in
             [(TOML.replace("10", "nan"), TARGETS), (TOML.replace("10", "[nan, -nan]"), TARGETS), (without, column.as_str())]
         {
             let plan = plan(&toml, targets, EPHEMERIS).unwrap();
-            assert_eq!([1, 2].map(|version| settings(version, &plan)), old, "{}", toml);
+            assert_eq!(settings(&plan), "a1358abd4afafe6cf76725ec2d67b15dbe9196f02854e5337e083c9fb038c20d", "{}", toml);
         }
     }
     /// Bytes put together by another program.
@@ -309,7 +310,7 @@ mod tests {
     fn tolerances_that_differ_are_all_hashed() {
         let read = |tolerance: &str| plan(&TOML.replace("10", tolerance), TARGETS, EPHEMERIS).unwrap();
         // 1, 0, 0; 2, 10.0, NaN; 3, 0.0, 1.0, 0.0; 0.
-        assert_eq!(settings(2, &read("[10, nan]")), "e934991011da3d711366f3316cc99451ea276b79f88bee9dfbcc46e5ee9636d0");
+        assert_eq!(settings(&read("[10, nan]")), "e934991011da3d711366f3316cc99451ea276b79f88bee9dfbcc46e5ee9636d0");
         let folder = tempfile::tempdir().unwrap();
         let journal = folder.path().join("j");
         for (then, now) in [
@@ -324,11 +325,6 @@ mod tests {
             assert!(is_known(&read(then), &journal).unwrap());
             let fault = is_known(&read(now), &journal).unwrap_err();
             assert!(fault.to_string().starts_with("plan.toml: its numbers are not those"), "{} {}: {}", then, now, fault);
-        }
-        // Nothing that version 1 can say is the digest of tolerances that differ.
-        for one in ["10", "11", "[10, 10]", "0"] {
-            fs::write(Digest::path(&journal), Digest::by(1, &read(one)).text()).unwrap();
-            assert!(is_known(&read("[10, 11]"), &journal).is_err());
         }
         assert!((0..2).all(|i| Digest::of(&read("[10, 11]")).digests[i + 1] == Digest::of(&read("10")).digests[i + 1]));
     }

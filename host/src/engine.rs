@@ -72,6 +72,20 @@ pub fn mask_at(plan: &Plan, roll: Roll) -> Result<Vec<u8>, Refusal> {
     Ok(mask)
 }
 
+/// The optimal roll of every cell, and whether the cell is Free.
+///
+/// The rolls alone do not tell which cells are Free, as these have one too. A mask does where every tolerance is -1: no difference is below 0, so
+/// each cell is marked that is not Free, and a Free one never is. It is asked for at a Fixed roll, which no configured roll takes the place of:
+/// at a NaN nothing is marked.
+pub fn rolls(plan: &Plan) -> Result<(Vec<f64>, Vec<bool>), Refusal> {
+    let (mut rolls, mut mask) = (vec![0.0; plan.cells()], vec![0; plan.cells()]);
+    let tolerances = vec![-1.0; plan.tolerances.len()];
+    let plan = wilfnusk::Plan { tolerances: &tolerances, ..lent(plan) };
+    plan.named_values(&mut rolls)?;
+    plan.in_constraint_batch_at_roll(Roll::Fixed(0.0), &mut mask)?;
+    Ok((rolls, mask.into_iter().map(|marked| marked == 0).collect()))
+}
+
 /// Each target's mark at one time: at a roll, or by the distance to the nearest of the plan's rolls.
 pub fn regard(plan: &Plan, time: usize, roll: Option<f64>) -> Result<Vec<u8>, Refusal> {
     let mut mask = vec![0; plan.names.len()];

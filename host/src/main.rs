@@ -21,6 +21,7 @@ mod merge;
 mod outputs;
 mod plan;
 mod progress;
+mod rolls;
 mod selection;
 mod sheet;
 mod source;
@@ -74,6 +75,8 @@ enum Command {
     Mask(look::Mask),
     /// Print each target's mark at one time
     Regard(look::Regard),
+    /// Print each cell's optimal roll, from 0 up to but not at 360 degrees, as CSV
+    Rolls(rolls::Rolls),
     /// Put the lines of several journals of one plan into a new one
     Merge(merge::Merge),
     /// Write a plan to start from: ninety days of a telescope in low orbit
@@ -117,6 +120,7 @@ fn run(command: Command) -> Result<(), Fault> {
         Command::Check(c) => c.run(),
         Command::Mask(c) => c.run(),
         Command::Regard(c) => c.run(),
+        Command::Rolls(c) => c.run(),
         Command::Merge(c) => c.run(),
         Command::Example { folder } => {
             example::write(&folder)?;

@@ -1,4 +1,4 @@
-//! Where windows are listed: files, which are whole or not written at all, and then standard output.
+//! Where a listing goes: files, which are whole or not written at all, and then standard output.
 use crate::{
     digest::Digest,
     fault::Fault,
@@ -65,30 +65,7 @@ impl Outputs {
             let (a, b) = (first.option, second.option);
             return Err(Fault::Usage(format!("{} - and {} -: only one can go to standard output; name a file for the other", a, b)));
         }
-        let needed = [
-            ("the plan", plan.path()),
-            ("the plan's targets", &plan.targets_sheet.source.path),
-            ("the plan's ephemeris", &plan.ephemeris_sheet.source.path),
-            ("the journal", journal),
-            ("the journal's digest", &Digest::path(journal)),
-        ];
-        // A file that is not there and cannot be made is no output's either.
-        let mut taken: Vec<_> = needed.iter().filter_map(|(what, path)| Place::of(path).ok().map(|place| (*what, place))).collect();
-        let open = |fd: BorrowedFd| fd.try_clone_to_owned().ok().map(File::from);
-        let streams = [("standard output", open(io::stdout().as_fd())), ("standard error", open(io::stderr().as_fd()))];
-        for Asked { option, path, .. } in to_files {
-            let usage = |text: String| Err(Fault::Usage(format!("{} {}: {}", option, path.display(), text)));
-            let place = Place::of(path).map_err(|e| files::fault(path, &e))?;
-            if let Some((what, _)) = taken.iter().find(|(_, other)| place.is(other)) {
-                return usage(format!("this is the file of {}; name another", what));
-            }
-            if let Some((what, _)) = streams.iter().find(|(_, file)| file.as_ref().map_or(false, |file| place.is_open(file))) {
-                return usage(format!("{} goes into this file; name another, or \"-\" for standard output", what));
-            }
-            place.try_write().map_err(|e| files::fault(path, &e))?;
-            taken.push((option, place));
-        }
-        Ok(())
+        can_be_written(to_files.iter().map(|asked| (asked.option, asked.path)), plan, journal)
     }
     /// Writes the files, then the table or what takes its place: nobody need read that.
     pub fn write(&self, listing: &Listing) -> Result<(), Fault> {
@@ -119,6 +96,35 @@ impl Outputs {
         let were = if files.len() == 1 { "was" } else { "were" };
         Some(format!("{} {} not written, as windows are listed of a whole sweep only", files.join(", "), were))
     }
+}
+
+/// Refuses outputs, each an option and the file that it names, that could not be written or would overwrite the plan's files, the journal, its
+/// digest or each other.
+pub fn can_be_written<'a>(outputs: impl Iterator<Item = (&'static str, &'a Path)>, plan: &Plan, journal: &Path) -> Result<(), Fault> {
+    let needed = [
+        ("the plan", plan.path()),
+        ("the plan's targets", &plan.targets_sheet.source.path),
+        ("the plan's ephemeris", &plan.ephemeris_sheet.source.path),
+        ("the journal", journal),
+        ("the journal's digest", &Digest::path(journal)),
+    ];
+    // A file that is not there and cannot be made is no output's either.
+    let mut taken: Vec<_> = needed.iter().filter_map(|(what, path)| Place::of(path).ok().map(|place| (*what, place))).collect();
+    let open = |fd: BorrowedFd| fd.try_clone_to_owned().ok().map(File::from);
+    let streams = [("standard output", open(io::stdout().as_fd())), ("standard error", open(io::stderr().as_fd()))];
+    for (option, path) in outputs {
+        let usage = |text: String| Err(Fault::Usage(format!("{} {}: {}", option, path.display(), text)));
+        let place = Place::of(path).map_err(|e| files::fault(path, &e))?;
+        if let Some((what, _)) = taken.iter().find(|(_, other)| place.is(other)) {
+            return usage(format!("this is the file of {}; name another", what));
+        }
+        if let Some((what, _)) = streams.iter().find(|(_, file)| file.as_ref().map_or(false, |file| place.is_open(file))) {
+            return usage(format!("{} goes into this file; name another, or \"-\" for standard output", what));
+        }
+        place.try_write().map_err(|e| files::fault(path, &e))?;
+        taken.push((option, place));
+    }
+    Ok(())
 }
 
 #[cfg(test)]

@@ -36,7 +36,7 @@ fn folder(targets: &str) -> Folder {
     f
 }
 
-const COMMANDS: [&str; 14] = [
+const COMMANDS: [&str; 15] = [
     "check plan.toml",
     "status plan.toml",
     "sweep plan.toml --journal a.journal --part 1/2",
@@ -51,6 +51,7 @@ const COMMANDS: [&str; 14] = [
     "mask plan.toml --roll 30 --form csv",
     "regard plan.toml --time 2026-03-20T00:17:00Z",
     "regard plan.toml --sample 3 --roll 30",
+    "rolls plan.toml --target *a*",
 ];
 
 #[test]

@@ -35,9 +35,9 @@ fn the_numbers_of_the_document() {
         (x, sun_30, y, 30.0),
         (x, z, y, 90.0),
         (x, minus(y), y, 180.0),
-        (x, minus(z), y, -90.0),
-        (x, sun_30, z, -60.0),
-        (x, sun_30, [5.0, 0.0, 2.0], -60.0),
+        (x, minus(z), y, 270.0),
+        (x, sun_30, z, 300.0),
+        (x, sun_30, [5.0, 0.0, 2.0], 300.0),
         (y, minus(x), y, 0.0),
         // At the poles Y takes north's place.
         (z, x, y, 0.0),
@@ -46,7 +46,7 @@ fn the_numbers_of_the_document() {
         (minus(z), y, y, 90.0),
     ] {
         let found = roll(target, sun, panel);
-        assert!(circular_diff_deg(found, expected) < 1e-9, "{:?} {:?} {:?}: {}", target, sun, panel, found);
+        assert!((found - expected).abs() < 1e-9, "{:?} {:?} {:?}: {}", target, sun, panel, found);
     }
 }
 
@@ -64,7 +64,7 @@ fn the_program_turns_so() {
     }
 }
 
-/// Targets by right ascension and declination, with the Sun east, north and south of each: the roll is 0, 90 and -90.
+/// Targets by right ascension and declination, with the Sun east, north and south of each: the roll is 0, 90 and 270.
 #[test]
 fn the_program_knows_right_ascension_and_declination() {
     let folder = tempfile::tempdir().unwrap();
@@ -76,7 +76,7 @@ fn the_program_knows_right_ascension_and_declination() {
         let suns = [east, north, north.map(|x| -x)].map(|side| mix(0.3, target, 1.0, side));
         let rows = suns.iter().enumerate().map(|(j, [x, y, z])| format!("2026-03-20T00:0{}:00Z,{},{},{},0,0,0\n", j, x, y, z));
         put("e.csv", &format!("time,sun_x,sun_y,sun_z,observer_x,observer_y,observer_z\n{}", rows.collect::<String>()));
-        for (roll, mask) in [("0", "011 A\n"), ("90", "101 A\n"), ("-90", "110 A\n")] {
+        for (roll, mask) in [("0", "011 A\n"), ("90", "101 A\n"), ("270", "110 A\n"), ("-90", "110 A\n")] {
             assert_eq!(mask_at(folder.path(), roll), mask, "{} {} at {}", ra, dec, roll);
         }
     }
@@ -108,13 +108,15 @@ proptest! {
     ) {
         let ([target, east, north], [sun, ..]) = (sky(ra, dec), sky(sun_ra, sun_dec));
         prop_assume!(dot(target, sun).abs() < 0.9999 && panel[1].hypot(panel[2]) > 0.01);
-        let (s, c) = roll(target, sun, panel).to_radians().sin_cos();
+        let optimal = roll(target, sun, panel);
+        prop_assert!((0.0..360.0).contains(&optimal), "{}", optimal);
+        let (s, c) = optimal.to_radians().sin_cos();
         let (y, z) = (mix(c, east, s, north), mix(c, north, -s, east));
         let normal = mix(panel[1], y, panel[2], z);
         let angle = |v: Vector| dot(v, north).atan2(dot(v, east)).to_degrees();
         prop_assert!(circular_diff_deg(angle(normal), angle(sun)) < 1e-6);
         // The position angle of z, from north through east, is minus the roll.
         let position_angle = dot(z, east).atan2(dot(z, north)).to_degrees();
-        prop_assert!(circular_diff_deg(position_angle, -roll(target, sun, panel)) < 1e-6);
+        prop_assert!(circular_diff_deg(position_angle, -optimal) < 1e-6);
     }
 }

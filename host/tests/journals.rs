@@ -83,15 +83,16 @@ impl Folder {
         let line = |line: &str| line.split(',').skip(columns.start).take(columns.len()).map(|x| bits(x.parse().unwrap())).collect();
         text.lines().skip(1).flat_map(|l| -> Vec<u64> { line(l) }).collect()
     }
-    /// J.plan of plan.toml with these settings and targets, put together here by the rules that docs/HOST.md has.
-    fn digest(&self, version: u64, settings: &[u64], targets: &str) -> String {
+    /// J.plan of plan.toml with this tolerance and these targets, put together here by the rules that docs/HOST.md has.
+    fn digest(&self, tolerance: f64, targets: &str) -> String {
         const START: u64 = 1_773_964_800;
+        // Three words; the tolerances, the panels and the rolls, each after its length.
+        let settings = [8, 0, bits(0.0), 1, bits(tolerance), 3, bits(0.0), bits(1.0), bits(0.0), 0];
         let times = (0..100).map(|j| (START + 60 * j) * 1_000_000_000).collect();
         let ephemeris = [times, self.numbers("ephemeris.csv", 1..4), self.numbers("ephemeris.csv", 4..7)].concat();
         format!(
-            "wilfnusk plan {}\nsettings {} plan.toml\ntargets {} targets.csv\nephemeris {} ephemeris.csv\n",
-            version,
-            hash(settings),
+            "wilfnusk plan 3\nsettings {} plan.toml\ntargets {} targets.csv\nephemeris {} ephemeris.csv\n",
+            hash(&settings),
             hash(&self.numbers(targets, 1..4)),
             hash(&ephemeris)
         )
@@ -124,11 +125,6 @@ fn bits(x: f64) -> u64 {
 fn hash(words: &[u64]) -> String {
     let bytes: Vec<u8> = words.iter().flat_map(|word| word.to_le_bytes()).collect();
     Sha256::digest(bytes).iter().map(|b| format!("{:02x}", b)).collect()
-}
-
-/// The settings of 8 rolls with this tolerance, none configured, by the rule of version 1.
-fn old_settings(tolerance: f64) -> [u64; 7] {
-    [8, 0, bits(tolerance), bits(0.0), bits(0.0), bits(1.0), bits(0.0)]
 }
 
 /// The journal with another mask digit in the line with this number, from 0. The line is still right: as many cells are marked.
@@ -193,59 +189,20 @@ fn equal_digests_are_kept() {
 }
 
 #[test]
-fn a_digest_of_version_2_is_written() {
+fn a_digest_of_version_3_is_written() {
     let folder = Folder::new();
     folder.done("sweep plan.toml -q --part 1/2");
-    // Three words; the tolerances, the panels and the rolls, each after its length.
-    let settings = [8, 0, bits(0.0), 1, bits(15.0), 3, bits(0.0), bits(1.0), bits(0.0), 0];
-    let digest = folder.digest(2, &settings, "targets.csv");
-    assert_eq!(String::from_utf8(folder.read("plan.journal.plan")).unwrap(), digest);
-    // Beside a journal without a line nothing depends on it: there an older one makes way.
-    folder.done("sweep plan.toml -q --journal bare.journal --chunks 0..0");
-    folder.write("bare.journal.plan", folder.digest(1, &old_settings(15.0), "targets.csv"));
-    folder.done("sweep plan.toml -q --journal bare.journal --chunks 0..1");
-    assert_eq!(folder.read("bare.journal.plan"), digest.into_bytes());
+    assert_eq!(String::from_utf8(folder.read("plan.journal.plan")).unwrap(), folder.digest(15.0, "targets.csv"));
 }
 
 #[test]
-fn a_journal_with_an_older_digest_is_known() {
-    let folder = Folder::new();
-    folder.done("sweep plan.toml -q --journal part1.journal --part 1/2");
-    let new = folder.read("part1.journal.plan");
-    let old = folder.digest(1, &old_settings(15.0), "targets.csv").into_bytes();
-    folder.write("part1.journal.plan", &old);
-    let checked = folder.done("check plan.toml --journal part1.journal");
-    assert!(checked.stderr.is_empty() && checked.stdout.contains("are those it was begun with"), "{} {}", checked.stdout, checked.stderr);
-    assert!(folder.run("status plan.toml --json --journal part1.journal").stdout.contains("\"origin_known\": true"));
-    // It is merged with a journal whose digest is new, and the result's is new.
-    folder.done("sweep plan.toml -q --journal part2.journal --part 2/2");
-    assert_eq!(folder.done("merge plan.toml part1.journal part2.journal -o all.journal").stderr, "");
-    assert_eq!(folder.read("all.journal.plan"), new);
-    // The sweep goes on, and what speaks for the lines before stays.
-    folder.done("sweep plan.toml -q --journal part1.journal");
-    assert_eq!(folder.read("part1.journal.plan"), old);
-    for words in ["windows", "mask", "check --recompute --write-digest"] {
-        let looked = folder.done(&format!("{} plan.toml --journal part1.journal", words));
-        assert_eq!(looked.stderr, "", "{}", words);
-    }
-    assert_eq!(folder.read("part1.journal.plan"), old);
-    assert_eq!(
-        folder.done("windows plan.toml --journal part1.journal").stdout,
-        folder.done("windows plan.toml --journal all.journal").stdout
-    );
-}
-
-#[test]
-fn an_older_digest_of_another_plan_is_refused() {
+fn a_digest_of_another_plan_is_refused() {
     let folder = Folder::new();
     folder.done("sweep plan.toml -q --part 1/2");
     let journal = folder.read("plan.journal");
-    for (digest, file) in [
-        (folder.digest(1, &old_settings(15.0), "other.csv"), "targets.csv"),
-        (folder.digest(1, &old_settings(15.000000000000002), "targets.csv"), "plan.toml"),
-        // One version's rule under the other's title.
-        (folder.digest(2, &old_settings(15.0), "targets.csv"), "plan.toml"),
-    ] {
+    for (digest, file) in
+        [(folder.digest(15.0, "other.csv"), "targets.csv"), (folder.digest(15.000000000000002, "targets.csv"), "plan.toml")]
+    {
         folder.write("plan.journal.plan", &digest);
         let says = format!("{}: its numbers are not those that plan.journal was begun with", file);
         for words in ["check", "status", "windows", "mask", "sweep", "check --recompute --write-digest"] {
@@ -262,9 +219,9 @@ fn a_newer_digest_is_told() {
     let folder = Folder::new();
     folder.done("sweep plan.toml -q --part 1/2");
     let journal = folder.read("plan.journal");
-    let newer = String::from_utf8(folder.read("plan.journal.plan")).unwrap().replace("wilfnusk plan 2", "wilfnusk plan 3") + "more\n";
+    let newer = String::from_utf8(folder.read("plan.journal.plan")).unwrap().replace("wilfnusk plan 3", "wilfnusk plan 4") + "more\n";
     folder.write("plan.journal.plan", &newer);
-    let says = "plan.journal.plan, line 1, column 1: a digest of version 3, which a newer wilfnusk wrote and this one cannot read; allowed: versions 1 to 2";
+    let says = "plan.journal.plan, line 1, column 1: a digest of version 4, which a newer wilfnusk wrote and this one cannot read; allowed: version 3";
     let again = "move the file away and work every line out again with check --recompute --write-digest\n";
     for words in ["check", "status", "windows", "mask", "sweep", "check --recompute --write-digest"] {
         folder.refused(3, &format!("{} plan.toml", words), &[says, again]);
@@ -272,7 +229,7 @@ fn a_newer_digest_is_told() {
     folder.refused(3, "merge plan.toml plan.journal -o all.journal", &[says, again]);
     // Nor is it written over where a journal has no line, or where a merged one shall stand, whether with a digest or without: there is no
     // line to work out again.
-    let away = "versions 1 to 2; use that program, or move the file away\n";
+    let away = "version 3; use that program, or move the file away\n";
     folder.write("plan.journal", &journal[..HEADER]);
     folder.refused(3, "sweep plan.toml", &[says, away]);
     folder.done("sweep plan.toml -q --journal part1.journal --part 1/2");
@@ -281,7 +238,7 @@ fn a_newer_digest_is_told() {
         if !known {
             folder.remove("part1.journal.plan");
         }
-        let says = "all.journal.plan, line 1, column 1: a digest of version 3";
+        let says = "all.journal.plan, line 1, column 1: a digest of version 4";
         folder.refused(3, "merge plan.toml part1.journal -o all.journal", &[says, away]);
     }
     assert!(folder.read("plan.journal.plan") == newer.as_bytes() && folder.read("all.journal.plan") == newer.as_bytes());
@@ -491,8 +448,10 @@ fn hit_by(signal: &str, ignored: &str) -> Ended {
     let folder = Folder::new();
     let journal = File::create(folder.0.path().join("plan.journal")).unwrap();
     journal.lock_exclusive().unwrap();
-    let mut command = Command::new("bash");
-    command.args(["-c", &format!("trap '' {}; exec \"$0\" sweep plan.toml -q --wait", ignored), env!("CARGO_BIN_EXE_wilfnusk")]);
+    // Signals that this test was started with ignored are set to their default: a shell's background job has INT ignored.
+    let mut command = Command::new("env");
+    let script = format!("trap '' {}; exec \"$0\" sweep plan.toml -q --wait", ignored);
+    command.args(["--default-signal", "bash", "-c", &script, env!("CARGO_BIN_EXE_wilfnusk")]);
     let child = command.current_dir(folder.0.path()).stdin(Stdio::null()).stdout(Stdio::piped()).stderr(Stdio::piped()).spawn().unwrap();
     // Until it listens to the last of its signals, or knows that it shall not.
     let status = format!("/proc/{}/status", child.id());

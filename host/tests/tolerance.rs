@@ -220,40 +220,6 @@ fn the_header_holds_the_first_entry() {
     }
 }
 
-/// What the programs wrote that knew one tolerance alone, of version 1 and of version 2, for two targets at 40 times.
-const OLD: [&str; 2] = [
-    "wilfnusk plan 1\nsettings 5e754224acbd7ed75550e75c950b02210a9ba34f0e4b182532ee82cdf068f5b0 plan.toml\n",
-    "wilfnusk plan 2\nsettings 839d7dfb8d119dcd36c4670a61e9227371d375e531cf4d9fdd4d100dffbd07c1 plan.toml\n",
-];
-const OLD_FILES: &str = "targets 4787a52766c2d47c0d1ba11d22ddb34a2beee258c82364eb9a6fbb8754c63d20 t.csv\n\
-    ephemeris ed8df92f9ec4858c6a17c84cbe660f1558dcfacaf17b236ccb9485aa5a1f7b9d e.csv\n";
-
-#[test]
-fn a_journal_begun_with_one_tolerance_goes_on() {
-    let without = "targets = \"t.csv\"\nephemeris = \"e.csv\"\nrolls = 1\n";
-    let plain = "name,x,y,z\nA,1,0,0\nB,1,0,0\n";
-    for old in OLD.map(|settings| settings.to_owned() + OLD_FILES) {
-        for (key, targets) in
-            [("tolerance = 10\n", plain), ("tolerance = [10, 10.0]\n", plain), ("", "name,x,y,z,tolerance\nA,1,0,0,10\nB,1,0,0,1e1\n")]
-        {
-            let f = Folder::new(&["A", "B"], &"01".repeat(20), "tolerance = 10\n");
-            run(&f, "sweep plan.toml -q --part 1/2").says(0, &["1 of 2 chunks have a line"]);
-            f.write("plan.journal.plan", &old);
-            f.write("plan.toml", &format!("{}{}", without, key));
-            f.write("t.csv", targets);
-            let checked = run(&f, "check plan.toml");
-            assert!(checked.stderr.is_empty() && checked.stdout.contains("the files are those it was begun with"), "{:?}", checked);
-            run(&f, "sweep plan.toml -q").says(0, &["2 of 2 chunks have a line"]);
-            assert_eq!(f.read("plan.journal.plan"), old);
-            assert_eq!(done(&f, "mask plan.toml"), format!("{0} A\n{0} B\n", "01".repeat(20)));
-            // Tolerances that differ are another plan.
-            f.write("plan.toml", &format!("{}tolerance = [10, 11]\n", without));
-            f.write("t.csv", plain);
-            run(&f, "check plan.toml").says(3, &["plan.toml: its numbers are not those that plan.journal was begun with"]);
-        }
-    }
-}
-
 /// Every command that reads a plan says so and writes nothing.
 #[test]
 fn what_is_wrong_is_told_by_every_command() {
@@ -307,6 +273,7 @@ fn what_is_wrong_is_told_by_every_command() {
             "mask plan.toml --roll 30",
             "mask plan.toml",
             "regard plan.toml --sample 3",
+            "rolls plan.toml --csv r.csv",
             "merge plan.toml a.journal -o all.journal",
         ] {
             let ended = run(&f, words);

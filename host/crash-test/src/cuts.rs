@@ -147,6 +147,33 @@ pub fn every_byte_of_the_digest(case: &Case, folder: &Path, tally: &mut Tally) {
     }
 }
 
+/// The power fails on entry to each system call of a sweep that finds an earlier program's digest beside a journal without a line: it has made way
+/// before the first line is there, as every later command would refuse that line.
+pub fn every_call_over_an_old_digest(case: &Case, folder: &Path, tally: &mut Tally) {
+    let machine = Machine::new(case, folder);
+    whole(&machine, &machine.sweep(None));
+    let (journal, digest) = (machine.journal(), machine.folder.join("plan.journal.plan"));
+    let new = fs::read_to_string(&digest).unwrap();
+    let old = new.replacen("wilfnusk plan 3\n", "wilfnusk plan 2\n", 1);
+    assert_ne!(old, new);
+    for left in [0, HEADER] {
+        for number in 1.. {
+            fs::write(machine.path(), &journal[..left]).unwrap();
+            fs::write(&digest, &old).unwrap();
+            let killed = run_to(&machine, &sweep_words(None), Stop::Call(number), left).killed;
+            let beside = fs::read_to_string(&digest).unwrap();
+            assert!(beside == new || beside == old && machine.journal().len() <= HEADER, "a line beside an earlier program's digest");
+            whole(&machine, &machine.sweep(None));
+            assert!(fs::read_to_string(&digest).unwrap() == new);
+            if !killed {
+                break;
+            }
+            tally.cuts += 1;
+            tally.calls += 1;
+        }
+    }
+}
+
 /// The power fails on entry to each system call of a sweep, the first to the last; then on entry to another of the run after it. Of bytes
 /// that were not synced when it failed, it may have taken any number from the end: each is tried.
 pub fn every_call(case: &Case, folder: &Path, seeded: &mut Seeded, tally: &mut Tally) {

@@ -126,6 +126,9 @@ fn run(folder: &Path, seconds: u64, seed: u64) -> Tally {
     cuts::every_call(&fixed, &at("calls"), &mut seeded, &mut tally);
     done(format!("every system call: {} of them; {} cuts took bytes that were not synced", tally.calls, tally.unsynced));
     let before = tally.calls;
+    cuts::every_call_over_an_old_digest(&fixed, &at("old"), &mut tally);
+    done(format!("every system call over an earlier program's digest: {} of them", tally.calls - before));
+    let before = tally.calls;
     split::every_call_of_merge(&four, &at("merge"), &mut tally);
     done(format!("every system call of a merge: {} of them", tally.calls - before));
     damage::all(&four, &at("damage"), &mut seeded, &mut tally);

@@ -29,7 +29,7 @@ pub fn all(case: &Case, folder: &Path) -> Vec<String> {
     renamed(&machine);
     done.push("a journal that is renamed, and one that is replaced".into());
     edited(&machine);
-    done.push("edited targets and positions, a lost digest".into());
+    done.push("edited targets and positions, a lost digest, an earlier program's".into());
     done
 }
 
@@ -188,6 +188,8 @@ fn edited(machine: &Machine) {
     assert!(!digest.exists(), "a digest was made up for lines of unknown origin");
     fs::write(&digest, &text[..40]).unwrap();
     says(&machine.sweep(None), 3, &["plan.journal.plan, line 1, column 1: no digest of a plan"]);
+    fs::write(&digest, String::from_utf8_lossy(&text).replacen("plan 3\n", "plan 2\n", 1)).unwrap();
+    says(&machine.sweep(None), 3, &["plan.journal.plan, line 1, column 1: a digest of version 2", "by an earlier wilfnusk"]);
     fs::write(&digest, text).unwrap();
     assert!(machine.journal() == journal);
     whole(machine, &machine.sweep(None));
