@@ -18,8 +18,8 @@
  *    -1  Lists do not fit together. With a plan: targets, suns or observers not a multiple of 3 long, suns and observers of different
  *        lengths, or a used length beyond its buffer. With windows or catalogue positions: lists that belong together have different
  *        lengths.
- *    -2  Too large. With a plan: more than 65,536 targets or times, or more than 1,048,576 cells. With windows: more than 65,536 samples
- *        or windows.
+ *    -2  Too large. With a plan, or its size: more than 65,536 targets or times, or more than 1,048,576 cells. With windows: more than
+ *        65,536 samples or windows.
  *    -3  n, the number of rolls, is outside 1 to 3,600. (wilfnusk_constrained_at_every_roll and wilfnusk_field_of_regard_violated_batch
  *        take 0 as well.)
  *    -4  A number of suns or observers is not finite, or beyond 1e100 in size.
@@ -244,6 +244,27 @@ int64_t wilfnusk_recover(WILFNUSK_PLAN, uint64_t n, const uint8_t *journal, size
  * Refuses: -1, -2, -3, -4, -5, -6, -17; -11; -12; -15; -7 if mask_len is below the number of cells. */
 int64_t wilfnusk_collect(WILFNUSK_PLAN, uint64_t n, const uint8_t *journal, size_t journal_len, uint64_t used, uint8_t *mask,
                          size_t mask_len);
+
+
+/* ---- Cost ------------------------------------------------------------------------------------------------------------------------ */
+
+/* What the sweep of a plan of this size will cost, whatever is in the plan: writes into out the journal's length in bytes once each chunk
+ * has its line, 107 + 33 a chunk; the fewest rolls that the sweep can try, one a cell; and the most, n a cell. Answers 0.
+ * Refuses: -2; -3; -7 if out_len is below 3. */
+int64_t wilfnusk_cost(uint64_t targets, uint64_t times, uint64_t n, uint64_t *out, size_t out_len);
+
+/* Write a plan of this size: the sweep of the first tries the most rolls, n a cell, that of the second the fewest, one a cell. Each target
+ * is 1, 0, 0, each Sun 0, 1, 0, each observer 0, 0, 0 and the panel 0, 1, 0; every tolerance is -1 in the first and 180 in the second.
+ * Lend the first 3 * targets, 3 * times, 3 * times and targets numbers of the first four lists as targets, suns, observers and tolerances,
+ * the panel's three as panel_x, panel_y and panel_z, with has_roll 0 and the same n. The five lists must not overlap. Both answer 0.
+ * Refuse: -2; -3; -7 if target_numbers_len is below 3 a target, suns_len or observers_len below 3 a time, tolerances_len below the
+ * number of targets, or panel_len below 3. */
+int64_t wilfnusk_costliest_plan(uint64_t targets, uint64_t times, uint64_t n, double *target_numbers, size_t target_numbers_len,
+                                double *suns, size_t suns_len, double *observers, size_t observers_len, double *tolerances,
+                                size_t tolerances_len, double *panel, size_t panel_len);
+int64_t wilfnusk_cheapest_plan(uint64_t targets, uint64_t times, uint64_t n, double *target_numbers, size_t target_numbers_len,
+                               double *suns, size_t suns_len, double *observers, size_t observers_len, double *tolerances,
+                               size_t tolerances_len, double *panel, size_t panel_len);
 
 
 /* ---- Windows --------------------------------------------------------------------------------------------------------------------- */

@@ -195,6 +195,78 @@ pub fn radec_to_unit_vectors_batch(ra: &[f64], dec: &[f64], out: &mut [f64]) -> 
     .map(drop)
 }
 
+/// What a sweep costs, whatever is in its plan. Probes are the rolls that it tries.
+#[derive(Clone, Copy, Debug, PartialEq, Eq)]
+pub struct Cost {
+    /// The journal's length once each chunk has its line.
+    pub journal_bytes: u64,
+    pub fewest_probes: u64,
+    pub most_probes: u64,
+}
+
+/// The cost of a plan with so many targets and times, swept over n rolls.
+///
+/// ```
+/// let cost = wilfnusk::cost(10, 13, 72)?;
+/// assert_eq!((cost.journal_bytes, cost.fewest_probes, cost.most_probes), (107 + 33 * 3, 130, 72 * 130));
+/// # Ok::<(), wilfnusk::Refusal>(())
+/// ```
+pub fn cost(targets: u64, times: u64, n: u64) -> Result<Cost, Refusal> {
+    let mut out = [0; 3];
+    cost_into(targets, times, n, &mut out)?;
+    let [journal_bytes, fewest_probes, most_probes] = out;
+    Ok(Cost { journal_bytes, fewest_probes, most_probes })
+}
+/// [`cost`] as the C name has it: its three numbers are written into the first places of `out`.
+pub fn cost_into(targets: u64, times: u64, n: u64, out: &mut [u64]) -> Result<(), Refusal> {
+    accepted(Call::Cost, unsafe { sys::wilfnusk_cost(targets, times, n, out.as_mut_ptr(), out.len()) }).map(drop)
+}
+
+/// The lists into which a plan is written: 3 numbers a target, 3 a time twice, 1 a target, and 3. Places beyond stay.
+#[derive(Debug)]
+pub struct PlanLists<'a> {
+    pub target_numbers: &'a mut [f64],
+    pub suns: &'a mut [f64],
+    pub observers: &'a mut [f64],
+    pub tolerances: &'a mut [f64],
+    pub panel: &'a mut [f64],
+}
+
+/// Calls a C name that writes a plan.
+macro_rules! write_plan {
+    ($name:ident, $targets:expr, $times:expr, $n:expr, $out:expr) => {{
+        let out: PlanLists = $out;
+        // Each pointer comes from a slice with its length, and `&mut` keeps them apart.
+        accepted(Call::Cost, unsafe {
+            sys::$name(
+                $targets,
+                $times,
+                $n,
+                out.target_numbers.as_mut_ptr(),
+                out.target_numbers.len(),
+                out.suns.as_mut_ptr(),
+                out.suns.len(),
+                out.observers.as_mut_ptr(),
+                out.observers.len(),
+                out.tolerances.as_mut_ptr(),
+                out.tolerances.len(),
+                out.panel.as_mut_ptr(),
+                out.panel.len(),
+            )
+        })
+        .map(drop)
+    }};
+}
+
+/// Writes a plan of this size whose sweep tries the most rolls, every tolerance -1. Lend it without a configured roll.
+pub fn costliest_plan(targets: u64, times: u64, n: u64, out: PlanLists) -> Result<(), Refusal> {
+    write_plan!(wilfnusk_costliest_plan, targets, times, n, out)
+}
+/// Writes a plan of this size whose sweep tries the fewest rolls, every tolerance 180. Lend it without a configured roll.
+pub fn cheapest_plan(targets: u64, times: u64, n: u64, out: PlanLists) -> Result<(), Refusal> {
+    write_plan!(wilfnusk_cheapest_plan, targets, times, n, out)
+}
+
 /// Lists the maximal runs of marked samples of a row. How many there are.
 pub fn violation_windows(mask: &[u8], times: &[i64], severities: &[f64], out: Columns) -> Result<u64, Refusal> {
     accepted(Call::Windows, unsafe {

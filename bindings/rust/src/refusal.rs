@@ -17,6 +17,8 @@ pub enum Call {
     WorkRange,
     Recover,
     Collect,
+    /// The cost of a plan of a size, or a plan of that size.
+    Cost,
     /// A listing of windows, as columns or as records.
     Windows,
     Expand,

@@ -77,6 +77,37 @@ extern "C" {
         out: *mut f64,
         out_len: usize,
     ) -> i64;
+    pub fn wilfnusk_cost(targets: u64, times: u64, n: u64, out: *mut u64, out_len: usize) -> i64;
+    pub fn wilfnusk_costliest_plan(
+        targets: u64,
+        times: u64,
+        n: u64,
+        target_numbers: *mut f64,
+        target_numbers_len: usize,
+        suns: *mut f64,
+        suns_len: usize,
+        observers: *mut f64,
+        observers_len: usize,
+        tolerances: *mut f64,
+        tolerances_len: usize,
+        panel: *mut f64,
+        panel_len: usize,
+    ) -> i64;
+    pub fn wilfnusk_cheapest_plan(
+        targets: u64,
+        times: u64,
+        n: u64,
+        target_numbers: *mut f64,
+        target_numbers_len: usize,
+        suns: *mut f64,
+        suns_len: usize,
+        observers: *mut f64,
+        observers_len: usize,
+        tolerances: *mut f64,
+        tolerances_len: usize,
+        panel: *mut f64,
+        panel_len: usize,
+    ) -> i64;
     pub fn wilfnusk_violation_windows(
         mask: *const u8,
         mask_len: usize,

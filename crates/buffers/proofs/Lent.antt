@@ -207,6 +207,11 @@ module _ {A : Type 0} where
   unfolding over
   length-over t l h = simp (length-append, length-drop) (omega arith)
 
+  -- the text, read back
+  pub take-over : (n : ℕ) (t l : List A) → length t ≡ n → take n (over t l) ≡ t
+  unfolding over
+  take-over n t l e = take-at t (drop (length t) l) n e
+
   -- a text over all places
   pub over-all : (t l : List A) → length l ≤ length t → over t l ≡ t
   unfolding over
@@ -250,7 +255,7 @@ module _ {A : Type 0} where
 
 -- the first places filled, several at a time
 module _ {A : Type 0} (f : ℕ → A) where
-  filled-over : (n : ℕ) (l : List A) → filled n f l ≡ over (tab n f) l
+  pub filled-over : (n : ℕ) (l : List A) → filled n f l ≡ over (tab n f) l
   unfolding filled over
   filled-over n l = ap (λ (k : ℕ). tab n f ++ drop k l) (sym (length-tab n f))
 

@@ -14,7 +14,7 @@ use solar_roll::ConfiguredRoll;
 use solar_roll::triple;
 
 // How many bytes a header has, with its 0a.
-pub(crate) const HEADER_LENGTH: usize = 107;
+pub const HEADER_LENGTH: usize = 107;
 
 // Writes a header of the numbers that it holds: a float as its bits.
 fn write_numbers(

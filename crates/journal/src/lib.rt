@@ -15,3 +15,5 @@ pub use calls::collect;
 pub use calls::recover;
 pub use calls::work;
 pub use calls::work_range;
+pub use header::HEADER_LENGTH;
+pub use line::LINE_LENGTH;

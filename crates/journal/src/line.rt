@@ -11,7 +11,7 @@ use crate::hex::hex_value;
 use crate::hex::write_fields;
 
 // How many bytes a line has, with its 0a.
-pub(crate) const LINE_LENGTH: usize = 33;
+pub const LINE_LENGTH: usize = 33;
 
 // What stands in the place of a line. It is framed if it has 32 digits and 0a; else its numbers mean nothing.
 pub struct Line {

@@ -121,6 +121,12 @@ unfolding sumOver
 over-end f [] c = omega arith
 over-end f (d ∷ L) c = omega (arith, over-end f L c)
 
+-- a one for each chunk of L
+pub over-ones : (L : List ℕ) → sumOver (λ c. 1) L ≡ length L
+unfolding sumOver
+over-ones [] = refl
+over-ones (c ∷ L) = omega (arith, over-ones L)
+
 -- either, where not both
 either : (x y : Bool) (n : ℕ) → (x ≡ true → y ≡ false) → cond (x || y) n 0 ≡ cond x n 0 + cond y n 0
 either true true n h = absurd (false≢true (sym (h refl)))

@@ -133,7 +133,7 @@ after-put j x t n e =
     ∙ ap (λ (b : List ℕ). j ++ b) (take-at t d n e)
 
 module _ (s : Sweep) (a : SweepFacts s) where
-  known : (t : State s) → Known s (ledgerOf s t)
+  pub known : (t : State s) → Known s (ledgerOf s t)
   known (off k h) = known-off s a k h none
   known (on L r g h) = known-on s a L r g h none
   known began = known-on s a [] [] (good-nil s) (omega arith) header
@@ -268,7 +268,7 @@ module _ (s : Sweep) (a : SweepFacts s) where
     whole : l .remnant ≡ []
     new : isIn c (l .lines) ≡ false
 
-  finished : (m : Bool) (r : List ℕ) → not m || not (isEmpty r) ≡ false → (m ≡ true) × (r ≡ [])
+  pub finished : (m : Bool) (r : List ℕ) → not m || not (isEmpty r) ≡ false → (m ≡ true) × (r ≡ [])
   finished true [] e = (refl, refl)
   finished true (y ∷ r) e = absurd (false≢true (sym e))
   finished false r e = absurd (false≢true (sym e))

@@ -1,15 +1,16 @@
 -- What is known of a chunk whose sweep is not refused, and that a chunk of an accepted plan is not. Assumes nothing.
 use mathlib.Core.Path.{_≡_, refl, sym, ap, _∙_}
-use mathlib.Core.Bool.{Bool, true, false, cond, _||_, _&&_}
-use Prim.Native.Nat.{ℕ, zero, suc, _+_, _-_, _*_, _≤_, _<_}
+use mathlib.Core.Bool.{Bool, true, false, cond, _&&_}
+use Prim.Native.Nat.{ℕ, zero, suc, _+_, _*_, _≤_, _<_}
 use native.Mathlib.Omega.{arith}
-use lib.Dec.{eqb, leb, ltb, lit<}
-use borrow.Author.Tests.{eqb-false, ltb-false, leb-true, leb-false, ne-eqb, le-ltb, lt-leb}
+use lib.Dec.{eqb, leb, lit<}
+use borrow.Author.Tests.{eqb-false, leb-true, leb-false, ne-eqb, lt-leb}
 use Rattle.buffers.specs.Refusal.{accepted}
 use Rattle.buffers.proofs.Refusal.{first-none, first-skip, first-clear, carried-skip, carried-clear}
-use Rattle.buffers.proofs.Tests.{and-left, and-right, or-left, or-right}
+use Rattle.buffers.proofs.Tests.{and-left, and-right}
 use Rattle.buffers.proofs.Rows.{some-time}
 use Rattle.solar_roll.specs.Plan.{Plan, rowsOf, timesOf, mostRows, mostTimes, mostCells, mostSamples, tooMany, samplesRefusal, PlanFacts}
+use Rattle.solar_roll.proofs.PlanFacts.{few, not-too-many, few-of-plan}
 use Rattle.roll_sweep.specs.Sweep.{chunks, cellsIn}
 use Rattle.roll_sweep.specs.Chunk.{chunkRefusal, chunkReply}
 use Rattle.roll_sweep.specs.declared.chunk.Swept.{Swept}
@@ -37,22 +38,19 @@ samples-within n e =
     go false e = absurd (omega arith)
 
 pub chunk-facts : (rows times units samples c : ℕ) → chunkRefusal rows times units samples c ≡ 0 → ChunkFacts rows times units samples c
-unfolding chunkRefusal tooMany
+unfolding chunkRefusal
 chunk-facts rows times units samples c h =
-    let x : Bool = ltb mostRows rows in
-    let y : Bool = ltb mostTimes times in
-    let z : Bool = ltb mostCells (rows * times) in
     let c0 = first-clear _ _ _ (lit< tt) h in
     let c1 = first-clear _ _ _ (lit< tt) (c0 .1) in
     let c2 = carried-clear _ _ (c1 .1) in
     let c3 = first-clear _ _ _ (lit< tt) (c2 .1) in
-    let r : (y || z) ≡ false = or-right x (y || z) (c1 .0) in
+    let few-of = few rows times (c1 .0) in
     let s = samples-within samples (c2 .0) in
     record {
       some-unit = some units (eqb-false _ _ (c0 .0));
-      few-rows = ltb-false _ _ (or-left x (y || z) (c1 .0));
-      few-times = ltb-false _ _ (or-left y z r);
-      few-cells = ltb-false _ _ (or-right y z r);
+      few-rows = few-of .few-rows;
+      few-times = few-of .few-times;
+      few-cells = few-of .few-cells;
       one = s .0;
       most = s .1;
       exists = leb-false _ _ (c3 .0);
@@ -83,10 +81,10 @@ held rows times units samples c w f e =
 -- a chunk of a plan that is not refused, with a unit or more
 pub chunk-accepted : (p : Plan) (units samples c : ℕ) → PlanFacts p → 0 < units → samplesRefusal samples ≡ 0 → c < chunks (rowsOf p * timesOf p)
     → chunkRefusal (rowsOf p) (timesOf p) units samples c ≡ 0
-unfolding chunkRefusal tooMany
+unfolding chunkRefusal
 chunk-accepted p units samples c f u s h =
     first-skip (eqb units 0) _ _ (ne-eqb units 0 (omega arith))
-    ∙ first-skip (tooMany (rowsOf p) (timesOf p)) _ _ (simp (le-ltb _ _ (f .few-rows), le-ltb _ _ (f .few-times), le-ltb _ _ (f .few-cells)))
+    ∙ first-skip (tooMany (rowsOf p) (timesOf p)) _ _ (not-too-many (few-of-plan f))
     ∙ carried-skip _ _ s
     ∙ first-skip _ _ _ (lt-leb _ _ h)
     ∙ first-none

@@ -1,4 +1,4 @@
--- What is known of a plan that is not refused, and how large the number of one that is can be. Assumes nothing.
+-- What is known of a size and of a plan that is not refused, and how large the number of one that is can be. Assumes nothing.
 use mathlib.Core.Path.{_≡_}
 use mathlib.Core.Bool.{Bool, false, not, _||_}
 use mathlib.Core.List.{List}
@@ -7,12 +7,36 @@ use native.Mathlib.Omega.{arith}
 use lib.Dec.{eqb, ltb, lit<}
 use lib.Ieee.{Float}
 use lib.ListN.{length}
-use borrow.Author.Tests.{not-false, eqb-true, ltb-false}
+use borrow.Author.Tests.{not-false, eqb-true, ltb-false, le-ltb}
 use Rattle.buffers.specs.Refusal.{carried}
 use Rattle.buffers.proofs.Refusal.{first-clear, carried-clear, given-below}
 use Rattle.buffers.proofs.Tests.{or-left, or-right}
 use Rattle.solar_roll.specs.Cell.{badPosition, badDirection, directionRefusal, numbersRefusal}
-use Rattle.solar_roll.specs.Plan.{Plan, unlikeLengths, mostRows, mostTimes, mostCells, tooMany, sizesRefusal, planRefusal, PlanFacts}
+use Rattle.solar_roll.specs.Plan.{Plan, rowsOf, timesOf, unlikeLengths, mostRows, mostTimes, mostCells, tooMany, sizesRefusal, planRefusal, PlanFacts}
+
+-- ---- not too many rows, times and cells
+
+pub record Few (rows times : ℕ) : Type 0 where
+  pub few-rows : rows ≤ mostRows
+  pub few-times : times ≤ mostTimes
+  pub few-cells : rows * times ≤ mostCells
+
+pub few : (rows times : ℕ) → tooMany rows times ≡ false → Few rows times
+unfolding tooMany
+few rows times h =
+    let a : Bool = ltb mostRows rows in
+    let b : Bool = ltb mostTimes times in
+    let c : Bool = ltb mostCells (rows * times) in
+    let m : (b || c) ≡ false = or-right a (b || c) h in
+    record {
+      few-rows = ltb-false _ _ (or-left a (b || c) h);
+      few-times = ltb-false _ _ (or-left b c m);
+      few-cells = ltb-false _ _ (or-right b c m);
+    }
+
+pub not-too-many : {rows times : ℕ} → Few rows times → tooMany rows times ≡ false
+unfolding tooMany
+not-too-many f = simp (le-ltb _ _ (f .few-rows), le-ltb _ _ (f .few-times), le-ltb _ _ (f .few-cells))
 
 -- ---- the sizes: lengths are multiples of 3, and there are not too many
 
@@ -20,31 +44,23 @@ record Sizes (targets suns observers : ℕ) : Type 0 where
   pub triples : targets % 3 ≡ 0
   pub moments : suns % 3 ≡ 0
   pub alike : suns ≡ observers
-  pub few-rows : targets / 3 ≤ mostRows
-  pub few-times : suns / 3 ≤ mostTimes
-  pub few-cells : targets / 3 * (suns / 3) ≤ mostCells
+  pub few-of : Few (targets / 3) (suns / 3)
 
 sizes : (targets suns observers : ℕ) (beyond : Bool) → sizesRefusal targets suns observers beyond ≡ 0 → Sizes targets suns observers
-unfolding sizesRefusal unlikeLengths tooMany
+unfolding sizesRefusal unlikeLengths
 sizes targets suns observers beyond h =
     let t : Bool = not (eqb (targets % 3) 0) in
     let s : Bool = not (eqb (suns % 3) 0) in
     let o : Bool = not (eqb suns observers) in
-    let a : Bool = ltb mostRows (targets / 3) in
-    let b : Bool = ltb mostTimes (suns / 3) in
-    let c : Bool = ltb mostCells (targets / 3 * (suns / 3)) in
     let c1 = first-clear _ _ _ (lit< tt) h in
     let c2 = first-clear _ _ _ (lit< tt) (c1 .1) in
     let like : (t || (s || o)) ≡ false = or-left (t || (s || o)) beyond (c1 .0) in
     let l : (s || o) ≡ false = or-right t (s || o) like in
-    let m : (b || c) ≡ false = or-right a (b || c) (c2 .0) in
     record {
       triples = eqb-true _ _ (not-false _ (or-left t (s || o) like));
       moments = eqb-true _ _ (not-false _ (or-left s o l));
       alike = eqb-true _ _ (not-false _ (or-right s o l));
-      few-rows = ltb-false _ _ (or-left a (b || c) (c2 .0));
-      few-times = ltb-false _ _ (or-left b c m);
-      few-cells = ltb-false _ _ (or-right b c m);
+      few-of = few _ _ (c2 .0);
     }
 
 -- ---- the numbers: none is too large
@@ -102,14 +118,17 @@ plan-facts p said beyond h =
       suns-length = omega (arith, s .moments);
       observers-length = omega (arith, s .moments, s .alike);
       tolerances-length = eqb-true _ _ (not-false _ (c4 .0));
-      few-rows = s .few-rows;
-      few-times = s .few-times;
-      few-cells = s .few-cells;
+      few-rows = s .few-of .few-rows;
+      few-times = s .few-of .few-times;
+      few-cells = s .few-of .few-cells;
       suns-small = n .suns-small;
       observers-small = n .observers-small;
       targets-small = n .targets-small;
       panels-small = n .panels-small;
     }
+
+pub few-of-plan : {p : Plan} → PlanFacts p → Few (rowsOf p) (timesOf p)
+few-of-plan f = record { few-rows = f .few-rows; few-times = f .few-times; few-cells = f .few-cells }
 
 -- no used length lies beyond its buffer
 pub not-beyond : (p : Plan) (said : ℕ) (beyond : Bool) → planRefusal p said beyond ≡ 0 → beyond ≡ false

@@ -25,6 +25,7 @@ pub use plan::plan_refusal;
 pub use plan::row_config;
 pub use plan::samples_or_none_refusal;
 pub use plan::samples_refusal;
+pub use plan::too_many;
 pub use plan::triple;
 pub use roll::Panel;
 pub use roll::body_axes;

@@ -97,7 +97,7 @@ fn unlike_lengths(targets: usize, suns: usize, observers: usize) -> bool
 }
 
 // 2.
-fn too_many(rows: usize, times: usize) -> bool
+pub fn too_many(rows: usize, times: usize) -> bool
     ensures { λ r. ⌜ r ≡ tooMany rows times ⌝ }
 {
     if MOST_ROWS < rows {

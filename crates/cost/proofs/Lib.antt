@@ -1,0 +1,6 @@
+-- For a reader: that the counts foretold are those of the sweeps (Foretold). The rest: what is known of sizes and lists that are not refused (Facts), a pattern over and
+-- over (Repeated), the even samples (Samples).
+pub mod Foretold
+mod Facts
+mod Repeated
+mod Samples
