@@ -1,4 +1,4 @@
-/* Uses include/wilfnusk.h as a program in C or C++ does: the examples of document 01, and of document 02's requests One to Three. Prints document
+/* Uses include/wilfnusk.h as a program in C or C++ does: the examples of document 01, and of document 02's requests One to Four. Prints document
  * 01's journal. */
 #include <stdio.h>
 #include <string.h>
@@ -105,6 +105,72 @@ static void tolerances(void)
            "no targets: zeros in the header");
 }
 
+#define PLACES 41
+
+/* One of both plans with thirteen times, into the lists of which so many places are lent. */
+static int64_t write_plan(int costliest, uint64_t targets, uint64_t n, double lists[5][PLACES], const size_t lent[5])
+{
+    if (costliest)
+        return wilfnusk_costliest_plan(targets, 13, n, lists[0], lent[0], lists[1], lent[1], lists[2], lent[2], lists[3], lent[3], lists[4],
+                                       lent[4]);
+    return wilfnusk_cheapest_plan(targets, 13, n, lists[0], lent[0], lists[1], lent[1], lists[2], lent[2], lists[3], lent[3], lists[4],
+                                  lent[4]);
+}
+
+/* Five targets and thirteen times, a cell more than a chunk holds: the cost, and both plans, each swept as it was written. Each refusal
+ * leaves every place as it was. */
+static void costs(void)
+{
+    const uint64_t wild = (uint64_t)1 << 32;
+    const size_t none[5] = {0, 0, 0, 0, 0}, all[5] = {PLACES, PLACES, PLACES, PLACES, PLACES}, needed[5] = {15, 39, 39, 5, 3};
+    uint64_t cost[4] = {7, 7, 7, 7}, stopped;
+    double lists[5][PLACES], expected[5][PLACES];
+    uint8_t journal[256], mask[65];
+    size_t lent[5], list, k;
+    int costliest;
+
+    expect(wilfnusk_cost(wild, wild, 0, cost, 0) == -2, "cost: too many targets and times, before 3 and 7");
+    expect(wilfnusk_cost(5, 13, 3601, cost, 2) == -3, "cost: more than 3,600 rolls, before 7");
+    expect(wilfnusk_cost(5, 13, 72, cost, 2) == -7, "cost: room for two numbers");
+    expect(cost[0] == 7 && cost[1] == 7 && cost[2] == 7, "cost: refused, and every place as it was");
+    expect(wilfnusk_cost(5, 13, 72, cost, 4) == 0, "cost");
+    expect(cost[0] == 173 && cost[1] == 65 && cost[2] == 4680, "a journal of 173 bytes, and 65 to 4,680 rolls");
+    expect(cost[3] == 7, "the place beyond the cost as it was");
+
+    memcpy(lent, needed, sizeof lent);
+    for (costliest = 0; costliest < 2; costliest++) {
+        const double tolerance = costliest ? -1 : 180;
+        const double repeated[5][3] = {{1, 0, 0}, {0, 1, 0}, {0, 0, 0}, {tolerance, tolerance, tolerance}, {0, 1, 0}};
+        const uint64_t foretold = costliest ? cost[2] : cost[1];
+
+        for (list = 0; list < 5; list++)
+            for (k = 0; k < PLACES; k++)
+                lists[list][k] = expected[list][k] = -77.125;
+        expect(write_plan(costliest, wild, 0, lists, none) == -2, "plan: too many targets, before 3 and 7");
+        expect(write_plan(costliest, 5, 0, lists, none) == -3, "plan: no rolls, before 7");
+        for (list = 0; list < 5; list++) {
+            lent[list]--;
+            expect(write_plan(costliest, 5, 72, lists, lent) == -7, "plan: a list one short");
+            lent[list]++;
+        }
+        expect(memcmp(lists, expected, sizeof lists) == 0, "plan: refused, and every byte as it was");
+        for (list = 0; list < 5; list++)
+            for (k = 0; k < needed[list]; k++)
+                expected[list][k] = repeated[list][k % 3];
+        expect(write_plan(costliest, 5, 72, lists, all) == 0, "a plan of five targets");
+        expect(memcmp(lists, expected, sizeof lists) == 0, "its lists, byte by byte, and the places beyond as they were");
+
+#define WRITTEN lists[0], 15, lists[1], 39, lists[2], 39, lists[3], 5, 0, 0.0, lists[4][0], lists[4][1], lists[4][2], 72
+        expect(wilfnusk_begin(WRITTEN, journal, sizeof journal, 0) == 107, "begin with the plan that was written");
+        expect(wilfnusk_work_range(WRITTEN, 0, 2, journal, sizeof journal, 107, &stopped) == (int64_t)cost[0],
+               "the journal's length is the one foretold");
+        expect(wilfnusk_collect(WRITTEN, journal, sizeof journal, cost[0], mask, 65) == (int64_t)foretold,
+               "as many rolls tried as foretold");
+        for (k = 0; k < 65; k++)
+            expect(mask[k] == costliest, "the costliest plan marks every cell, the cheapest none");
+    }
+}
+
 int main(void)
 {
     const double target[3] = {1, 0, 0};
@@ -128,6 +194,7 @@ int main(void)
     expect(wilfnusk_circular_diff_deg(350, 10) == 20, "difference of 350 and 10");
     catalogue();
     tolerances();
+    costs();
 
     expect(wilfnusk_cell(1, 0, 0, 1, 0, 0, 0, 0, 0, 0, 1, 0, &roll) == 0 && roll == -1, "Sun on the boresight: Free, roll unwritten");
     expect(wilfnusk_cell(1, 0, 0, 0, 0, -1, 0, 0, 0, 0, 1, 0, &roll) == 1 && roll == 270, "Sun [0,0,-1]: At 270, not -90");

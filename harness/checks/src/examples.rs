@@ -1,8 +1,9 @@
 //! Document 01's examples: what is asked, and the answer that it prints. Beside its own list, the bits and roots that section 1 names, and
-//! what it rules out. Apart from them what document 02's request One says of sine, cosine and catalogue positions, and what request Three says of
-//! rolls, worked out by hand.
+//! what it rules out. Apart from them what document 02's request One says of sine, cosine and catalogue positions, what request Three says of
+//! rolls, and what request Four says of sizes, worked out by hand.
 use crate::Calls;
 use model::arithmetic::{bits, P};
+use model::cost::{Extreme, Extreme::Cheapest, Extreme::Costliest, Size};
 use model::plan;
 use model::windows::Window;
 use model::{Answer, Optimal, Plan, Roll};
@@ -36,6 +37,12 @@ pub enum Asked {
     Collected,
     /// The used length that recovery leaves of that journal's first bytes.
     Recovered(usize),
+    /// Length of the journal, fewest probes and most, of so many targets, times and rolls.
+    Cost(u64, u64, u64),
+    /// The five lists of a plan of that size.
+    Written(Extreme, u64, u64, u64),
+    /// The sum of probes of its sweep.
+    Tried(Extreme, u64, u64, u64),
 }
 
 /// The header's fields, whose widths section 4 gives (the printed header has four zeros more), and the line.
@@ -142,6 +149,32 @@ pub const REQUEST_THREE: [(Asked, &str); 13] = [
     (Rolls([1.0, 0.0, 0.0], [0.0, 0.0, 1.0]), "Free 270"),
 ];
 
+pub const REQUEST_FOUR: [(Asked, &str); 20] = [
+    (Cost(0, 0, 1), "107 0 0"),
+    (Cost(0, 65_536, 3600), "107 0 0"),
+    (Cost(65_536, 0, 3600), "107 0 0"),
+    (Cost(1, 1, 1), "140 1 1"),
+    // The last cell of a chunk, and the first of the next.
+    (Cost(8, 8, 72), "140 64 4608"),
+    (Cost(5, 13, 72), "173 65 4680"),
+    (Cost(10, 13, 1), "206 130 130"),
+    // The most that is accepted.
+    (Cost(65_536, 16, 3600), "540779 1048576 3774873600"),
+    (Cost(16, 65_536, 3600), "540779 1048576 3774873600"),
+    (Cost(1024, 1024, 1), "540779 1048576 1048576"),
+    (Written(Costliest, 2, 1, 3), "1 0 0 1 0 0, 0 1 0, 0 0 0, -1 -1, 0 1 0"),
+    (Written(Cheapest, 1, 2, 3), "1 0 0, 0 1 0 0 1 0, 0 0 0 0 0 0, 180, 0 1 0"),
+    // No cells, and lists all the same.
+    (Written(Costliest, 2, 0, 1), "1 0 0 1 0 0, , , -1 -1, 0 1 0"),
+    (Written(Cheapest, 0, 1, 1), ", 0 1 0, 0 0 0, , 0 1 0"),
+    (Tried(Costliest, 5, 13, 72), "4680"),
+    (Tried(Cheapest, 5, 13, 72), "65"),
+    (Tried(Costliest, 3, 7, 1), "21"),
+    (Tried(Cheapest, 3, 7, 1), "21"),
+    (Tried(Costliest, 0, 9, 7), "0"),
+    (Tried(Cheapest, 9, 0, 7), "0"),
+];
+
 /// The examples' target and panel, with a Sun a time, seen from 0; n is 1.
 pub fn plan(suns: &[[f64; 3]], tolerance_deg: f64) -> Plan {
     Plan {
@@ -196,6 +229,15 @@ pub fn rolls(optimal: Optimal, mut values: Vec<f64>) -> String {
     format!("{} {}", roll(optimal), vector(&values))
 }
 
+fn size(targets: u64, times: u64, n: u64) -> Size {
+    Size { targets, times, n }
+}
+
+/// Written into lists that are just long enough.
+pub fn extreme_plan(calls: &dyn Calls, extreme: Extreme, size: Size) -> Answer<Plan> {
+    calls.extreme_plan(extreme, size, size.places().map(|places| places as usize))
+}
+
 /// What an implementation says, as document 01 prints it.
 pub fn answer(calls: &dyn Calls, asked: Asked) -> Answer<String> {
     Ok(match asked {
@@ -229,11 +271,23 @@ pub fn answer(calls: &dyn Calls, asked: Asked) -> Answer<String> {
             format!("{} {sum}", marks(&mask))
         }
         Recovered(used) => calls.recover(&journal_plan(), &JOURNAL.as_bytes()[..used])?.to_string(),
+        Cost(targets, times, n) => {
+            let cost = calls.cost(size(targets, times, n), 3)?;
+            format!("{} {} {}", cost.length, cost.fewest, cost.most)
+        }
+        Written(extreme, targets, times, n) => {
+            let p = extreme_plan(calls, extreme, size(targets, times, n))?;
+            [p.targets, p.suns, p.observers, p.tolerances, p.panels].map(|list| vector(&list)).join(", ")
+        }
+        Tried(extreme, targets, times, n) => {
+            let p = extreme_plan(calls, extreme, size(targets, times, n))?;
+            calls.swept(&p, &(0..p.cells().div_ceil(64) as u64).collect::<Vec<_>>())?.2.to_string()
+        }
     })
 }
 
-const SOURCES: [(&str, &[(Asked, &str)]); 3] =
-    [("document 01", &EXAMPLES), ("request One", &REQUEST_ONE), ("request Three", &REQUEST_THREE)];
+const SOURCES: [(&str, &[(Asked, &str)]); 4] =
+    [("document 01", &EXAMPLES), ("request One", &REQUEST_ONE), ("request Three", &REQUEST_THREE), ("request Four", &REQUEST_FOUR)];
 
 /// Holds an implementation's answers against the printed ones: how many differ.
 pub fn run(who: &str, answer: impl Fn(Asked) -> Answer<String>) -> usize {

@@ -1,10 +1,12 @@
 //! The calls as one trait, so that the library and the plain model can be asked the same: `Library` calls the C names, `Model` is
-//! document 01, and document 02's requests One to Three, in plain Rust.
+//! document 01, and document 02's requests One to Four, in plain Rust.
 pub mod examples;
 mod library;
 
 pub use library::{lent, work_range, Library, Lists};
 
+use model::arithmetic::bits;
+use model::cost::{Cost, Extreme, Size};
 use model::journal::Sweep;
 use model::windows::Window;
 use model::{Answer, Optimal, Plan, Roll};
@@ -32,12 +34,32 @@ pub trait Calls {
     fn ranged(&self, plan: &Plan, ranges: &[Range<u64>]) -> Answer<(Vec<u8>, Vec<u8>, u64)>;
     /// The used length after it, of a journal all of whose bytes are used.
     fn recover(&self, plan: &Plan, journal: &[u8]) -> Answer<u64>;
+    fn cost(&self, size: Size, lent: usize) -> Answer<Cost>;
+    /// The room of each list is in the order of `Size::places`.
+    fn extreme_plan(&self, extreme: Extreme, size: Size, lent: [usize; 5]) -> Answer<Plan>;
     fn violation_windows(&self, mask: &[u8], times: &[i64], severities: &[f64], columns: [usize; 6]) -> Answer<Vec<Window>>;
     fn visibility_windows(&self, mask: &[u8], times: &[i64], columns: [usize; 6]) -> Answer<Vec<Window>>;
     fn violation_records(&self, mask: &[u8], times: &[i64], severities: &[f64], lent: usize) -> Answer<Vec<Window>>;
     fn visibility_records(&self, mask: &[u8], times: &[i64], lent: usize) -> Answer<Vec<Window>>;
     fn expand(&self, first: &[i64], last: &[i64], times: &[i64], lent: usize) -> Answer<Vec<u8>>;
     fn seconds(&self, first: &[i64], last: &[i64]) -> Answer<f64>;
+}
+
+/// The bits of a plan's lists in the order of `Size::places`: how often each triple comes, or each tolerance, and then the next. Nothing is left
+/// out, and a list that repeats itself is short in a message.
+pub fn runs(plan: &Plan) -> [Vec<(usize, Vec<u64>)>; 5] {
+    let Plan { targets, suns, observers, tolerances, panels, .. } = plan;
+    [(targets, 3), (suns, 3), (observers, 3), (tolerances, 1), (panels, 3)].map(|(list, width)| {
+        let mut runs: Vec<(usize, Vec<u64>)> = Vec::new();
+        for entry in list.chunks(width) {
+            let entry: Vec<u64> = entry.iter().map(|&x| bits(x)).collect();
+            match runs.last_mut() {
+                Some((count, last)) if *last == entry => *count += 1,
+                _ => runs.push((1, entry)),
+            }
+        }
+        runs
+    })
 }
 
 pub struct Model;
@@ -99,6 +121,12 @@ impl Calls for Model {
     }
     fn recover(&self, plan: &Plan, journal: &[u8]) -> Answer<u64> {
         Sweep::new(plan.clone())?.recover(journal, journal.len() as u64)
+    }
+    fn cost(&self, size: Size, lent: usize) -> Answer<Cost> {
+        size.cost(lent)
+    }
+    fn extreme_plan(&self, extreme: Extreme, size: Size, lent: [usize; 5]) -> Answer<Plan> {
+        size.extreme_plan(extreme, lent)
     }
     fn violation_windows(&self, mask: &[u8], times: &[i64], severities: &[f64], columns: [usize; 6]) -> Answer<Vec<Window>> {
         model::windows::violation_windows(mask, times, severities, columns)

@@ -1,10 +1,12 @@
 //! The library's calls. Every output is lent full of a pattern, and what a call should leave alone must still hold it afterwards:
 //! all of it where the call refuses, else the places beyond the answer.
 use crate::Calls;
+use model::cost::{Cost, Extreme, Size};
+use model::plan::Rolls;
 use model::windows::Window;
 use model::{Answer, Optimal, Plan, Roll};
 use std::ops::Range;
-use wilfnusk::{Columns, OptimalRoll, Refusal};
+use wilfnusk::{Columns, OptimalRoll, PlanLists, Refusal};
 
 pub struct Library;
 
@@ -141,6 +143,21 @@ fn written(
     Ok((journal, mask, sum))
 }
 
+/// Lends five lists, and gives the plan that was written into them.
+fn written_plan(size: Size, lent: [usize; 5], call: impl FnOnce(u64, u64, u64, PlanLists) -> Result<(), Refusal>) -> Answer<Plan> {
+    let mut lists = lent.map(|places| vec![FLOAT; places]);
+    let [target_numbers, suns, observers, tolerances, panel] = &mut lists;
+    let answer = call(size.targets, size.times, size.n, PlanLists { target_numbers, suns, observers, tolerances, panel });
+    for (list, places) in lists.iter_mut().zip(size.places()) {
+        let touched = if answer.is_ok() { list.len().min(places as usize) } else { 0 };
+        assert!(list[touched..].iter().all(|x| *x == FLOAT), "{answer:?}, and a place that is not its to write has changed");
+        list.truncate(touched);
+    }
+    let [targets, suns, observers, tolerances, panels] = lists;
+    let plan = Plan { targets, suns, observers, tolerances, roll_deg: None, panels, rolls: Rolls::Even(size.n) };
+    answer.map(|()| plan).map_err(|r| r.number())
+}
+
 fn flag(x: u64) -> bool {
     assert!(x <= 1, "a flag of {x}");
     x == 1
@@ -238,6 +255,26 @@ impl Calls for Library {
     }
     fn recover(&self, plan: &Plan, journal: &[u8]) -> Answer<u64> {
         lent(plan).recover(plan.even_n(), journal, journal.len() as u64).map_err(|r| r.number())
+    }
+    fn cost(&self, size: Size, room: usize) -> Answer<Cost> {
+        let Size { targets, times, n } = size;
+        let answer = output(room, NUMBER, 3, |out| wilfnusk::cost_into(targets, times, n, out));
+        let answer = answer.map(|list| match list[..] {
+            [length, fewest, most] => Cost { length, fewest, most },
+            _ => panic!("accepted with {room} places for three numbers"),
+        });
+        if room >= 3 {
+            let named = wilfnusk::cost(targets, times, n).map_err(|r| r.number());
+            let named = named.map(|c| Cost { length: c.journal_bytes, fewest: c.fewest_probes, most: c.most_probes });
+            assert_eq!(named, answer, "the wrapper's names and the C name's places");
+        }
+        answer
+    }
+    fn extreme_plan(&self, extreme: Extreme, size: Size, room: [usize; 5]) -> Answer<Plan> {
+        match extreme {
+            Extreme::Costliest => written_plan(size, room, wilfnusk::costliest_plan),
+            Extreme::Cheapest => written_plan(size, room, wilfnusk::cheapest_plan),
+        }
     }
     fn violation_windows(&self, mask: &[u8], times: &[i64], severities: &[f64], room: [usize; 6]) -> Answer<Vec<Window>> {
         columns(room, |out| wilfnusk::violation_windows(mask, times, severities, out))

@@ -1,7 +1,8 @@
-//! The examples of document 01 and of requests One and Three against the customer's Rust. What it does not have, root, arctangent, sine,
-//! cosine, header and recovery, is the plain model's.
-use checks::examples::{self, journal_plan, long_row, marks, plan, roll, rolls, row, vector, windows, Asked, Asked::*};
+//! The examples of document 01 and of requests One, Three and Four against the customer's Rust. What it does not have, root, arctangent, sine,
+//! cosine, header, recovery and cost, is the plain model's.
+use checks::examples::{self, extreme_plan, journal_plan, long_row, marks, plan, roll, rolls, row, vector, windows, Asked, Asked::*};
 use checks::Model;
+use model::cost::Size;
 use model::{Answer, Optimal, Plan, Roll};
 use oracle::Oracle;
 
@@ -43,7 +44,12 @@ fn answer(asked: Asked) -> Answer<String> {
             let (mask, tried) = Oracle::new(&journal_plan(), &[0, 1]).sweep();
             format!("{} {}", marks(&mask), tried.iter().sum::<u64>())
         }
-        Root(_) | RootBits(_) | ArctangentBits(..) | Sine(_) | SineBits(_) | Cosine(_) | CosineBits(_) | Recovered(_) => {
+        Tried(extreme, targets, times, n) => {
+            let p = extreme_plan(&Model, extreme, Size { targets, times, n })?;
+            Oracle::new(&p, &vec![0; p.times()]).sweep().1.iter().sum::<u64>().to_string()
+        }
+        Root(_) | RootBits(_) | ArctangentBits(..) | Sine(_) | SineBits(_) | Cosine(_) | CosineBits(_) | Recovered(_) | Cost(..)
+        | Written(..) => {
             return examples::answer(&Model, asked);
         }
     })

@@ -2,6 +2,7 @@
 //!
 //! `compare [model] [FACTOR]`: FACTOR times as many inputs; `model` compares the plain model in the library's place.
 mod catalogue;
+mod cost;
 mod examples;
 mod findings;
 mod plans;
@@ -27,9 +28,15 @@ fn main() {
     let mut positions = Tally::default();
     catalogue::run(calls, &mut positions, factor);
     let catalogue = start.elapsed() - plans - rows;
-    let good = [tally.report(), positions.report_catalogue()] == [true; 2];
-    let [plans, rows, catalogue] = [plans, rows, catalogue].map(|t| t.as_secs_f64());
-    println!("{plans:.1} s for plans, {rows:.1} s for rows, {catalogue:.1} s for catalogue positions");
+    let mut costs = Tally::default();
+    cost::run(calls, &mut costs);
+    let cost = start.elapsed() - plans - rows - catalogue;
+    let good = [tally.report(), positions.report_catalogue(), costs.report_cost()] == [true; 3];
+    let [plans, rows, catalogue, cost] = [plans, rows, catalogue, cost].map(|t| t.as_secs_f64());
+    println!(
+        "{plans:.1} s for plans, {rows:.1} s for rows, {catalogue:.1} s for catalogue positions, \
+         {cost:.1} s for plans that cost most or least"
+    );
     if !good || examples > 0 {
         exit(1);
     }

@@ -1,4 +1,5 @@
 //! Random plans: rolls, masks of every call, rows, and the sweep through its journal.
+use crate::cost;
 use crate::tally::{Shape, Tally};
 use cases::catalogue::beside;
 use cases::plans::{around_the_turn, at_turns, for_roll, for_sweep, plan, roll, samples, units, Entries, Targets, FOLDED};
@@ -15,7 +16,7 @@ pub type Positions<'a> = (&'a [f64], &'a [f64]);
 
 /// The original, asked row by row, each with its own tolerance; and, where all rows have the same, by one evaluator too, as its users ask it, which
 /// goes through the original's own chunks of 65,536 cells and must say the same.
-struct Original<'a> {
+pub struct Original<'a> {
     plan: &'a Plan,
     by_row: Oracle,
     whole: Option<Oracle>,
@@ -23,14 +24,14 @@ struct Original<'a> {
 
 impl Original<'_> {
     /// `told`: the targets' positions, where the original makes the vectors of them itself.
-    fn new<'a>(plan: &'a Plan, instants: &[i64], told: Option<Positions>) -> Original<'a> {
+    pub fn new<'a>(plan: &'a Plan, instants: &[i64], told: Option<Positions>) -> Original<'a> {
         let at = |oracle: Oracle| match told {
             Some(positions) => oracle.at_positions(positions),
             None => oracle,
         };
         Original { plan, by_row: at(Oracle::new(plan, instants)), whole: Oracle::whole(plan, instants).map(at) }
     }
-    fn says<T: Shape>(&self, t: &mut Tally, what: &str, answer: impl Fn(&Oracle) -> T) -> T {
+    pub fn says<T: Shape>(&self, t: &mut Tally, what: &str, answer: impl Fn(&Oracle) -> T) -> T {
         let by_row = answer(&self.by_row);
         if let Some(whole) = self.whole.as_ref().map(answer) {
             t.held("original by row, as a whole", [("by row", by_row.shape()), ("whole", whole.shape())], &|| {
@@ -233,7 +234,8 @@ fn mixed_chunks(p: &Plan) -> u64 {
     (0..p.cells().div_ceil(64)).filter(mixed).count() as u64
 }
 
-/// The chunks in a random order: each line, the mask, and the sum of probes. Where a chunk has several tolerances, the model's journal too.
+/// The chunks in a random order: each line, the mask, the sum of probes, and that the plan's size foretold them. Where a chunk has several
+/// tolerances, the model's journal too.
 fn sweep(calls: &dyn Calls, t: &mut Tally, s: &mut Seeded, p: &Plan, swept: (Vec<u8>, Vec<u64>)) {
     let mut order: Vec<u64> = (0..p.cells().div_ceil(64) as u64).collect();
     shuffle(s, &mut order);
@@ -248,7 +250,9 @@ fn sweep(calls: &dyn Calls, t: &mut Tally, s: &mut Seeded, p: &Plan, swept: (Vec
                 t.same("journal, plain model", Ok(journal.clone()), Model.swept(p, &order).expect("accepted").0, &shown);
             }
             t.mask("sweep", Ok(ours), mask, &shown);
-            t.same("probes", Ok(sum), tried.iter().sum(), &shown);
+            let tried = tried.iter().sum();
+            t.same("probes", Ok(sum), tried, &shown);
+            cost::of_sweep(calls, t, p, &journal, tried);
             t.same("lines", Ok(journal[HEADER..].to_vec()), order.iter().flat_map(|&c| lines[c as usize].clone()).collect(), &shown);
         }
         Err(number) => {

@@ -1,4 +1,5 @@
 //! What was compared, how much of it was marked, and what differed.
+use crate::cost::{LARGE, MOST_CELLS, SAMPLES};
 use crate::plans::RANGES;
 use model::arithmetic::bits;
 use model::windows::Window;
@@ -48,6 +49,12 @@ pub struct Tally {
     /// Rows of ten times or more, and how many of them the sweep leaves both marked and clear.
     rows: u64,
     both: u64,
+    /// Random plans of two rolls or more whose probes are the fewest, between, and the most.
+    pub reached: [u64; 3],
+    /// Shapes of plans that cost most and least; what the original tried for them, and the bytes read from their files.
+    pub shapes: u64,
+    pub probes: u64,
+    pub file_bytes: u64,
     /// Rolls of the original, and how many of them are of each kind of `UNFOLDED`.
     rolls: u64,
     unfolded: [u64; UNFOLDED.len()],
@@ -175,6 +182,7 @@ impl Tally {
             (self.mixed_chunks >= 1000, "fewer than 1,000 chunks have several tolerances".to_string()),
             (5 * self.both >= 2 * self.rows, "fewer than two fifths of the rows are both marked and clear".to_string()),
             (4 * self.unfolded[0] >= self.rolls, "fewer than a quarter of the original's rolls are below 0".to_string()),
+            (2 * self.reached[1] >= self.plans, "fewer than half of the plans have probes between the fewest and the most".to_string()),
         ]
     }
     fn print_plans(&self) {
@@ -184,6 +192,8 @@ impl Tally {
         );
         let counted = self.unfolded.iter().zip(UNFOLDED).map(|(count, (what, _))| format!("{count} {what}"));
         println!("{} rolls of the original, before they are folded: {}", self.rolls, counted.collect::<Vec<_>>().join("; "));
+        let [fewest, between, most] = self.reached;
+        println!("cost: of plans of two rolls or more, {fewest} have the fewest probes, {between} a number between, {most} the most");
     }
     /// Prints the counts and what is demanded of them in vain; false where something differs or is so.
     fn table(&self, demanded: &[(bool, String)]) -> bool {
@@ -235,6 +245,24 @@ impl Tally {
         let good = self.table(&demanded);
         println!("{} catalogue positions, {} cells of {} plans with targets by their positions", self.positions, self.cells, self.plans);
         self.print_plans();
+        good
+    }
+    /// Of the plans that cost most and least.
+    pub fn report_cost(&self) -> bool {
+        println!();
+        let asked = |name: &str| self.kinds.get(name).map_or(0, |k| k.answers);
+        let plans = 2 * (SAMPLES.len() as u64 * self.shapes + LARGE.len() as u64);
+        let files = ["file's length", "file, recovered", "file's lines"].map(asked);
+        let good = self.table(&[
+            (self.plans == plans, format!("{} plans were asked, not both of each shape and n, {plans}", self.plans)),
+            (files == [plans; 3], format!("{files:?} journals were read back from a file, not {plans}")),
+            (self.probes >= 100_000_000, "fewer than 100,000,000 probes".to_string()),
+        ]);
+        println!(
+            "cost: {} shapes of up to {MOST_CELLS} cells, and larger ones: {} plans that cost most or least, {} cells, \
+             {} probes of the original, {} bytes of files",
+            self.shapes, self.plans, self.cells, self.probes, self.file_bytes
+        );
         good
     }
 }

@@ -1,9 +1,10 @@
-//! Document 01, and document 02's requests One to Three, in plain Rust: a second implementation, written from their text for comparing, not for
+//! Document 01, and document 02's requests One to Four, in plain Rust: a second implementation, written from their text for comparing, not for
 //! speed.
 //!
 //! A refusal is its number; `Answer` is what a call says.
 pub mod arithmetic;
 pub mod catalogue;
+pub mod cost;
 pub mod journal;
 pub mod ledger;
 pub mod plan;

@@ -70,6 +70,16 @@ pub fn bad_direction(v: &[f64]) -> bool {
     v.iter().any(|&x| !(-1.0..=1.0).contains(&x))
 }
 
+/// 2, of any numbers: where the product would wrap, one of them is over its own limit.
+pub fn too_many(targets: u64, times: u64) -> bool {
+    targets > 65_536 || times > 65_536 || targets * times > 1_048_576
+}
+
+/// 3 of a sweep.
+pub fn bad_samples(n: u64) -> bool {
+    !(1..=3600).contains(&n)
+}
+
 /// Length 1 up to 1e-9 of its square, summed left to right.
 pub fn is_unit(v: [f64; 3]) -> bool {
     (v[0] * v[0] + v[1] * v[1] + v[2] * v[2] - 1.0).abs() <= 1e-9
@@ -136,12 +146,12 @@ impl Plan {
         let lengths = [&self.targets, &self.suns, &self.observers];
         let bad_n = match third {
             Third::Nothing => false,
-            Third::Sweep => !(1..=3600).contains(&self.n()),
+            Third::Sweep => bad_samples(self.n()),
             Third::Every(n) => n > 3600,
         };
         first(&[
             (lengths.iter().any(|l| l.len() % 3 != 0) || self.suns.len() != self.observers.len() || beyond, 1),
-            (self.rows() > 65_536 || self.times() > 65_536 || self.cells() > 1_048_576, 2),
+            (too_many(self.rows() as u64, self.times() as u64), 2),
             (bad_n, 3),
             (bad_position(&self.suns) || bad_position(&self.observers), 4),
             (bad_direction(&self.targets), 5),

@@ -1,9 +1,10 @@
 //! Begin, work, work over a range, cut, recover and collect over random lists against section 4's ledger, and over damaged journals against
-//! its bytes; and what a list of tolerances does to header and lines.
+//! its bytes; what a list of tolerances does to header and lines; and that a whole journal costs what its plan's size foretells.
 //! `journals [FACTOR]` multiplies the number of lists.
 use cases::{plans, Seeded};
-use checks::lent;
+use checks::{lent, Calls, Model};
 use model::arithmetic::bits;
+use model::cost::{Cost, Size};
 use model::journal::{Sweep, HEADER, LINE};
 use model::ledger::{Entry, Ledger, Said};
 use model::plan::Rolls;
@@ -17,6 +18,7 @@ trait Machine {
     fn work_range(&self, sweep: &Sweep, from: u64, to: u64, journal: &mut [u8], used: u64) -> Answer<(u64, u64)>;
     fn recover(&self, sweep: &Sweep, journal: &[u8], used: u64) -> Answer<u64>;
     fn collect(&self, sweep: &Sweep, journal: &[u8], used: u64, mask: &mut [u8]) -> Answer<u64>;
+    fn cost(&self, size: Size) -> Answer<Cost>;
 }
 
 /// The library under its C names.
@@ -37,6 +39,9 @@ impl Machine for Library {
     }
     fn collect(&self, sweep: &Sweep, journal: &[u8], used: u64, mask: &mut [u8]) -> Answer<u64> {
         lent(&sweep.plan).collect(sweep.plan.even_n(), journal, used, mask).map_err(|r| r.number())
+    }
+    fn cost(&self, size: Size) -> Answer<Cost> {
+        checks::Library.cost(size, 3)
     }
 }
 
@@ -66,6 +71,9 @@ impl Machine for Bytes {
         let (held, sum) = sweep.collect(journal, used, mask.len())?;
         mask[..held.len()].copy_from_slice(&held);
         Ok(sum)
+    }
+    fn cost(&self, size: Size) -> Answer<Cost> {
+        Model.cost(size, 3)
     }
 }
 
@@ -204,6 +212,7 @@ fn list(s: &mut Seeded, sweep: &Sweep, machine: &dyn Machine, t: &mut Tally) {
                 t.same(&shown, answer, *sum);
                 t.same(&shown, &mask[..cells], expected);
                 t.same(&shown, mask[cells..].iter().all(|&b| b == FILL), true);
+                foretold(machine, sweep, &file, answer, t, &shown);
                 used
             }
             (Ok(Said::Done), Ok(after)) => after,
@@ -230,6 +239,13 @@ fn list(s: &mut Seeded, sweep: &Sweep, machine: &dyn Machine, t: &mut Tally) {
             return;
         }
     }
+}
+
+/// A journal that can be collected, whatever was cut from it and recovered, is as long as its plan's size foretells, and its probes are
+/// within.
+fn foretold(machine: &dyn Machine, sweep: &Sweep, file: &[u8], probes: u64, t: &mut Tally, shown: &dyn Fn() -> String) {
+    let cost = machine.cost(Size::of(&sweep.plan));
+    t.same(shown, cost.map(|c| (c.length, (c.fewest..=c.most).contains(&probes))), Ok((file.len() as u64, true)));
 }
 
 /// A journal as a disk may give it back: some lines, then bytes changed, lost, doubled, or of another plan.
@@ -420,8 +436,8 @@ fn main() {
         "lines of ranges: {table} by a table of the Sun's units, {short} of ranges too short for one, {many} of too many times for one"
     );
     println!(
-        "journals: {} lists of {} entries ({} accepted, {} ranges, {} cuts, {} of them of a range, {} collected) against the ledger, {} damaged \
-         journals: {} differ",
+        "journals: {} lists of {} entries ({} accepted, {} ranges, {} cuts, {} of them of a range, {} collected at the cost foretold) \
+         against the ledger, {} damaged journals: {} differ",
         t.lists, t.entries, t.accepted, t.ranges, t.cuts, t.range_cuts, t.collected, t.damaged, t.differ
     );
     if t.differ > 0 || t.lists < 100_000 || t.range_cuts < 5_000 || t.range_lines.iter().any(|&lines| lines < 5_000) {

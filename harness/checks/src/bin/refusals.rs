@@ -3,7 +3,8 @@
 //! `refusals [FACTOR]` multiplies the number of inputs.
 use cases::catalogue::{positions, DEC, RA};
 use cases::{plans, rows, Seeded};
-use checks::{lent, work_range, Calls, Library, Model};
+use checks::{lent, runs, work_range, Calls, Library, Model};
+use model::cost::{Extreme, Size};
 use model::journal::{Sweep, HEADER, LINE};
 use model::plan::{Rolls, Third};
 use model::{arithmetic::bits, Answer, Optimal, Plan, Roll};
@@ -43,7 +44,7 @@ impl Tally {
 const PLAN_CALLS: usize = 12;
 
 /// The numbers that each call lists.
-const LISTED: [(&str, &[u8]); 20] = [
+const LISTED: [(&str, &[u8]); 23] = [
     ("cell", &[0, 4, 5, 6]),
     ("catalogue", &[0, 1, 7, 16]),
     ("named values", &[0, 1, 2, 4, 5, 6, 7, 17]),
@@ -58,6 +59,9 @@ const LISTED: [(&str, &[u8]); 20] = [
     ("work over a range", &[0, 1, 2, 3, 4, 5, 6, 7, 9, 10, 11, 12, 17]),
     ("recover", &[0, 1, 2, 3, 4, 5, 6, 11, 17]),
     ("collect", &[0, 1, 2, 3, 4, 5, 6, 7, 11, 12, 15, 17]),
+    ("cost", &[0, 2, 3, 7]),
+    ("costliest plan", &[0, 2, 3, 7]),
+    ("cheapest plan", &[0, 2, 3, 7]),
     ("violation windows", &[0, 1, 2, 7, 8, 14]),
     ("visibility windows", &[0, 1, 2, 7, 8, 14]),
     ("violation records", &[0, 1, 2, 7, 8, 14]),
@@ -460,6 +464,123 @@ fn of_ends(t: &mut Tally) {
     }
 }
 
+/// Sizes that are accepted: without targets, times or both; a cell, a chunk, a cell more; at each limit.
+const ACCEPTED: [(u64, u64); 14] = [
+    (0, 0),
+    (0, 1),
+    (1, 0),
+    (0, 7),
+    (5, 0),
+    (0, 65_536),
+    (65_536, 0),
+    (1, 1),
+    (8, 8),
+    (5, 13),
+    (1, 65_536),
+    (65_536, 16),
+    (16, 65_536),
+    (1024, 1024),
+];
+/// Sizes that are not: one over each limit, then numbers of which 32 or 64 bits, of themselves, their product or three times them, leave little.
+const OVER: [(u64, u64); 25] = [
+    (65_537, 0),
+    (0, 65_537),
+    (65_537, 1),
+    (1, 65_537),
+    (1025, 1024),
+    (65_536, 17),
+    (17, 65_536),
+    (65_536, 65_536),
+    (1 << 32, 0),
+    (0, 1 << 32),
+    ((1 << 32) + 1, 1),
+    (2, (1 << 32) + 3),
+    (1 << 32, 1 << 32),
+    ((1 << 32) + 1, (1 << 32) - 1),
+    (1 << 48, 1 << 16),
+    (1 << 63, 0),
+    (0, 1 << 63),
+    (1 << 63, 2),
+    (2, 1 << 63),
+    ((1 << 63) + 1, 2),
+    (u64::MAX, 0),
+    (0, u64::MAX),
+    (u64::MAX, u64::MAX),
+    (u64::MAX / 3 + 1, 1),
+    (1, u64::MAX / 3 + 1),
+];
+
+/// What cost and both plans say to a size, lent so much: 0 for accepted.
+fn of_size(t: &mut Tally, (targets, times): (u64, u64), n: u64, places: usize, lists: [usize; 5]) -> [u8; 3] {
+    let size = Size { targets, times, n };
+    let shown = || format!("{size:?} {places} {lists:?}");
+    let cost = |c: &dyn Calls| c.cost(size, places);
+    let costliest = |c: &dyn Calls| c.extreme_plan(Extreme::Costliest, size, lists).map(|p| runs(&p));
+    let cheapest = |c: &dyn Calls| c.extreme_plan(Extreme::Cheapest, size, lists).map(|p| runs(&p));
+    [
+        t.same("cost", cost(&Library), cost(&Model), &shown),
+        t.same("costliest plan", costliest(&Library), costliest(&Model), &shown),
+        t.same("cheapest plan", cheapest(&Library), cheapest(&Model), &shown),
+    ]
+}
+
+/// Room for a plan of this size, each list of at most so many places.
+fn room_for((targets, times): (u64, u64), most: u128) -> [usize; 5] {
+    Size { targets, times, n: 1 }.places().map(|places| places.min(most) as usize)
+}
+
+/// Each size, each n and each short list, alone and with the ones after it: 2 before 3 before 7.
+fn of_sizes(t: &mut Tally) {
+    // More than the most that is accepted needs.
+    const ALL: u128 = 200_000;
+    for size in OVER {
+        let lists = room_for(size, ALL);
+        for (n, places, lists) in [(1, 3, lists), (3600, 4, [9; 5]), (0, 3, lists), (u64::MAX, 0, [0; 5]), (7, 2, [0; 5])] {
+            assert_eq!(of_size(t, size, n, places, lists), [2; 3], "{size:?} {n} {places} {lists:?}");
+        }
+    }
+    for size in ACCEPTED {
+        let lists = room_for(size, ALL);
+        for n in BAD_N {
+            assert_eq!(of_size(t, size, n, 3, lists), [3; 3], "{size:?} {n}");
+            assert_eq!(of_size(t, size, n, 2, [0; 5]), [3; 3], "{size:?} {n}");
+        }
+        for n in [1, 2, 7, 3599, 3600] {
+            assert_eq!(of_size(t, size, n, 3, lists), [0; 3], "{size:?} {n}");
+            assert_eq!(of_size(t, size, n, 5, lists.map(|places| places + 2)), [0; 3], "{size:?} {n}");
+        }
+        for places in 0..3 {
+            assert_eq!(of_size(t, size, 1, places, lists)[0], 7, "{size:?} {places}");
+        }
+        // Each list one short, and none at all, in turn.
+        for k in (0..5).filter(|&k| lists[k] > 0) {
+            for left in [lists[k] - 1, 0] {
+                let mut short = lists;
+                short[k] = left;
+                assert_eq!(of_size(t, size, 3600, 3, short), [0, 7, 7], "{size:?} {short:?}");
+            }
+        }
+    }
+}
+
+/// Numbers of every length, mostly small, and about as much room as they need.
+fn of_random_size(s: &mut Seeded, t: &mut Tally) {
+    let number = |s: &mut Seeded| match s.below(8) {
+        0 => s.bits() >> s.below(64),
+        1 => s.one_of(&[65_535, 65_536, 65_537, 1 << 32, 1 << 63, u64::MAX]),
+        _ => s.below(20),
+    };
+    let size = (number(s), number(s));
+    let n = if s.once_in(6) { s.one_of(&BAD_N) } else { s.within(1, 3600) };
+    // Seldom as long as the largest sizes need: it takes long.
+    let mut lists = room_for(size, if s.once_in(300) { 200_000 } else { 60 });
+    if s.once_in(2) {
+        lists = lists.map(|places| room(s, places));
+    }
+    let places = room(s, 3);
+    of_size(t, size, n, places, lists);
+}
+
 const LATE: [i64; 4] = [4_000_000_000_000_000_001, -4_000_000_000_000_000_001, i64::MAX, i64::MIN];
 
 fn spoil_times(s: &mut Seeded, times: &mut [i64]) {
@@ -533,9 +654,11 @@ fn main() {
     let mut t = Tally::default();
     of_ends(&mut t);
     of_tolerances(&mut t);
-    let mut of_catalogue = Seeded::new(6);
+    of_sizes(&mut t);
+    let (mut of_catalogue, mut of_cost) = (Seeded::new(6), Seeded::new(7));
     for _ in 0..60_000 * factor {
         of_positions(&mut of_catalogue, &mut t);
+        of_random_size(&mut of_cost, &mut t);
         of_cells(&mut s, &mut t);
         of_plans(&mut s, &mut t);
         of_rows(&mut s, &mut t);

@@ -7,7 +7,7 @@ use model::plan::{is_unit, Rolls};
 use std::hint::black_box;
 use std::process::exit;
 use std::thread;
-use wilfnusk::{Plan, Roll, Window};
+use wilfnusk::{Plan, PlanLists, Refusal, Roll, Window};
 
 /// What a thread in Rust takes besides: its own data and start, and the frames of this program down to a call.
 const RUST: usize = 8 << 10;
@@ -101,6 +101,7 @@ fn each(i: &mut Inputs, run: &mut dyn FnMut(&'static str, &mut dyn FnMut())) {
     run("wilfnusk_radec_to_unit_vectors_batch", &mut || {
         wilfnusk::radec_to_unit_vectors_batch(&i.ra, &i.dec, &mut i.values).expect("accepted");
     });
+    of_sizes(&mut i.values, run);
     // The most targets, the most times, and the most times for which work_range holds the Sun's units in a table.
     for (rows, times, roll_deg) in [(65_536, 1, Some(33.0)), (16, 65_536, None), (119, 8784, None), (119, 8784, Some(33.0))] {
         let plan = model::Plan {
@@ -118,6 +119,25 @@ fn each(i: &mut Inputs, run: &mut dyn FnMut(&'static str, &mut dyn FnMut())) {
     for step in [2, SAMPLES] {
         let mask: Vec<u8> = (0..SAMPLES).map(|k| (k % step == 0) as u8).collect();
         of_row(i, &mask, run);
+    }
+}
+
+fn of_sizes(values: &mut [f64], run: &mut dyn FnMut(&'static str, &mut dyn FnMut())) {
+    // Room for the most targets and the most times at once.
+    let (target_numbers, values) = values.split_at_mut(3 * SAMPLES);
+    let (suns, values) = values.split_at_mut(3 * SAMPLES);
+    let (observers, values) = values.split_at_mut(3 * SAMPLES);
+    let (tolerances, panel) = values.split_at_mut(SAMPLES);
+    for (targets, times) in [(65_536, 16), (16, 65_536)] {
+        run("wilfnusk_cost", &mut || assert_eq!(wilfnusk::cost(targets, times, ROLLS).map(|c| c.most_probes), Ok(ROLLS * CELLS as u64)));
+        for (name, call) in [
+            ("wilfnusk_costliest_plan", wilfnusk::costliest_plan as fn(u64, u64, u64, PlanLists) -> Result<(), Refusal>),
+            ("wilfnusk_cheapest_plan", wilfnusk::cheapest_plan),
+        ] {
+            run(name, &mut || {
+                call(targets, times, ROLLS, PlanLists { target_numbers, suns, observers, tolerances, panel }).expect("accepted");
+            });
+        }
     }
 }
 
