@@ -1,5 +1,6 @@
 //! `wilfnusk check`, and the lines of a journal worked out again, for `check` and `merge`.
 use crate::{
+    cost,
     digest::{is_known, same_plan, Digest},
     engine::{self, HEADER_BYTES, LINE_BYTES},
     explain,
@@ -50,22 +51,28 @@ impl Check {
         if !self.write_digest {
             said?;
         }
+        let journal = self.journal(&plan, &path);
+        // A journal that is not right takes nothing from what the plan costs.
+        let cost = cost::of_plan(&plan).and_then(|cost| say(cost::line(&cost)));
+        journal.and(cost)
+    }
+    fn journal(&self, plan: &Plan, path: &Path) -> Result<(), Fault> {
         if !path.exists() {
             return say(format_args!("accepted; {} is not begun", path.display()));
         }
         // Where the digest is to be written, nobody else adds a line meanwhile.
-        let locked = if self.write_digest { Some(Journal::open(&path, &plan, false)?) } else { None };
+        let locked = if self.write_digest { Some(Journal::open(path, plan, false)?) } else { None };
         let bytes = match &locked {
             Some(journal) => journal.used().to_vec(),
-            None => look(&path)?,
+            None => look(path)?,
         };
-        let keep = engine::recover(&plan, &bytes).map_err(|r| explain::journal(&plan, &path, &bytes, r))?;
+        let keep = engine::recover(plan, &bytes).map_err(|r| explain::journal(plan, path, &bytes, r))?;
         let has_lines = keep > HEADER_BYTES as usize;
-        let known = has_lines && if self.again.recompute { is_known(&plan, &path)? } else { same_plan(&plan, &path)? };
-        let sentences = same(&self.again.hold(&plan, &path, &bytes)?)?;
-        let digest = Digest::path(&path);
+        let known = has_lines && if self.again.recompute { is_known(plan, path)? } else { same_plan(plan, path)? };
+        let sentences = same(&self.again.hold(plan, path, &bytes)?)?;
+        let digest = Digest::path(path);
         if has_lines && !known && self.write_digest {
-            Digest::of(&plan).write(&path)?;
+            Digest::of(plan).write(path)?;
             tell!("wrote {}", digest.display());
         } else if has_lines && !known && self.again.recompute {
             tell!("warning: {} is missing; --recompute --write-digest writes it if every line is the same", digest.display());

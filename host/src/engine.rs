@@ -1,8 +1,8 @@
 //! The proved library as this program calls it. Every vector, line, mask and window comes from here, and nothing else calls it.
 use crate::plan::Plan;
 use std::ops::Range;
-use wilfnusk::Columns;
-pub use wilfnusk::{cos, sin, Refusal, Roll, Window, CHUNK_CELLS, HEADER_BYTES, LINE_BYTES};
+pub use wilfnusk::{cos, sin, Cost, Refusal, Roll, Window, CHUNK_CELLS, HEADER_BYTES, LINE_BYTES};
+use wilfnusk::{Columns, PlanLists};
 
 fn lent(plan: &Plan) -> wilfnusk::Plan<'_> {
     wilfnusk::Plan {
@@ -27,6 +27,75 @@ pub fn check(plan: &Plan) -> Result<(), Refusal> {
     lent(plan).recover(plan.rolls, &[], 0)?;
     visibility(&vec![0; plan.times.len()], &plan.times)?;
     Ok(())
+}
+
+/// What the cost of a sweep depends on.
+#[derive(Clone, Copy, Debug, PartialEq, Eq)]
+pub struct Size {
+    pub targets: u64,
+    pub times: u64,
+    pub rolls: u64,
+}
+
+/// What the sweep of a plan of this size costs.
+pub fn cost(size: Size) -> Result<Cost, Refusal> {
+    wilfnusk::cost(size.targets, size.times, size.rolls)
+}
+
+/// The lines of a whole journal, one a chunk.
+pub fn chunks(cost: &Cost) -> u64 {
+    (cost.journal_bytes - HEADER_BYTES) / LINE_BYTES
+}
+
+/// What a plan of a size is to be: one whose sweep tries the most rolls, or one whose sweep tries the fewest.
+#[derive(Clone, Copy, Debug, PartialEq, Eq)]
+pub enum Extreme {
+    Costliest,
+    Cheapest,
+}
+
+/// The numbers of such a plan, which has no configured roll.
+pub struct Numbers {
+    /// Three numbers a target.
+    pub targets: Vec<f64>,
+    /// Three numbers a time, each.
+    pub suns: Vec<f64>,
+    pub observers: Vec<f64>,
+    /// One a target.
+    pub tolerances: Vec<f64>,
+    pub panel: [f64; 3],
+    /// How many rolls its sweep tries.
+    pub probes: u64,
+}
+
+/// A plan of this size that costs the most or the least, as the library writes it.
+pub fn extreme(which: Extreme, size: Size) -> Result<Numbers, Refusal> {
+    // A size that is refused may be any number, for which there are no lists. So it is refused before they are made.
+    let cost = cost(size)?;
+    let Size { targets, times, rolls } = size;
+    let list = |count: u64| vec![0.0; count as usize];
+    let (probes, write): (_, fn(u64, u64, u64, PlanLists) -> Result<(), Refusal>) = match which {
+        Extreme::Costliest => (cost.most_probes, wilfnusk::costliest_plan),
+        Extreme::Cheapest => (cost.fewest_probes, wilfnusk::cheapest_plan),
+    };
+    let (of_targets, of_times) = (3 * targets, 3 * times);
+    let mut numbers = Numbers {
+        targets: list(of_targets),
+        suns: list(of_times),
+        observers: list(of_times),
+        tolerances: list(targets),
+        panel: [0.0; 3],
+        probes,
+    };
+    let lists = PlanLists {
+        target_numbers: &mut numbers.targets,
+        suns: &mut numbers.suns,
+        observers: &mut numbers.observers,
+        tolerances: &mut numbers.tolerances,
+        panel: &mut numbers.panel,
+    };
+    write(targets, times, rolls, lists)?;
+    Ok(numbers)
 }
 
 /// The header of the plan's journal.

@@ -1,11 +1,48 @@
-//! A plan to start from: ninety days of a telescope in low orbit, 90 minutes a step. The same numbers on every machine.
+//! `wilfnusk example`: a plan to start from, ninety days of a telescope in low orbit, 90 minutes a step; or one of a given size whose sweep
+//! tries the most rolls that a plan of that size can, or the fewest. The same numbers on every machine.
 use crate::{
-    engine,
+    cost::whole_number,
+    engine::{self, Extreme, Size},
+    explain,
     fault::Fault,
     files, instant,
-    plan::{CATALOGUE_COLUMNS, EPHEMERIS_COLUMNS},
+    plan::{CATALOGUE_COLUMNS, EPHEMERIS_COLUMNS, TOLERANCE_COLUMN, VECTOR_COLUMNS},
+    say,
+    text::{counted, number, quoted},
 };
-use std::{f64::consts::PI, fmt::Write, fs, path::Path};
+use clap::{Arg, ArgAction, Args};
+use std::{
+    f64::consts::PI,
+    fmt::Write,
+    fs,
+    path::{Path, PathBuf},
+};
+
+#[derive(Args)]
+#[command(mut_arg("costliest", takes_a_size), mut_arg("cheapest", takes_a_size))]
+pub struct Example {
+    /// Folder for plan.toml, targets.csv and ephemeris.csv
+    folder: PathBuf,
+    /// Write a plan of T targets, N times and R rolls whose sweep tries the most rolls; its times are a minute apart
+    #[arg(long)]
+    costliest: Option<Vec<u64>>,
+    /// Write one whose sweep tries the fewest
+    #[arg(long, conflicts_with = "costliest")]
+    cheapest: Option<Vec<u64>>,
+}
+
+/// An option with three numbers, at most once.
+fn takes_a_size(option: Arg) -> Arg {
+    let option = option.value_names(["T", "N", "R"]).num_args(3).action(ArgAction::Set);
+    option.value_parser(whole_number).allow_negative_numbers(true)
+}
+
+/// The plan's three files.
+struct Texts {
+    targets: String,
+    ephemeris: String,
+    plan: String,
+}
 
 const PLAN: &str = "\
 # Ninety days of a telescope in low orbit. Sweep it with: wilfnusk sweep plan.toml
@@ -56,10 +93,23 @@ const ORBIT_KM: f64 = 6928.0;
 const ORBIT_MINUTES: f64 = 95.65;
 const INCLINATION_DEG: f64 = 53.0;
 
+impl Example {
+    pub fn run(&self) -> Result<(), Fault> {
+        let texts = match (self.costliest.as_deref(), self.cheapest.as_deref()) {
+            (Some(words), _) => of_size(Extreme::Costliest, words)?,
+            (None, Some(words)) => of_size(Extreme::Cheapest, words)?,
+            (None, None) => season(),
+        };
+        write(&self.folder, &texts)?;
+        let plan = self.folder.join("plan.toml");
+        say(format_args!("wrote {}, targets.csv and ephemeris.csv\nnext: wilfnusk sweep {}", plan.display(), quoted(&plan)))
+    }
+}
+
 /// Writes the three files into a folder, which is made if it is not there. No file is overwritten.
-pub fn write(folder: &Path) -> Result<(), Fault> {
+fn write(folder: &Path, texts: &Texts) -> Result<(), Fault> {
     fs::create_dir_all(folder).map_err(|e| files::fault(folder, &e))?;
-    let contents = [("targets.csv", targets()), ("ephemeris.csv", ephemeris()), ("plan.toml", PLAN.to_owned())];
+    let contents = [("targets.csv", &texts.targets), ("ephemeris.csv", &texts.ephemeris), ("plan.toml", &texts.plan)];
     for (name, _) in &contents {
         let path = folder.join(name);
         if path.exists() {
@@ -70,6 +120,64 @@ pub fn write(folder: &Path) -> Result<(), Fault> {
         files::write_whole(&folder.join(name), text.as_bytes())?;
     }
     Ok(())
+}
+
+fn season() -> Texts {
+    Texts { targets: targets(), ephemeris: ephemeris(), plan: PLAN.to_owned() }
+}
+
+/// A plan of a size (targets, times and rolls) that costs the most or the least, as the library writes it.
+fn of_size(which: Extreme, size: &[u64]) -> Result<Texts, Fault> {
+    let option = match which {
+        Extreme::Costliest => "--costliest",
+        Extreme::Cheapest => "--cheapest",
+    };
+    let (size, words) = match *size {
+        [targets, times, rolls] => (Size { targets, times, rolls }, format!("{} {} {} {}", option, targets, times, rolls)),
+        // The command line was held to three.
+        _ => return Err(Fault::Usage(format!("{}: allowed: three numbers, of targets, of times and of rolls", option))),
+    };
+    let numbers = engine::extreme(which, size).map_err(|r| explain::size(&words, size, r))?;
+    let row = |numbers: &[f64]| numbers.iter().copied().map(number).collect::<Vec<_>>();
+
+    // A column has each tolerance as the library gave it, and none without targets.
+    let mut targets = [VECTOR_COLUMNS, &[TOLERANCE_COLUMN]].concat().join(",") + "\n";
+    for (i, (target, tolerance)) in numbers.targets.chunks(3).zip(&numbers.tolerances).enumerate() {
+        let _ = writeln!(targets, "Target {},{},{}", i + 1, row(target).join(","), number(*tolerance));
+    }
+    let mut ephemeris = EPHEMERIS_COLUMNS.join(",") + "\n";
+    for (minute, (sun, observer)) in numbers.suns.chunks(3).zip(numbers.observers.chunks(3)).enumerate() {
+        let _ = writeln!(ephemeris, "{},{},{}", time(minute), row(sun).join(","), row(observer).join(","));
+    }
+    let (more, why) = match which {
+        Extreme::Costliest => ("more", "every one at each cell, as none is within the tolerance"),
+        Extreme::Cheapest => ("less", "one at each cell, as any is within the tolerance"),
+    };
+    let plan = format!(
+        "\
+# {}, {}, {}. No plan of this size costs {more}:
+# the sweep tries {}, {why}.
+# Sweep it with: wilfnusk sweep plan.toml
+
+targets = \"targets.csv\"        # name, direction x, y, z, and tolerance in degrees
+ephemeris = \"ephemeris.csv\"    # time, Sun x, y, z and observer x, y, z
+rolls = {}
+panel = [{}]
+",
+        counted(size.targets, "target"),
+        counted(size.times, "time"),
+        counted(size.rolls, "roll"),
+        counted(numbers.probes, "roll"),
+        size.rolls,
+        row(&numbers.panel).join(", "),
+    );
+    Ok(Texts { targets, ephemeris, plan })
+}
+
+/// A minute after the first time, as the ephemeris has it.
+fn time(minute: usize) -> String {
+    let start = instant::parse(START).expect("a time");
+    instant::format(start + 60_000_000_000 * minute as i64, 0)
 }
 
 fn targets() -> String {
@@ -88,7 +196,6 @@ fn sin_cos(degrees: f64) -> (f64, f64) {
 
 /// The Sun moves a degree a day along the ecliptic, the observer along a circle about the Earth.
 fn ephemeris() -> String {
-    let start = instant::parse(START).expect("a time");
     let ((so, co), (si, ci)) = (sin_cos(OBLIQUITY_DEG), sin_cos(INCLINATION_DEG));
     let mut text = EPHEMERIS_COLUMNS.join(",") + "\n";
     for minute in (0..TIMES).map(|j| j * STEP_MINUTES) {
@@ -97,7 +204,7 @@ fn ephemeris() -> String {
         let _ = writeln!(
             text,
             "{},{:.3},{:.3},{:.3},{:.6},{:.6},{:.6}",
-            instant::format(start + 60_000_000_000 * minute as i64, 0),
+            time(minute),
             ASTRONOMICAL_UNIT_KM * cl,
             ASTRONOMICAL_UNIT_KM * sl * co,
             ASTRONOMICAL_UNIT_KM * sl * so,
@@ -117,8 +224,8 @@ mod tests {
 
     fn read() -> Plan {
         let folder = tempfile::tempdir().unwrap();
-        write(folder.path()).unwrap();
-        assert!(write(folder.path()).is_err());
+        write(folder.path(), &season()).unwrap();
+        assert!(write(folder.path(), &season()).is_err());
         Plan::read(&folder.path().join("plan.toml")).unwrap()
     }
 
@@ -142,7 +249,7 @@ mod tests {
         let key = "tolerance = 5 ";
         assert!(PLAN.contains("a list with one number a target, [5, 3, ..]") && PLAN.contains("give targets.csv a column `tolerance`"));
         let folder = tempfile::tempdir().unwrap();
-        write(folder.path()).unwrap();
+        write(folder.path(), &season()).unwrap();
         let read = |toml: String, targets: String| {
             fs::write(folder.path().join("plan.toml"), toml).unwrap();
             fs::write(folder.path().join("targets.csv"), targets).unwrap();

@@ -1,7 +1,7 @@
 //! A refusal in the terms of the files: which file, line and column, what was read and what is allowed.
 //! The library decides; this only looks for what it saw.
 use crate::{
-    engine::{self, Refusal, CHUNK_CELLS, HEADER_BYTES, LINE_BYTES},
+    engine::{self, Refusal, Size, CHUNK_CELLS, HEADER_BYTES, LINE_BYTES},
     fault::Fault,
     instant,
     journal::{chunk_of, hex, lines},
@@ -21,18 +21,23 @@ pub fn command(verb: &str, plan: &Plan, journal: &Path) -> String {
     words
 }
 
+/// What the library takes of a plan's size.
+const SIZES: &str = "65,536 targets and times each, 1,048,576 cells";
+const ROLLS: &str = "1 to 3600";
+
 /// A refusal of the plan, or of a call that found nothing wrong with the journal.
 pub fn plan(plan: &Plan, refusal: Refusal) -> Fault {
     let found = match refusal.number() {
         2 => Some(format!(
-            "{} has {} targets and {} has {} times, {} cells; allowed: 65,536 targets and times each, 1,048,576 cells",
+            "{} has {} targets and {} has {} times, {} cells; allowed: {}",
             plan.targets_sheet.source.path.display(),
             grouped(plan.targets_sheet.len()),
             plan.ephemeris_sheet.source.path.display(),
             grouped(plan.ephemeris_sheet.len()),
-            grouped(plan.targets_sheet.len() * plan.ephemeris_sheet.len())
+            grouped(plan.targets_sheet.len() * plan.ephemeris_sheet.len()),
+            SIZES
         )),
-        3 => Some(format!("{}: rolls reads {}; allowed: 1 to 3600", plan.at("rolls"), plan.rolls)),
+        3 => Some(format!("{}: rolls reads {}; allowed: {}", plan.at("rolls"), plan.rolls, ROLLS)),
         4 => position(plan),
         // The vectors that the library makes of positions are never refused with 5.
         5 if plan.targets_sheet.form() == VECTOR_COLUMNS => {
@@ -60,6 +65,23 @@ pub fn plan(plan: &Plan, refusal: Refusal) -> Fault {
         _ => None,
     };
     Fault::Refused(refusal.number(), found.unwrap_or_else(|| refusal.sentence().to_owned()))
+}
+
+/// A refusal of a size alone, which these words of the command line give.
+pub fn size(words: &str, size: Size, refusal: Refusal) -> Fault {
+    let Size { targets, times, rolls } = size;
+    let found = match refusal.number() {
+        2 => format!(
+            "{} and {}, {}; allowed: {}",
+            counted(targets, "target"),
+            counted(times, "time"),
+            counted(u128::from(targets) * u128::from(times), "cell"),
+            SIZES
+        ),
+        3 => format!("{}; allowed: {}", counted(rolls, "roll"), ROLLS),
+        _ => refusal.sentence().to_owned(),
+    };
+    Fault::Refused(refusal.number(), format!("{}: {}", words, found))
 }
 
 /// A refusal of the listing of one target's windows.

@@ -10,7 +10,7 @@ use crate::{
     listing::{Degrees, Listing},
     outputs::Outputs,
     plan::Plan,
-    say,
+    say, say_json,
     selection::{self, Selected, Selection},
     text::{all_ranges, counted, grouped, number, printable, ranges},
     tolerance, Files,
@@ -145,9 +145,7 @@ impl Status {
             if has_lines {
                 state.origin_known = same_plan(&plan, &path)?;
             }
-            let write =
-                |out: &mut dyn Write| serde_json::to_writer_pretty(&mut *out, &state).map_err(io::Error::from).and_then(|()| writeln!(out));
-            buffered(io::stdout().lock(), write).map_err(Fault::output)?;
+            say_json(&state)?;
         } else {
             say(state.text(&about(&plan), &ranges(&has_line, false)))?;
             if has_lines {

@@ -7,6 +7,7 @@
 mod text;
 
 mod check;
+mod cost;
 mod digest;
 mod engine;
 mod example;
@@ -32,6 +33,7 @@ mod tolerance;
 
 use clap::{Args, CommandFactory, Parser, Subcommand};
 use fault::Fault;
+use serde::Serialize;
 use std::{
     io::{self, Write},
     path::PathBuf,
@@ -47,6 +49,7 @@ use std::{
     // help2man makes sections of the manual page of the two.
     after_help = "Examples:\n  \
         wilfnusk example season                            a plan to start from\n  \
+        wilfnusk cost season/plan.toml                     what its sweep will cost\n  \
         wilfnusk sweep season/plan.toml --svg windows.svg  its windows, and a picture of them\n\n\
         Exit status:\n  \
         0    done\n  \
@@ -69,8 +72,10 @@ enum Command {
     Windows(look::Windows),
     /// Show how far a sweep is
     Status(look::Status),
-    /// Check a plan and its journal, and explain what is refused
+    /// Check a plan and its journal, explain what is refused, and end with the cost
     Check(check::Check),
+    /// Print what a sweep will cost: bytes of its journal, fewest and most rolls tried
+    Cost(cost::Cost),
     /// Print the sweep's mask, or the mask at one roll
     Mask(look::Mask),
     /// Print each target's mark at one time
@@ -79,11 +84,8 @@ enum Command {
     Rolls(rolls::Rolls),
     /// Put the lines of several journals of one plan into a new one
     Merge(merge::Merge),
-    /// Write a plan to start from: ninety days of a telescope in low orbit
-    Example {
-        /// Folder for plan.toml, targets.csv and ephemeris.csv
-        folder: PathBuf,
-    },
+    /// Write a plan: ninety days in low orbit, or one of a size that costs most or least
+    Example(example::Example),
     /// Print what completes this program's command lines in a shell
     Completions { shell: clap_complete::Shell },
 }
@@ -118,15 +120,12 @@ fn run(command: Command) -> Result<(), Fault> {
         Command::Windows(c) => c.run(),
         Command::Status(c) => c.run(),
         Command::Check(c) => c.run(),
+        Command::Cost(c) => c.run(),
         Command::Mask(c) => c.run(),
         Command::Regard(c) => c.run(),
         Command::Rolls(c) => c.run(),
         Command::Merge(c) => c.run(),
-        Command::Example { folder } => {
-            example::write(&folder)?;
-            let plan = folder.join("plan.toml");
-            say(format_args!("wrote {}, targets.csv and ephemeris.csv\nnext: wilfnusk sweep {}", plan.display(), text::quoted(&plan)))
-        }
+        Command::Example(c) => c.run(),
         Command::Completions { shell } => io::stdout().write_all(&completions(shell)).map_err(Fault::output),
     }
 }
@@ -141,6 +140,12 @@ fn completions(shell: clap_complete::Shell) -> Vec<u8> {
 /// Prints a line.
 fn say(text: impl std::fmt::Display) -> Result<(), Fault> {
     writeln!(io::stdout(), "{}", text::printable_lines(&text.to_string())).map_err(Fault::output)
+}
+
+/// Prints a value as JSON.
+fn say_json(value: &impl Serialize) -> Result<(), Fault> {
+    let write = |out: &mut dyn Write| serde_json::to_writer_pretty(&mut *out, value).map_err(io::Error::from).and_then(|()| writeln!(out));
+    files::buffered(io::stdout().lock(), write).map_err(Fault::output)
 }
 
 fn main() {

@@ -21,7 +21,7 @@ pub const CATALOGUE_COLUMNS: Form = &["name", "ra", "dec"];
 pub const VECTOR_COLUMNS: Form = &["name", "x", "y", "z"];
 pub const EPHEMERIS_COLUMNS: Form = &["time", "sun_x", "sun_y", "sun_z", "observer_x", "observer_y", "observer_z"];
 /// A target's tolerance may stand beside its position.
-const TOLERANCE_COLUMN: &str = "tolerance";
+pub const TOLERANCE_COLUMN: &str = "tolerance";
 const KEYS: &[&str] = &["targets", "ephemeris", "rolls", "tolerance", "panel", "configured_roll"];
 /// A list of 65,536 tolerances, each with all its digits, and far more than the other keys and their comments take.
 const MOST_BYTES: u64 = 1 << 21;
@@ -188,6 +188,10 @@ impl Plan {
     }
     pub fn cells(&self) -> usize {
         self.names.len() * self.times.len()
+    }
+    /// All that its sweep's cost depends on.
+    pub fn size(&self) -> engine::Size {
+        engine::Size { targets: self.names.len() as u64, times: self.times.len() as u64, rolls: self.rolls }
     }
     pub fn chunks(&self) -> usize {
         (self.cells() + wilfnusk::CHUNK_CELLS as usize - 1) / wilfnusk::CHUNK_CELLS as usize
