@@ -1,10 +1,10 @@
 //! What a sweep costs: `cost`, the line with which `check` ends, and the plans of a size that `example` writes, which cost the most and the least.
 mod common;
 
-use common::{Ended, Folder};
+use common::{done, json, run, Folder};
 use fs2::FileExt;
 use proptest::prelude::*;
-use serde_json::{json, Value};
+use serde_json::json;
 use std::{
     fs::{self, File},
     process::Command,
@@ -18,17 +18,6 @@ fn empty() -> Folder {
     let f = Folder::new(&[], "", "");
     ["plan.toml", "t.csv", "e.csv"].iter().for_each(|file| fs::remove_file(f.path(file)).unwrap());
     f
-}
-fn run(f: &Folder, words: &str) -> Ended {
-    f.run(&words.split(' ').collect::<Vec<_>>())
-}
-fn done(f: &Folder, words: &str) -> String {
-    let ended = run(f, words);
-    assert_eq!(ended.status, 0, "{}: {}", words, ended.stderr);
-    ended.stdout
-}
-fn json(text: &str) -> Value {
-    serde_json::from_str(text).unwrap()
 }
 fn by_numbers(f: &Folder, (targets, times, rolls): (u64, u64, u64), more: &str) -> String {
     done(f, &format!("cost --targets {} --times {} --rolls {}{}", targets, times, rolls, more))

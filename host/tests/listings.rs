@@ -1,15 +1,11 @@
 //! Listings: what a terminal is shown, totals, selection, how far a sweep is.
 mod common;
 
-use common::Folder;
+use common::{json, Folder};
 use serde_json::{json, Value};
 
 fn folder() -> Folder {
     Folder::new(&["Vega", "M 31"], "0010110", "tolerance = 10\n")
-}
-
-fn json(text: &str) -> Value {
-    serde_json::from_str(text).unwrap()
 }
 
 #[test]

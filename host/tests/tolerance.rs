@@ -2,8 +2,8 @@
 //! where nothing can be violated.
 mod common;
 
-use common::{Ended, Folder};
-use serde_json::{json, Value};
+use common::{done, json, run, Folder};
+use serde_json::json;
 
 const NAMES: [&str; 5] = ["A", "B", "C", "D", "E"];
 const VECTORS: [&str; 5] = ["1,0,0", "0,0.6,0.8", "0,-1,0", "0.36,0.48,0.8", "0,0,-1"];
@@ -45,17 +45,6 @@ fn ways(tolerances: &[&str; 5]) -> Vec<(String, String)> {
 fn tell(f: &Folder, (tolerance, targets): &(String, String)) {
     f.write("plan.toml", &format!("targets = \"t.csv\"\nephemeris = \"e.csv\"\nrolls = 8\n{}", tolerance));
     f.write("t.csv", targets);
-}
-fn run(f: &Folder, words: &str) -> Ended {
-    f.run(&words.split(' ').collect::<Vec<_>>())
-}
-fn done(f: &Folder, words: &str) -> String {
-    let ended = run(f, words);
-    assert_eq!(ended.status, 0, "{}: {}", words, ended.stderr);
-    ended.stdout
-}
-fn json(text: &str) -> Value {
-    serde_json::from_str(text).unwrap()
 }
 /// The lines of a listing, by target: of a CSV file without its first.
 fn of_target<'a>(text: &'a str, name: &str) -> Vec<&'a str> {

@@ -48,6 +48,27 @@ with_plan! {
     wilfnusk_collect(n: u64, journal: *const u8, journal_len: usize, used: u64, mask: *mut u8, mask_len: usize);
 }
 
+/// Declares the calls that write a plan.
+macro_rules! writes_plan {
+    ($($name:ident();)*) => {
+        extern "C" {
+            $(pub fn $name(
+                targets: u64, times: u64, n: u64,
+                target_numbers: *mut f64, target_numbers_len: usize,
+                suns: *mut f64, suns_len: usize,
+                observers: *mut f64, observers_len: usize,
+                tolerances: *mut f64, tolerances_len: usize,
+                panel: *mut f64, panel_len: usize,
+            ) -> i64;)*
+        }
+    };
+}
+
+writes_plan! {
+    wilfnusk_costliest_plan();
+    wilfnusk_cheapest_plan();
+}
+
 extern "C" {
     pub fn wilfnusk_sqrt(x: c_double) -> c_double;
     pub fn wilfnusk_atan2(y: c_double, z: c_double) -> c_double;
@@ -78,36 +99,6 @@ extern "C" {
         out_len: usize,
     ) -> i64;
     pub fn wilfnusk_cost(targets: u64, times: u64, n: u64, out: *mut u64, out_len: usize) -> i64;
-    pub fn wilfnusk_costliest_plan(
-        targets: u64,
-        times: u64,
-        n: u64,
-        target_numbers: *mut f64,
-        target_numbers_len: usize,
-        suns: *mut f64,
-        suns_len: usize,
-        observers: *mut f64,
-        observers_len: usize,
-        tolerances: *mut f64,
-        tolerances_len: usize,
-        panel: *mut f64,
-        panel_len: usize,
-    ) -> i64;
-    pub fn wilfnusk_cheapest_plan(
-        targets: u64,
-        times: u64,
-        n: u64,
-        target_numbers: *mut f64,
-        target_numbers_len: usize,
-        suns: *mut f64,
-        suns_len: usize,
-        observers: *mut f64,
-        observers_len: usize,
-        tolerances: *mut f64,
-        tolerances_len: usize,
-        panel: *mut f64,
-        panel_len: usize,
-    ) -> i64;
     pub fn wilfnusk_violation_windows(
         mask: *const u8,
         mask_len: usize,

@@ -58,6 +58,20 @@ impl Folder {
     }
 }
 
+/// A run with the words of this text, none of which has a space.
+pub fn run(f: &Folder, words: &str) -> Ended {
+    f.run(&words.split(' ').collect::<Vec<_>>())
+}
+/// What such a run prints, which must end with 0.
+pub fn done(f: &Folder, words: &str) -> String {
+    let ended = run(f, words);
+    assert_eq!(ended.status, 0, "{}: {}", words, ended.stderr);
+    ended.stdout
+}
+pub fn json(text: &str) -> serde_json::Value {
+    serde_json::from_str(text).unwrap()
+}
+
 /// The program that was built, or what WILFNUSK names.
 fn program() -> PathBuf {
     env::var_os("WILFNUSK").map_or_else(|| env!("CARGO_BIN_EXE_wilfnusk").into(), PathBuf::from)
