@@ -30,12 +30,15 @@
  *    -9  No such target, time or chunk, or no chunk in a range.
  *   -10  The chunk already has a line in the journal.
  *   -11  The journal is not right: see JOURNAL.
- *   -12  The journal's header is incomplete, or bytes follow its last whole line: call wilfnusk_recover.
+ *   -12  The journal's header is incomplete, or bytes follow its last whole line: call wilfnusk_recover, or
+ *        wilfnusk_recover_rolls.
  *   -13  The journal is not empty.
  *   -14  A mask byte is neither 0 nor 1, or a severity is NaN, infinite or has its sign bit set.
  *   -15  A chunk lacks its line.
  *   -16  A right ascension is not within 0 to 360 degrees, or a declination not within -90 to 90.
  *   -17  Not one tolerance a target: tolerances_len is not targets_len / 3.
+ *   -18  A table of rolls is empty or has more than 3,600.
+ *   -19  A roll of a table is not within 0 to below 360, so NaN too, or not above the roll before it.
  *
  * Numbers of 64 bits are looked at whole: a chunk of 2^40 or an n of 2^32 is refused, not cut down.
  *
@@ -187,10 +190,10 @@ int64_t wilfnusk_field_of_regard_violated_at_roll(WILFNUSK_PLAN, uint64_t time, 
 /*
  * JOURNAL
  *
- * A sweep tries for each cell the n rolls k * (360 / n), from k = 0 up, until one does not violate it (a configured roll stands in each of
- * their places). It marks the cell if all n violate it. Cells are swept in chunks of 64, the last perhaps fewer: chunk c holds the cells
- * 64c to 64c + 63. Each chunk, once swept, is one line of the journal, in any order; so a sweep can be split over machines and
- * taken up where it broke off.
+ * A sweep tries for each cell n rolls, in their order, until one does not violate it (a configured roll stands in each of their places). It
+ * marks the cell if all n violate it. The rolls are the even steps k * (360 / n), from k = 0 up; or, by the calls whose names end in
+ * _rolls, a lent table of n rolls. Cells are swept in chunks of 64, the last perhaps fewer: chunk c holds the cells 64c to 64c + 63. Each
+ * chunk, once swept, is one line of the journal, in any order; so a sweep can be split over machines and taken up where it broke off.
  *
  * The journal is text in lowercase hexadecimal. First the header, 106 digits and a newline:
  *
@@ -208,8 +211,8 @@ int64_t wilfnusk_field_of_regard_violated_at_roll(WILFNUSK_PLAN, uint64_t time, 
  *            16  mask: bit k is cell 64c + k; bits past the last cell are 0
  *             8  how many rolls were tried, summed over the chunk's cells
  *
- * That is 107 bytes and 33 bytes a line. targets, suns, observers and the tolerances after the first are not in it: lend the same plan to
- * every call.
+ * That is 107 bytes and 33 bytes a line. targets, suns, observers, the tolerances after the first and a table's rolls are not in it: lend
+ * the same plan and the same table to every call.
  *
  * A journal is right if its header is this plan's (if it is shorter than 107 bytes: if it begins that header), and each whole line has 32
  * digits and a newline, a chunk that exists, no chunk of another line, no bits past the last cell, and a count of tried rolls from
@@ -245,11 +248,26 @@ int64_t wilfnusk_recover(WILFNUSK_PLAN, uint64_t n, const uint8_t *journal, size
 int64_t wilfnusk_collect(WILFNUSK_PLAN, uint64_t n, const uint8_t *journal, size_t journal_len, uint64_t used, uint8_t *mask,
                          size_t mask_len);
 
+/* The same five calls, over a table of rolls in the place of n: wheels may settle only at certain rolls. The table has 1 to 3,600 rolls
+ * in degrees, each within 0 to below 360 and above the one before it; they are tried in their order. The n of the header is their number,
+ * and no journal holds the rolls: lend the same table to every call on one journal, for another of that length is not told from it. Each
+ * refuses as the call without _rolls does, but -18 and then -19 in the place of -3. */
+int64_t wilfnusk_begin_rolls(WILFNUSK_PLAN, const double *rolls, size_t rolls_len, uint8_t *journal, size_t journal_len, uint64_t used);
+int64_t wilfnusk_work_rolls(WILFNUSK_PLAN, const double *rolls, size_t rolls_len, uint64_t chunk, uint8_t *journal, size_t journal_len,
+                            uint64_t used);
+int64_t wilfnusk_work_range_rolls(WILFNUSK_PLAN, const double *rolls, size_t rolls_len, uint64_t from, uint64_t to, uint8_t *journal,
+                                  size_t journal_len, uint64_t used, uint64_t *stopped);
+int64_t wilfnusk_recover_rolls(WILFNUSK_PLAN, const double *rolls, size_t rolls_len, const uint8_t *journal, size_t journal_len,
+                               uint64_t used);
+int64_t wilfnusk_collect_rolls(WILFNUSK_PLAN, const double *rolls, size_t rolls_len, const uint8_t *journal, size_t journal_len,
+                               uint64_t used, uint8_t *mask, size_t mask_len);
+
 
 /* ---- Cost ------------------------------------------------------------------------------------------------------------------------ */
 
 /* What the sweep of a plan of this size will cost, whatever is in the plan: writes into out the journal's length in bytes once each chunk
- * has its line, 107 + 33 a chunk; the fewest rolls that the sweep can try, one a cell; and the most, n a cell. Answers 0.
+ * has its line, 107 + 33 a chunk; the fewest rolls that the sweep can try, one a cell; and the most, n a cell. n is the number of rolls, even
+ * steps or a table's. Answers 0.
  * Refuses: -2; -3; -7 if out_len is below 3. */
 int64_t wilfnusk_cost(uint64_t targets, uint64_t times, uint64_t n, uint64_t *out, size_t out_len);
 

@@ -1,4 +1,4 @@
-/* Uses include/wilfnusk.h as a program in C or C++ does: the examples of document 01, and of document 02's requests One to Four. Prints document
+/* Uses include/wilfnusk.h as a program in C or C++ does: the examples of document 01, and of document 02's requests One to Five. Prints document
  * 01's journal. */
 #include <stdio.h>
 #include <string.h>
@@ -171,6 +171,70 @@ static void costs(void)
     }
 }
 
+/* The example's plan over a table: of its rolls 80 is within 10 degrees of the second cell's optimal roll, 90, and none of the first's, 0. Tables
+ * that are refused: each call leaves every byte as it was, the table's too. */
+static void rolls(void)
+{
+    const double target[3] = {1, 0, 0};
+    const double suns[6] = {0, 1, 0, 0, 0, 1};
+    const double observers[6] = {0, 0, 0, 0, 0, 0};
+    const double tolerance[1] = {10};
+    const double table[2] = {15, 80}, even[2] = {0, 180}, zeros[2] = {-0.0, 0}, full[2] = {15, 360}, falling[2] = {80, 15};
+    const double *bad[3];
+    double same_zeros[2];
+    uint8_t journal[256], stepped[256], mask[2] = {9, 9}, bytes[256], same[256];
+    uint64_t stopped = 7;
+    int64_t used;
+    size_t k;
+
+#define SWEPT(has_roll, table) target, 3, suns, 6, observers, 6, tolerance, 1, has_roll, 90.0, 0.0, 1.0, 0.0, table, 2
+#define STEPPED target, 3, suns, 6, observers, 6, tolerance, 1, 0, 0.0, 0.0, 1.0, 0.0, 2
+    used = wilfnusk_begin_rolls(SWEPT(0, table), journal, sizeof journal, 0);
+    expect(used == 107 && memcmp(journal + 16, "00000002", 8) == 0, "begin over a table: the header's n is its length");
+    expect(wilfnusk_collect_rolls(SWEPT(0, table), journal, sizeof journal, (uint64_t)used, mask, 2) == -15, "collect over a table without a line");
+    used = wilfnusk_work_rolls(SWEPT(0, table), 0, journal, sizeof journal, (uint64_t)used);
+    expect(used == 140 && memcmp(journal + 107, "00000000000000000000000100000004\n", 33) == 0, "work over a table: its line");
+    expect(wilfnusk_recover_rolls(SWEPT(0, table), journal, sizeof journal, 139) == 107, "recover over a table from a line cut short");
+    expect(wilfnusk_work_range_rolls(SWEPT(0, table), 3, 3, journal, sizeof journal, 107, &stopped) == -9 && stopped == 7,
+           "no chunk in a range over a table");
+    memset(journal + 107, 0, 33);
+    expect(wilfnusk_work_range_rolls(SWEPT(0, table), 0, 5, journal, sizeof journal, 107, &stopped) == used && stopped == 1,
+           "work over a range, over a table");
+    expect(memcmp(journal + 107, "00000000000000000000000100000004\n", 33) == 0, "its line is work's");
+    expect(wilfnusk_collect_rolls(SWEPT(0, table), journal, sizeof journal, (uint64_t)used, mask, 2) == 4, "collect over a table: four probes");
+    expect(mask[0] == 1 && mask[1] == 0, "the first cell is marked, the second is clear");
+
+    wilfnusk_begin_rolls(SWEPT(1, table), bytes, sizeof bytes, 0);
+    expect(wilfnusk_work_rolls(SWEPT(1, table), 0, bytes, sizeof bytes, 107) == 140 && memcmp(bytes + 107, "00000000000000000000000100000003\n", 33) == 0,
+           "a configured roll of 90 stands for each");
+    wilfnusk_begin_rolls(SWEPT(0, even), bytes, sizeof bytes, 0);
+    wilfnusk_begin(STEPPED, stepped, sizeof stepped, 0);
+    expect(wilfnusk_work_rolls(SWEPT(0, even), 0, bytes, sizeof bytes, 107) == 140 && wilfnusk_work(STEPPED, 0, stepped, sizeof stepped, 107) == 140 &&
+               memcmp(bytes, stepped, 140) == 0,
+           "two even steps lent as a table: the same bytes");
+
+    bad[0] = zeros;
+    bad[1] = full;
+    bad[2] = falling;
+    memset(bytes, 0xa5, sizeof bytes);
+    memcpy(same, bytes, sizeof bytes);
+    memcpy(same_zeros, zeros, sizeof zeros);
+    for (k = 0; k < 3; k++) {
+        expect(wilfnusk_begin_rolls(SWEPT(0, bad[k]), bytes, sizeof bytes, 7) == -19, "begin: a table that is refused, before 13");
+        expect(wilfnusk_work_rolls(SWEPT(0, bad[k]), 9, bytes, sizeof bytes, 107) == -19, "work: a table that is refused, before 9 and 11");
+        expect(wilfnusk_work_range_rolls(SWEPT(0, bad[k]), 9, 9, bytes, sizeof bytes, 107, &stopped) == -19 && stopped == 1,
+               "work over a range: a table that is refused, before 9 and 11");
+        expect(wilfnusk_recover_rolls(SWEPT(0, bad[k]), journal, sizeof journal, 140) == -19, "recover: a table that is refused");
+        expect(wilfnusk_collect_rolls(SWEPT(0, bad[k]), journal, sizeof journal, 140, bytes, 0) == -19, "collect: a table that is refused, before 7");
+    }
+    /* Of length 0 the pointer is still not NULL. */
+    expect(wilfnusk_begin_rolls(target, 3, suns, 6, observers, 6, tolerance, 1, 0, 0.0, 0.0, 1.0, 0.0, falling, 0, bytes, sizeof bytes, 0) == -18,
+           "no rolls");
+    expect(wilfnusk_begin_rolls(target, 3, suns, 6, observers, 6, tolerance, 0, 0, 0.0, 0.0, 1.0, 0.0, zeros, 1, bytes, sizeof bytes, 0) == -17,
+           "-0 alone is a table");
+    expect(memcmp(bytes, same, sizeof bytes) == 0 && memcmp(zeros, same_zeros, sizeof zeros) == 0, "refused, and every byte as it was");
+}
+
 int main(void)
 {
     const double target[3] = {1, 0, 0};
@@ -195,6 +259,7 @@ int main(void)
     catalogue();
     tolerances();
     costs();
+    rolls();
 
     expect(wilfnusk_cell(1, 0, 0, 1, 0, 0, 0, 0, 0, 0, 1, 0, &roll) == 0 && roll == -1, "Sun on the boresight: Free, roll unwritten");
     expect(wilfnusk_cell(1, 0, 0, 0, 0, -1, 0, 0, 0, 0, 1, 0, &roll) == 1 && roll == 270, "Sun [0,0,-1]: At 270, not -90");

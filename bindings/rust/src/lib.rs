@@ -52,6 +52,26 @@ pub enum Roll {
     Fixed(f64),
 }
 
+/// The rolls of a sweep: n even steps of 360 / n degrees from 0, or a table of 1 to 3,600 rolls, each within 0 to below 360 and above the one before
+/// it. Every call on one journal must have the same.
+#[derive(Clone, Copy, Debug, PartialEq)]
+pub enum Rolls<'a> {
+    Even(u64),
+    Table(&'a [f64]),
+}
+
+impl From<u64> for Rolls<'_> {
+    fn from(n: u64) -> Self {
+        Rolls::Even(n)
+    }
+}
+
+impl<'a> From<&'a [f64]> for Rolls<'a> {
+    fn from(table: &'a [f64]) -> Self {
+        Rolls::Table(table)
+    }
+}
+
 /// The roll of one cell: `Free` where none is better than another.
 #[derive(Clone, Copy, Debug, PartialEq)]
 pub enum OptimalRoll {
@@ -89,6 +109,16 @@ macro_rules! with_plan {
     }};
 }
 
+/// Calls the C name for even steps, or that for a table.
+macro_rules! with_rolls {
+    ($plan:expr, $rolls:expr, $call:ident, $even:ident, $table:ident, $($rest:expr),*) => {
+        match $rolls.into() {
+            Rolls::Even(n) => with_plan!($plan, $call, $even, n, $($rest),*),
+            Rolls::Table(table) => with_plan!($plan, $call, $table, table.as_ptr(), table.len(), $($rest),*),
+        }
+    };
+}
+
 impl Plan<'_> {
     /// The optimal roll of each cell, of Free ones too, in degrees: each from 0 up to but not at 360.
     pub fn named_values(&self, out: &mut [f64]) -> Result<(), Refusal> {
@@ -122,32 +152,88 @@ impl Plan<'_> {
     pub fn field_of_regard_violated_at_roll(&self, time: u64, roll_deg: f64, mask: &mut [u8]) -> Result<(), Refusal> {
         with_plan!(self, FieldOfRegard, wilfnusk_field_of_regard_violated_at_roll, time, roll_deg, mask.as_mut_ptr(), mask.len()).map(drop)
     }
-    /// Writes the header into an empty journal. The used length after it.
-    pub fn begin(&self, n: u64, journal: &mut [u8], used: u64) -> Result<u64, Refusal> {
-        with_plan!(self, Begin, wilfnusk_begin, n, journal.as_mut_ptr(), journal.len(), used)
+    /// Writes the header into an empty journal. The used length after it. The rolls are their number, or a table of them: see [`Rolls`].
+    ///
+    /// ```
+    /// # let plan = wilfnusk::Plan {
+    /// #     targets: &[1.0, 0.0, 0.0],
+    /// #     suns: &[0.0, 1.0, 0.0, 0.0, 0.0, 1.0],
+    /// #     observers: &[0.0; 6],
+    /// #     tolerances: &[10.0],
+    /// #     roll_deg: None,
+    /// #     panel_normal: [0.0, 1.0, 0.0],
+    /// # };
+    /// // The optimal rolls of the two cells are 0 and 90: of this table, 80 is within 10 degrees of the second alone.
+    /// let table: &[f64] = &[15.0, 80.0];
+    /// let mut journal = [0; 140];
+    /// let mut mask = [0; 2];
+    /// let used = plan.begin(table, &mut journal, 0)?;
+    /// let used = plan.work(table, 0, &mut journal, used)?;
+    /// let probes = plan.collect(table, &journal, used, &mut mask)?;
+    /// assert_eq!((mask, probes), ([1, 0], 4));
+    /// # Ok::<(), wilfnusk::Refusal>(())
+    /// ```
+    pub fn begin<'r>(&self, rolls: impl Into<Rolls<'r>>, journal: &mut [u8], used: u64) -> Result<u64, Refusal> {
+        with_rolls!(self, rolls, Begin, wilfnusk_begin, wilfnusk_begin_rolls, journal.as_mut_ptr(), journal.len(), used)
     }
     /// Sweeps a chunk and appends its line. The used length after it.
-    pub fn work(&self, n: u64, chunk: u64, journal: &mut [u8], used: u64) -> Result<u64, Refusal> {
-        with_plan!(self, Work, wilfnusk_work, n, chunk, journal.as_mut_ptr(), journal.len(), used)
+    pub fn work<'r>(&self, rolls: impl Into<Rolls<'r>>, chunk: u64, journal: &mut [u8], used: u64) -> Result<u64, Refusal> {
+        with_rolls!(self, rolls, Work, wilfnusk_work, wilfnusk_work_rolls, chunk, journal.as_mut_ptr(), journal.len(), used)
     }
     /// Sweeps the chunks of a range and appends their lines, up to its end or the first chunk that [`Plan::work`] refuses, with one check of the journal.
     /// The used length after them, and the chunk at which it stopped.
-    pub fn work_range(&self, n: u64, chunks: Range<u64>, journal: &mut [u8], used: u64) -> Result<(u64, u64), Refusal> {
+    pub fn work_range<'r>(
+        &self,
+        rolls: impl Into<Rolls<'r>>,
+        chunks: Range<u64>,
+        journal: &mut [u8],
+        used: u64,
+    ) -> Result<(u64, u64), Refusal> {
         let mut stopped = chunks.start;
-        self.work_range_into(n, chunks, journal, used, &mut stopped).map(|used| (used, stopped))
+        self.work_range_into(rolls, chunks, journal, used, &mut stopped).map(|used| (used, stopped))
     }
     /// [`Plan::work_range`] as the C name has it: the chunk at which it stopped is written to `stopped`, which a refused call leaves as it was.
-    pub fn work_range_into(&self, n: u64, chunks: Range<u64>, journal: &mut [u8], used: u64, stopped: &mut u64) -> Result<u64, Refusal> {
+    pub fn work_range_into<'r>(
+        &self,
+        rolls: impl Into<Rolls<'r>>,
+        chunks: Range<u64>,
+        journal: &mut [u8],
+        used: u64,
+        stopped: &mut u64,
+    ) -> Result<u64, Refusal> {
         let Range { start, end } = chunks;
-        with_plan!(self, WorkRange, wilfnusk_work_range, n, start, end, journal.as_mut_ptr(), journal.len(), used, stopped)
+        with_rolls!(
+            self,
+            rolls,
+            WorkRange,
+            wilfnusk_work_range,
+            wilfnusk_work_range_rolls,
+            start,
+            end,
+            journal.as_mut_ptr(),
+            journal.len(),
+            used,
+            stopped
+        )
     }
     /// The used length without an incomplete header or line at the end. Shorten the file to it before the next write.
-    pub fn recover(&self, n: u64, journal: &[u8], used: u64) -> Result<u64, Refusal> {
-        with_plan!(self, Recover, wilfnusk_recover, n, journal.as_ptr(), journal.len(), used)
+    pub fn recover<'r>(&self, rolls: impl Into<Rolls<'r>>, journal: &[u8], used: u64) -> Result<u64, Refusal> {
+        with_rolls!(self, rolls, Recover, wilfnusk_recover, wilfnusk_recover_rolls, journal.as_ptr(), journal.len(), used)
     }
     /// Writes the mask that the journal's lines hold. The sum of their probes.
-    pub fn collect(&self, n: u64, journal: &[u8], used: u64, mask: &mut [u8]) -> Result<u64, Refusal> {
-        with_plan!(self, Collect, wilfnusk_collect, n, journal.as_ptr(), journal.len(), used, mask.as_mut_ptr(), mask.len())
+    pub fn collect<'r>(&self, rolls: impl Into<Rolls<'r>>, journal: &[u8], used: u64, mask: &mut [u8]) -> Result<u64, Refusal> {
+        with_rolls!(
+            self,
+            rolls,
+            Collect,
+            wilfnusk_collect,
+            wilfnusk_collect_rolls,
+            journal.as_ptr(),
+            journal.len(),
+            used,
+            mask.as_mut_ptr(),
+            mask.len()
+        )
     }
 }
 

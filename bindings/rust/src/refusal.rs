@@ -76,6 +76,8 @@ impl Refusal {
             (15, _) => "a chunk lacks a line",
             (16, _) => "a right ascension is not within 0 to 360 degrees, or a declination not within -90 to 90",
             (17, _) => "the number of tolerances is not the number of targets",
+            (18, _) => "the table of rolls is empty or has more than 3,600",
+            (19, _) => "a roll of the table is not within 0 to below 360, or not above the one before it",
             _ => "a number that this version does not know",
         }
     }

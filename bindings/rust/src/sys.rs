@@ -46,6 +46,11 @@ with_plan! {
     wilfnusk_work_range(n: u64, from: u64, to: u64, journal: *mut u8, journal_len: usize, used: u64, stopped: *mut u64);
     wilfnusk_recover(n: u64, journal: *const u8, journal_len: usize, used: u64);
     wilfnusk_collect(n: u64, journal: *const u8, journal_len: usize, used: u64, mask: *mut u8, mask_len: usize);
+    wilfnusk_begin_rolls(rolls: *const f64, rolls_len: usize, journal: *mut u8, journal_len: usize, used: u64);
+    wilfnusk_work_rolls(rolls: *const f64, rolls_len: usize, chunk: u64, journal: *mut u8, journal_len: usize, used: u64);
+    wilfnusk_work_range_rolls(rolls: *const f64, rolls_len: usize, from: u64, to: u64, journal: *mut u8, journal_len: usize, used: u64, stopped: *mut u64);
+    wilfnusk_recover_rolls(rolls: *const f64, rolls_len: usize, journal: *const u8, journal_len: usize, used: u64);
+    wilfnusk_collect_rolls(rolls: *const f64, rolls_len: usize, journal: *const u8, journal_len: usize, used: u64, mask: *mut u8, mask_len: usize);
 }
 
 /// Declares the calls that write a plan.

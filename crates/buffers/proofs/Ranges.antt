@@ -17,7 +17,7 @@ use Rattle.buffers.specs.Ranges.{sum, tab, allBelow, anyBelow, any}
 use Rattle.buffers.proofs.Tests.{and-left, and-right, and-both, and-stop, or-none, or-left, or-right}
 
 -- below n + 1: below n, or n itself
-below-suc : (P : ℕ → Type 0) (n : ℕ) → ((k : ℕ) → k < n → P k) → P n → (k : ℕ) → k < suc n → P k
+pub below-suc : (P : ℕ → Type 0) (n : ℕ) → ((k : ℕ) → k < n → P k) → P n → (k : ℕ) → k < suc n → P k
 below-suc P n f e k h = go (eqb k n) refl
   where
     go : (t : Bool) → eqb k n ≡ t → P k
@@ -195,6 +195,12 @@ pub any-none : (n : ℕ) (p : ℕ → Bool) → ((k : ℕ) → k < n → p k ≡
 unfolding anyBelow
 any-none zero p f = refl
 any-none (suc n) p f = ap₂ (λ (a b : Bool). a || b) (any-none n p (λ k l. f k (omega arith))) (f n (omega arith))
+
+-- where none holds, each does not
+pub any-clear : (n : ℕ) (p : ℕ → Bool) → anyBelow n p ≡ false → (k : ℕ) → k < n → p k ≡ false
+unfolding anyBelow
+any-clear zero p e k h = absurd (not-suc-le-zero h)
+any-clear (suc n) p e k h = below-suc (λ k. p k ≡ false) n (any-clear n p (or-left (anyBelow n p) (p n) e)) (or-right (anyBelow n p) (p n) e) k h
 
 pub any-ext : (n : ℕ) (p q : ℕ → Bool) → ((k : ℕ) → k < n → p k ≡ q k) → anyBelow n p ≡ anyBelow n q
 unfolding anyBelow

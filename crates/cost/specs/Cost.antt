@@ -1,5 +1,5 @@
 -- Document 02's request Four: what a plan of a size costs, and a plan of that size that costs most, and one that costs least. A size is the number of targets, of times, and n,
--- the number of even rolls. Definitions only. Assumes nothing.
+-- the number of rolls; the plans that are written are swept over even ones. Definitions only. Assumes nothing.
 use mathlib.Core.Bool.{Bool, _||_}
 use mathlib.Core.List.{List, [], _∷_}
 use Prim.Native.Nat.{ℕ, _+_, _*_, _%_}

@@ -4,6 +4,7 @@ ghost use Prim.Native.Nat.{_≤_};
 use crate::plan::Plan;
 use crate::plan::begin;
 use crate::plan::collect;
+use crate::plan::plan_by_table;
 use crate::plan::plan_of;
 use crate::plan::recover;
 use crate::plan::work;
@@ -324,6 +325,9 @@ fn tell_plan(plan: Plan, whole: &[u8], used: u64) {
     if plan.first_tolerance != plan.second_tolerance {
         text(b", two tolerances");
     }
+    if plan.by_table {
+        text(b", by a table");
+    }
     match collect(plan, whole, used, &mut mask) {
         Answer::Accepted(probes) => {
             text(b": ");
@@ -362,8 +366,8 @@ fn cut_plan(plan: Plan, whole: &mut [u8]) -> Tally {
     tally
 }
 
-// The first has no cell, the second one; each of the others has clear and marked cells. The targets of the last have
-// different tolerances.
+// The first has no cell, the second one; each of the others has clear and marked cells. The targets of one have different
+// tolerances; the last goes by a table.
 fn small_plan(p: u64) -> Plan {
     match p {
         0 => plan_of(0, 70, 1, 1, 10.0, 10.0, ConfiguredRoll::None),
@@ -374,7 +378,8 @@ fn small_plan(p: u64) -> Plan {
         5 => plan_of(2, 70, 4, 4, 20.0, 20.0, ConfiguredRoll::None),
         6 => plan_of(2, 70, 4, 2, -1.0, -1.0, ConfiguredRoll::None),
         7 => plan_of(2, 70, 4, 3, 90.0, 90.0, ConfiguredRoll::Some(30.0)),
-        _ => plan_of(2, 70, 4, 4, 20.0, 30.0, ConfiguredRoll::None),
+        8 => plan_of(2, 70, 4, 4, 20.0, 30.0, ConfiguredRoll::None),
+        _ => plan_by_table(5, 20.0),
     }
 }
 
@@ -382,7 +387,7 @@ pub(crate) fn cut_plans() {
     let mut whole = [UNUSED; 240];
     let mut tally = Tally { cuts: 0, differ: 0 };
     let mut p = 0;
-    while p < 9 {
+    while p < 10 {
         tally = both(tally, cut_plan(small_plan(p), &mut whole));
         p += 1;
     }

@@ -5,6 +5,7 @@ use crate::cut::shorten;
 use crate::plan::Plan;
 use crate::plan::begin;
 use crate::plan::collect;
+use crate::plan::plan_by_table;
 use crate::plan::plan_of;
 use crate::plan::recover;
 use crate::plan::work;
@@ -117,6 +118,7 @@ fn with_listed(count: usize) -> Plan {
         times: 70,
         writes: 4,
         n: 1,
+        by_table: false,
         first_tolerance: 60.0,
         second_tolerance: 60.0,
         listed: count,
@@ -248,11 +250,29 @@ fn show_unlike_tolerances() {
     );
 }
 
+// The header has the number of a table's rolls alone, so even ones of that number are not told from them.
+fn show_unlike_rolls() {
+    let five = plan_by_table(5, 60.0);
+    let even = plan_of(2, 70, 4, 5, 60.0, 60.0, ConfiguredRoll::None);
+    show_other(b"a table of 5, by the same", five, five, 140);
+    show_other(
+        b"a table of 5, by a table of 4",
+        five,
+        plan_by_table(4, 60.0),
+        140,
+    );
+    show_other(b"a table of 5, by 5 even rolls", five, even, 140);
+    show_other(b"5 even rolls, by a table of 5", even, five, 140);
+    show_other(b"a table of no roll", five, plan_by_table(0, 60.0), 140);
+    show_other(b"a table with 360", five, plan_by_table(6, 60.0), 140);
+}
+
 pub(crate) fn show_edges() {
     show_lengths();
     show_bytes();
     show_unlike_plans();
     show_unlike_tolerances();
+    show_unlike_rolls();
     show_room_for_header();
     show_room_for_line();
     show_room_for_mask();

@@ -4,12 +4,13 @@ use buffers::Answer;
 use solar_roll::ConfiguredRoll;
 
 // A plan, and how many writes its whole journal has: the header's and one for each chunk. Of its two tolerances the first
-// `listed` are lent.
+// `listed` are lent. By a table, its rolls are the first n of `table`.
 pub(crate) struct Plan {
     pub targets: usize,
     pub times: usize,
     pub writes: u64,
     pub n: u64,
+    pub by_table: bool,
     pub first_tolerance: f64,
     pub second_tolerance: f64,
     pub listed: usize,
@@ -30,11 +31,32 @@ pub(crate) fn plan_of(
         times,
         writes,
         n,
+        by_table: false,
         first_tolerance,
         second_tolerance,
         listed: targets,
         configured,
     }
+}
+
+// Two targets of 70 times each, n rolls of a table.
+pub(crate) fn plan_by_table(n: u64, tolerance: f64) -> Plan {
+    Plan {
+        targets: 2,
+        times: 70,
+        writes: 4,
+        n,
+        by_table: true,
+        first_tolerance: tolerance,
+        second_tolerance: tolerance,
+        listed: 2,
+        configured: ConfiguredRoll::None,
+    }
+}
+
+// The first five may be a table's rolls; 360 may not.
+fn table() -> [f64; 6] {
+    [0.0, 17.5, 90.0, 200.25, 359.5, 360.0]
 }
 
 // Coordinate k of the Suns. The first Sun lies along the first target, so that its cell is Free.
@@ -81,6 +103,20 @@ pub(crate) fn begin(plan: Plan, journal: &mut [u8], used: u64) -> Answer {
     let tolerances = [plan.first_tolerance, plan.second_tolerance];
     let configured = plan.configured;
     let panels = [0.0, 1.0, 0.0];
+    if plan.by_table {
+        let rolls = table();
+        return journal::begin_rolls(
+            first_triples(&targets, plan.targets),
+            first_triples(&suns, plan.times),
+            first_triples(&observers, plan.times),
+            first(&tolerances, plan.listed),
+            configured,
+            &panels,
+            first(&rolls, plan.n as usize),
+            journal,
+            used,
+        );
+    }
     journal::begin(
         first_triples(&targets, plan.targets),
         first_triples(&suns, plan.times),
@@ -102,6 +138,21 @@ pub(crate) fn work(plan: Plan, chunk: u64, journal: &mut [u8], used: u64) -> Ans
     let tolerances = [plan.first_tolerance, plan.second_tolerance];
     let configured = plan.configured;
     let panels = [0.0, 1.0, 0.0];
+    if plan.by_table {
+        let rolls = table();
+        return journal::work_rolls(
+            first_triples(&targets, plan.targets),
+            first_triples(&suns, plan.times),
+            first_triples(&observers, plan.times),
+            first(&tolerances, plan.listed),
+            configured,
+            &panels,
+            first(&rolls, plan.n as usize),
+            chunk,
+            journal,
+            used,
+        );
+    }
     journal::work(
         first_triples(&targets, plan.targets),
         first_triples(&suns, plan.times),
@@ -124,6 +175,20 @@ pub(crate) fn recover(plan: Plan, journal: &[u8], used: u64) -> Answer {
     let tolerances = [plan.first_tolerance, plan.second_tolerance];
     let configured = plan.configured;
     let panels = [0.0, 1.0, 0.0];
+    if plan.by_table {
+        let rolls = table();
+        return journal::recover_rolls(
+            first_triples(&targets, plan.targets),
+            first_triples(&suns, plan.times),
+            first_triples(&observers, plan.times),
+            first(&tolerances, plan.listed),
+            configured,
+            &panels,
+            first(&rolls, plan.n as usize),
+            journal,
+            used,
+        );
+    }
     journal::recover(
         first_triples(&targets, plan.targets),
         first_triples(&suns, plan.times),
@@ -145,6 +210,21 @@ pub(crate) fn collect(plan: Plan, journal: &[u8], used: u64, mask: &mut [u8]) ->
     let tolerances = [plan.first_tolerance, plan.second_tolerance];
     let configured = plan.configured;
     let panels = [0.0, 1.0, 0.0];
+    if plan.by_table {
+        let rolls = table();
+        return journal::collect_rolls(
+            first_triples(&targets, plan.targets),
+            first_triples(&suns, plan.times),
+            first_triples(&observers, plan.times),
+            first(&tolerances, plan.listed),
+            configured,
+            &panels,
+            first(&rolls, plan.n as usize),
+            journal,
+            used,
+            mask,
+        );
+    }
     journal::collect(
         first_triples(&targets, plan.targets),
         first_triples(&suns, plan.times),

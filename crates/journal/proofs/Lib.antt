@@ -1,4 +1,4 @@
--- Laws of the journal's text, of its lines, of the pass over them, and of equal tolerances.
+-- Laws of the journal's text, of its lines, of the pass over them, of equal tolerances, and of tables of rolls.
 pub mod Text
 pub mod Write
 pub mod Possible
@@ -10,3 +10,4 @@ pub mod Appended
 pub mod Along
 pub mod Planned
 pub mod Tolerances
+pub mod EvenTable

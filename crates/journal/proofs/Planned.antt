@@ -7,7 +7,7 @@ use native.Mathlib.Omega.{arith}
 use lib.Dec.{ltb}
 use lib.ListN.{length, getD, take, replicate, length-replicate}
 use lib.Ieee.{Float, binary64, toBits}
-use borrow.Author.Tests.{le-leb, le-ltb, ltb-false}
+use borrow.Author.Tests.{le-ltb, ltb-false}
 use Rattle.buffers.specs.Ranges.{tab}
 use Rattle.buffers.specs.Refusal.{accepted}
 use Rattle.buffers.specs.declared.Answer.{Answer}
@@ -22,7 +22,7 @@ use Rattle.roll_sweep.specs.Sweep.{Sweep, chunks, cellsIn}
 use Rattle.roll_sweep.specs.Rolls.{evenRolls}
 use Rattle.roll_sweep.specs.Chunk.{violatesBy, sampleRoll, sweptOf, chunkRefusal, sweptReply}
 use Rattle.roll_sweep.proofs.Even.{length-even}
-use Rattle.roll_sweep.proofs.ChunkFacts.{samples-within, Held, chunk-facts, held, chunk-accepted}
+use Rattle.roll_sweep.proofs.ChunkFacts.{samples-within, samples-passed, Held, chunk-facts, held, chunk-accepted}
 use Rattle.roll_sweep.proofs.Swept.{swept-ext, swept-chunk}
 use Rattle.roll_sweep.proofs.Cells.{cell-violates, unit-of-time, unit-of-cell}
 use Rattle.journal.specs.Header.{hasRoll, rollBits, settingsHeader, headerOf}
@@ -132,10 +132,6 @@ pub even-says : (n : ℕ) → Says (samplesRefusal n) (length (evenRolls n))
 even-says n e = ap samplesRefusal (length-even n) ∙ e
 
 -- ---- the sweep of a chunk of an accepted plan is not refused, and gives what the plan's sweep has
-
-samples-passed : (n : ℕ) → 1 ≤ n → n ≤ mostSamples → samplesRefusal n ≡ 0
-unfolding samplesRefusal
-samples-passed n h l = simp (le-leb 1 n h, le-leb n mostSamples l)
 
 module _ (p : Plan) (rolls : List Float) (said c : ℕ) (f : PlanFacts p) (one : 1 ≤ length rolls) (most : length rolls ≤ mostSamples) (exists : c < chunks (rowsOf p * timesOf p)) where
   not-refused : (units : ℕ) → 0 < units → chunkRefusal (rowsOf p) (timesOf p) units (length rolls) c ≡ 0

@@ -1,5 +1,5 @@
 -- Section 4: the journal's text, when a journal is right, and what begin, work, work over a range, recover and
--- collect answer and leave; and plans of one tolerance (document 02, Two).
+-- collect answer and leave, over even steps or a lent table (document 02, Five); and plans of one tolerance (Two).
 pub mod Hex
 pub mod Lines
 pub mod Right

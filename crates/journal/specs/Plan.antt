@@ -8,7 +8,7 @@ use Rattle.buffers.specs.Ranges.{tab}
 use Rattle.solar_roll.specs.Vectors.{Vector}
 use Rattle.solar_roll.specs.Plan.{Plan, rowsOf, timesOf, sunAt, violatesAt, samplesRefusal, planRefusal}
 use Rattle.roll_sweep.specs.Sweep.{Sweep}
-use Rattle.roll_sweep.specs.Rolls.{evenRolls}
+use Rattle.roll_sweep.specs.Rolls.{evenRolls, tableRefusal}
 use Rattle.journal.specs.Header.{headerOf}
 
 -- the sweep of a plan over a list of rolls; `said` is the number said of them in the place of 3, 0 for none. Cell number = row · times + time; a sample is
@@ -28,6 +28,10 @@ sweepOf p rolls said =
 -- over n even rolls
 abbrev pub evenSweep : Plan → ℕ → Sweep
 evenSweep p n = sweepOf p (evenRolls n) (samplesRefusal n)
+
+-- over a lent table of rolls: 18 and 19 come in the place of 3, and the header's n is its length
+abbrev pub tableSweep : Plan → List Float → Sweep
+tableSweep p rolls = sweepOf p rolls (tableRefusal rolls)
 
 -- ---- for the contracts of private functions
 

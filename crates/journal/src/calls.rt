@@ -21,7 +21,7 @@ use solar_roll::plan_refusal;
 use solar_roll::samples_refusal;
 
 // Begin, over any rolls of this number, of which `said` is said in the place of 3.
-fn begin_samples(
+pub(crate) fn begin_samples(
     targets: &[f64],
     suns: &[f64],
     observers: &[f64],
@@ -180,7 +180,7 @@ pub fn work_range(
 }
 
 // Recover, over any rolls of this number, of which `said` is said in the place of 3.
-fn recover_samples(
+pub(crate) fn recover_samples(
     targets: &[f64],
     suns: &[f64],
     observers: &[f64],
@@ -250,7 +250,7 @@ pub fn recover(
 }
 
 // Collect, over any rolls of this number, of which `said` is said in the place of 3.
-fn collect_samples(
+pub(crate) fn collect_samples(
     targets: &[f64],
     suns: &[f64],
     observers: &[f64],

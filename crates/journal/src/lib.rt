@@ -9,6 +9,7 @@ mod mask;
 mod pass;
 mod plan;
 mod range;
+mod tables;
 
 pub use calls::begin;
 pub use calls::collect;
@@ -17,3 +18,8 @@ pub use calls::work;
 pub use calls::work_range;
 pub use header::HEADER_LENGTH;
 pub use line::LINE_LENGTH;
+pub use tables::begin_rolls;
+pub use tables::collect_rolls;
+pub use tables::recover_rolls;
+pub use tables::work_range_rolls;
+pub use tables::work_rolls;

@@ -1,4 +1,5 @@
-// Work over a range of chunks. The journal is checked once; the even rolls are a table that is filled once, and so are the Sun's units where that pays.
+// Work over a range of chunks, over any slice of rolls. The journal is checked once; even rolls are a table that is filled once, and so are the Sun's units
+// where that pays.
 ghost use mathlib.Core.Path.{_≡_};
 ghost use mathlib.Core.Bool.{true, not, _||_};
 ghost use mathlib.Core.List.{List};
@@ -29,13 +30,11 @@ use roll_sweep::cells_in;
 use roll_sweep::even_rolls;
 use roll_sweep::sweep_chunk;
 use solar_roll::ConfiguredRoll;
+use solar_roll::MOST_SAMPLES;
 use solar_roll::samples_refusal;
 use solar_roll::sun_unit;
 use solar_roll::sun_units;
 use solar_roll::triple;
-
-// How many samples a sweep can have.
-const MOST_SAMPLES: usize = 3_600;
 
 // How many times a table of the Sun's units has room for: the hours of a leap year, 206 KB.
 const TABLE_TIMES: usize = 8_784;

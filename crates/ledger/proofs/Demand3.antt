@@ -1,7 +1,7 @@
 -- Demand 3, for every accepted plan: `demand3`, from an empty journal; `demand3-from`, from every start; `demand3-split`, from the journal of a sweep
--- that was split; `range-cut`, of work over a range. They are for n even rolls, and `demand3-over`, .. for every list of 1 to 3,600 rolls: instances of one
--- proof, over n samples and the roll of each. Then that the window listings accept each row of a collected mask, so that its windows are there to be read.
--- Assumes nothing.
+-- that was split; `range-cut`, of work over a range. They are for n even rolls; `demand3-table`, .. for a lent table of rolls; and `demand3-over`, .. for every
+-- list of 1 to 3,600 rolls: instances of one proof, over n samples and the roll of each. Then that the window listings accept each row of a collected mask,
+-- so that its windows are there to be read. Assumes nothing.
 use mathlib.Core.Path.{_≡_, sym, ap, _∙_, subst}
 use mathlib.Core.Logic.{_↔_}
 use mathlib.Core.Bool.{Bool, true, false}
@@ -20,11 +20,12 @@ use Rattle.buffers.proofs.Tests.{flag-le, flag-one}
 use Rattle.solar_roll.specs.Plan.{mostTimes, Plan, rowsOf, timesOf, violatesAt, samplesRefusal, planRefusal}
 use Rattle.solar_roll.proofs.PlanFacts.{nothing-said}
 use Rattle.roll_sweep.specs.Sweep.{Sweep, tried, marked, cellProbes, sweepMask, sweepProbes}
-use Rattle.roll_sweep.specs.Rolls.{evenRoll, evenRolls}
+use Rattle.roll_sweep.specs.Rolls.{evenRoll, evenRolls, tableRefusal}
 use Rattle.roll_sweep.proofs.Chunks.{marked-iff}
 use Rattle.roll_sweep.proofs.Tried.{tried-ext}
 use Rattle.roll_sweep.proofs.Rows.{row-part}
-use Rattle.journal.specs.Plan.{sweepOf, evenSweep}
+use Rattle.roll_sweep.proofs.Tables.{table-samples}
+use Rattle.journal.specs.Plan.{sweepOf, evenSweep, tableSweep}
 use Rattle.journal.proofs.Planned.{even-says}
 use Rattle.journal.proofs.Written.{SweepFacts}
 use Rattle.windows.specs.Windows.{Columns, violationWindows, visibilityWindows}
@@ -33,7 +34,7 @@ use Rattle.windows.specs.Calls.{violationReply, visibilityReply}
 use Rattle.ledger.specs.Machine.{Entry, collect, gathered, answer}
 use Rattle.ledger.specs.Ledger.{Ledger, blank, ledgerJournal}
 use Rattle.ledger.specs.Windows.{Times, rowPart}
-use Rattle.ledger.specs.Demand3.{Distinct, Start, machineAfter, Collected, Demand3Of, Demand3Over, Demand3}
+use Rattle.ledger.specs.Demand3.{Distinct, Start, machineAfter, Collected, Demand3Of, Demand3Over, Demand3, Demand3Table}
 use Rattle.ledger.specs.Split.{splitChunks, splitLines, splitLedger}
 use Rattle.ledger.specs.Range.{RangeKept}
 use Rattle.ledger.proofs.PlanSweep.{Samples, entries, even-samples, accepted-plan, few-times, sample-roll}
@@ -201,3 +202,25 @@ module _ (p : Plan) (n : ℕ) (plan : planRefusal p (samplesRefusal n) false ≡
         → (ledgerJournal (evenSweep p n) (splitLedger (evenSweep p n) runs) ≡ (evenSweep p n) .header ++ splitLines (evenSweep p n) runs)
         × ((es : List Entry) → Demand3 p n times (splitLedger (evenSweep p n) runs) es)
     demand3-split = told-split p (evenRolls n) (samplesRefusal n) plan even times t n (evenRoll n) (even-samples n)
+
+-- ---- document 02's request Five: one accepted plan with a lent table
+
+module _ (p : Plan) (rolls : List Float) (plan : planRefusal p (tableRefusal rolls) false ≡ 0) where
+  held : samplesRefusal (length rolls) ≡ 0
+  held = table-samples rolls (nothing-said p (tableRefusal rolls) false plan)
+
+  pub range-cut-table : (l : Ledger) → Start (tableSweep p rolls) l → (es : List Entry) (from to : ℕ) (x : List ℕ) → RangeKept (tableSweep p rolls) l es from to x
+  range-cut-table = range-cut-over p rolls (tableRefusal rolls) plan held
+
+  module _ (times : List ℤ) (t : Times (timesOf p) times) where
+    pub demand3-table-from : (l : Ledger) → Start (tableSweep p rolls) l → (es : List Entry) → Demand3Table p rolls times l es
+    demand3-table-from = demand3-over-from p rolls (tableRefusal rolls) plan held times t
+
+    -- "A cell is marked exactly when every sample so taken violates it, and windows, cuts and probes follow from that."
+    pub demand3-table : (es : List Entry) → Demand3Table p rolls times blank es
+    demand3-table = demand3-over p rolls (tableRefusal rolls) plan held times t
+
+    pub demand3-table-split : (runs : List (List Entry)) → Distinct (splitChunks (tableSweep p rolls) runs)
+        → (ledgerJournal (tableSweep p rolls) (splitLedger (tableSweep p rolls) runs) ≡ (tableSweep p rolls) .header ++ splitLines (tableSweep p rolls) runs)
+        × ((es : List Entry) → Demand3Table p rolls times (splitLedger (tableSweep p rolls) runs) es)
+    demand3-table-split = demand3-over-split p rolls (tableRefusal rolls) plan held times t

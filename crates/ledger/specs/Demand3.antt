@@ -1,5 +1,6 @@
 -- Demand 3 for a plan and its times. Each clause stands under the customer's words. The journal's calls see a plan p and its rolls as a sweep,
--- `sweepOf p rolls said`, of n even rolls `evenSweep p n`; machine and ledger are that sweep's. Definitions only. Assumes nothing.
+-- `sweepOf p rolls said` (journal: specs/Plan), of n even rolls `evenSweep p n`, of a lent table of rolls `tableSweep p rolls`; machine and ledger are
+-- that sweep's. Definitions only. Assumes nothing.
 use mathlib.Core.Path.{_≡_}
 use mathlib.Core.Logic.{_↔_}
 use mathlib.Core.Bool.{true, false}
@@ -12,7 +13,7 @@ use Rattle.buffers.specs.Ranges.{sum}
 use Rattle.buffers.specs.Refusal.{accepted}
 use Rattle.solar_roll.specs.Plan.{Plan, rowsOf, timesOf, violatesAt}
 use Rattle.roll_sweep.specs.Sweep.{Sweep, cells, chunks, tried}
-use Rattle.roll_sweep.specs.Rolls.{evenRoll}
+use Rattle.roll_sweep.specs.Rolls.{evenRoll, tableRefusal}
 use Rattle.journal.specs.Lines.{headerLength, lineLength}
 use Rattle.journal.specs.Plan.{sweepOf, evenSweep}
 use Rattle.ledger.specs.Machine.{Entry, begin, work, cut, recover, collect, Machine, step, done, gathered, answer, trace, machineRun}
@@ -98,3 +99,7 @@ Demand3Over p rolls said times l es = Demand3Of (sweepOf p rolls said) p (length
 -- document 01's, for a plan of n even rolls: sample k is k times (360 / n)
 abbrev pub Demand3 : Plan → ℕ → List ℤ → Ledger → List Entry → Type 0
 Demand3 p n times l es = Demand3Of (evenSweep p n) p n (evenRoll n) times l es
+
+-- document 02's request Five, for a plan whose rolls are a lent table: sample k is its roll k
+abbrev pub Demand3Table : Plan → List Float → List ℤ → Ledger → List Entry → Type 0
+Demand3Table p rolls times l es = Demand3Over p rolls (tableRefusal rolls) times l es

@@ -36,3 +36,5 @@ pub(crate) const RESULT: u64 = 16;
 pub(crate) const SECONDS: u64 = 17;
 
 pub(crate) const VECTORS: u64 = 18;
+
+pub(crate) const TABLE: u64 = 19;

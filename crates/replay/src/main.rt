@@ -8,6 +8,7 @@ mod kinds;
 mod plans;
 mod positions;
 mod rows;
+mod tables;
 mod words;
 
 use kinds::AT_FIXED;
@@ -26,6 +27,7 @@ use kinds::RESULT;
 use kinds::ROW;
 use kinds::SECONDS;
 use kinds::SWEEP;
+use kinds::TABLE;
 use kinds::VECTORS;
 use kinds::VIOLATIONS;
 use kinds::VISIBILITY;
@@ -46,7 +48,7 @@ fn agrees(given: &[u64; 256], asked: &[u64; 256]) -> bool {
     if kind == DIFFERENCE {
         return difference(asked);
     }
-    if kind <= FIELD_AT_ROLL {
+    if kind <= FIELD_AT_ROLL || kind == TABLE {
         return plan(given, asked);
     }
     if kind <= VISIBILITY {
@@ -58,25 +60,25 @@ fn agrees(given: &[u64; 256], asked: &[u64; 256]) -> bool {
     windows(given, asked)
 }
 
-// Where a kind's answers are counted; those that differ are 19 places later. At 0, which gives and does not ask, stands what is of
+// Where a kind's answers are counted; those that differ are 20 places later. At 0, which gives and does not ask, stands what is of
 // no kind.
 fn place(kind: u64) -> usize
-    ensures { λ r. ⌜ r < 19 ⌝ }
+    ensures { λ r. ⌜ r < 20 ⌝ }
 {
-    if kind <= VECTORS { kind as usize } else { 0 }
+    if kind <= TABLE { kind as usize } else { 0 }
 }
 
-fn count(given: &[u64; 256], asked: &[u64; 256], counts: &mut [u64; 38]) {
+fn count(given: &[u64; 256], asked: &[u64; 256], counts: &mut [u64; 40]) {
     let k = place(asked[0]);
     counts[k] = wrapping_add_u64(counts[k], 1);
     if !agrees(given, asked) {
-        let d = k + 19;
+        let d = k + 20;
         counts[d] = wrapping_add_u64(counts[d], 1);
     }
 }
 
 // A word ends with a space or with its line.
-fn replay(text: &[u8], counts: &mut [u64; 38]) {
+fn replay(text: &[u8], counts: &mut [u64; 40]) {
     let mut given = [UNWRITTEN; 256];
     let mut asked = [UNWRITTEN; 256];
     let mut words: u64 = 0;
@@ -105,7 +107,7 @@ fn replay(text: &[u8], counts: &mut [u64; 38]) {
     }
 }
 
-fn replay_file(name: &[u8], counts: &mut [u64; 38]) {
+fn replay_file(name: &[u8], counts: &mut [u64; 40]) {
     let mut buffer = io::large_buffer();
     let fd = os::open_read(name);
     let length = io::read_full(fd, &mut buffer);
@@ -113,16 +115,16 @@ fn replay_file(name: &[u8], counts: &mut [u64; 38]) {
     replay(&buffer[..length], counts);
 }
 
-fn show(name: &[u8], kind: u64, counts: &[u64; 38]) {
+fn show(name: &[u8], kind: u64, counts: &[u64; 40]) {
     let k = place(kind);
     io::write_all(STDOUT_FILENO, name);
     io::print_decimal(STDOUT_FILENO, counts[k]);
     io::write_all(STDOUT_FILENO, b" answers, ");
-    io::print_decimal(STDOUT_FILENO, counts[k + 19]);
+    io::print_decimal(STDOUT_FILENO, counts[k + 20]);
     io::write_all(STDOUT_FILENO, b" differ\n");
 }
 
-fn show_rolls(counts: &[u64; 38]) {
+fn show_rolls(counts: &[u64; 40]) {
     show(b"differences: ", DIFFERENCE, counts);
     show(b"cells, Free or a roll: ", CELL, counts);
     show(b"named values: ", NAMED_VALUES, counts);
@@ -130,7 +132,7 @@ fn show_rolls(counts: &[u64; 38]) {
     show(b"sweeps with probes: ", SWEEP, counts);
 }
 
-fn show_masks(counts: &[u64; 38]) {
+fn show_masks(counts: &[u64; 40]) {
     show(b"masks at the configured roll: ", BATCH, counts);
     show(b"masks at a sweep's roll: ", AT_SWEEP, counts);
     show(b"masks at a fixed roll: ", AT_FIXED, counts);
@@ -139,7 +141,7 @@ fn show_masks(counts: &[u64; 38]) {
     show(b"fields of regard at a roll: ", FIELD_AT_ROLL, counts);
 }
 
-fn show_windows(counts: &[u64; 38]) {
+fn show_windows(counts: &[u64; 40]) {
     show(b"violation windows: ", VIOLATIONS, counts);
     show(b"visibility windows of a mask: ", VISIBILITY, counts);
     show(b"visibility windows of a result: ", RESULT, counts);
@@ -149,16 +151,18 @@ fn show_windows(counts: &[u64; 38]) {
 }
 
 fn main() {
-    let mut counts = [0u64; 38];
+    let mut counts = [0u64; 40];
     replay_file(b"section-2", &mut counts);
     replay_file(b"section-3", &mut counts);
     replay_file(b"section-5", &mut counts);
     replay_file(b"section-6", &mut counts);
     replay_file(b"any-targets", &mut counts);
     replay_file(b"catalogue", &mut counts);
+    replay_file(b"table", &mut counts);
     show_rolls(&counts);
     show_masks(&counts);
     show_windows(&counts);
     show(b"vectors of catalogue positions: ", VECTORS, &counts);
+    show(b"sweeps with probes, by a table: ", TABLE, &counts);
     show(b"of no kind: ", GIVEN, &counts);
 }

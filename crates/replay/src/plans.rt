@@ -8,6 +8,8 @@ use crate::kinds::FIELD;
 use crate::kinds::NAMED_VALUES;
 use crate::kinds::ROW;
 use crate::kinds::SWEEP;
+use crate::kinds::TABLE;
+use crate::tables::sweep_by_table;
 use crate::words::UNWRITTEN;
 use crate::words::accepted;
 use crate::words::numbers;
@@ -120,6 +122,15 @@ fn asked_of_plan(
             configured,
             panels,
         ),
+        TABLE => sweep_by_table(
+            asked,
+            targets,
+            suns,
+            observers,
+            tolerances,
+            configured,
+            panels,
+        ),
         _ => section_6(
             asked,
             targets,
@@ -214,7 +225,7 @@ fn row(
 }
 
 // The used length that a call of the journal left.
-fn used(answer: Answer) -> u64 {
+pub(crate) fn used(answer: Answer) -> u64 {
     match answer {
         Answer::Accepted(used) => used,
         Answer::Refused(_) => 0,

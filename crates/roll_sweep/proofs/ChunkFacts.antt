@@ -4,7 +4,7 @@ use mathlib.Core.Bool.{Bool, true, false, cond, _&&_}
 use Prim.Native.Nat.{ℕ, zero, suc, _+_, _*_, _≤_, _<_}
 use native.Mathlib.Omega.{arith}
 use lib.Dec.{eqb, leb, lit<}
-use borrow.Author.Tests.{eqb-false, leb-true, leb-false, ne-eqb, lt-leb}
+use borrow.Author.Tests.{eqb-false, leb-true, leb-false, ne-eqb, lt-leb, le-leb}
 use Rattle.buffers.specs.Refusal.{accepted}
 use Rattle.buffers.proofs.Refusal.{first-none, first-skip, first-clear, carried-skip, carried-clear}
 use Rattle.buffers.proofs.Tests.{and-left, and-right}
@@ -26,6 +26,11 @@ pub record ChunkFacts (rows times units samples c : ℕ) : Type 0 where
   pub most : samples ≤ mostSamples
   pub exists : c < chunks (rows * times)
 
+-- what is not 0 is positive
+pub some : (n : ℕ) → (n ≡ 0 → ⊥) → 0 < n
+some zero h = absurd (h refl)
+some (suc n) h = omega arith
+
 -- 1 to 3,600 samples
 pub samples-within : (n : ℕ) → samplesRefusal n ≡ 0 → (1 ≤ n) × (n ≤ mostSamples)
 unfolding samplesRefusal
@@ -36,6 +41,10 @@ samples-within n e =
     go : (b : Bool) → _≡_ {A = ℕ} (cond b 0 3) 0 → b ≡ true
     go true e = refl
     go false e = absurd (omega arith)
+
+pub samples-passed : (n : ℕ) → 1 ≤ n → n ≤ mostSamples → samplesRefusal n ≡ 0
+unfolding samplesRefusal
+samples-passed n h l = simp (le-leb 1 n h, le-leb n mostSamples l)
 
 pub chunk-facts : (rows times units samples c : ℕ) → chunkRefusal rows times units samples c ≡ 0 → ChunkFacts rows times units samples c
 unfolding chunkRefusal
@@ -55,10 +64,6 @@ chunk-facts rows times units samples c h =
       most = s .1;
       exists = leb-false _ _ (c3 .0);
     }
-  where
-    some : (n : ℕ) → (n ≡ 0 → ⊥) → 0 < n
-    some zero h = absurd (h refl)
-    some (suc n) h = omega arith
 
 -- its first cell
 pub first-below : {rows times units samples c : ℕ} → ChunkFacts rows times units samples c → 64 * c < rows * times

@@ -7,3 +7,4 @@ pub mod Even
 pub mod Swept
 pub mod Cells
 pub mod ChunkFacts
+pub mod Tables

@@ -17,6 +17,7 @@ pub use cell::roll_in;
 pub use cell::violated;
 pub use plan::MOST_CELLS;
 pub use plan::MOST_ROWS;
+pub use plan::MOST_SAMPLES;
 pub use plan::MOST_TIMES;
 pub use plan::SolarRollConfig;
 pub use plan::direction;

@@ -10,15 +10,14 @@ ghost use Rattle.solar_roll.specs.Roll.{panelOf};
 ghost use Rattle.solar_roll.specs.Plan.{Plan, planOf, triple, rowDirection, rowPanel, rowConfig};
 ghost use Rattle.solar_roll.specs.Plan.{unlikeLengths, tooMany, samplesRefusal, samplesOrNoneRefusal, sizesRefusal, planRefusal};
 
-// The most rows, times and cells of a plan.
+// The most rows, times and cells of a plan, and the most samples of a sweep.
 pub const MOST_ROWS: usize = 65_536;
 
 pub const MOST_TIMES: usize = 65_536;
 
 pub const MOST_CELLS: usize = 1_048_576;
 
-// The largest n.
-const MOST_SAMPLES: u64 = 3_600;
+pub const MOST_SAMPLES: usize = 3_600;
 
 // The settings of a row.
 pub struct SolarRollConfig {
@@ -116,14 +115,14 @@ pub fn samples_refusal(n: u64) -> u64
     if n < 1 {
         return 3;
     }
-    if MOST_SAMPLES < n { 3 } else { 0 }
+    if (MOST_SAMPLES as u64) < n { 3 } else { 0 }
 }
 
 // 3 for more than 3,600 samples, else 0.
 pub fn samples_or_none_refusal(n: u64) -> u64
     ensures { λ r. ⌜ r ≡ samplesOrNoneRefusal n ⌝ }
 {
-    if MOST_SAMPLES < n { 3 } else { 0 }
+    if (MOST_SAMPLES as u64) < n { 3 } else { 0 }
 }
 
 // 1 and 2, of the lists' lengths; 0 for none. `beyond` says that a used length lies beyond its buffer.

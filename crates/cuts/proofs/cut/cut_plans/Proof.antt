@@ -10,7 +10,7 @@ abbrev Inv-loop : tie.InvT-loop
 Inv-loop whole₀ tally₀ p₀ t4 whole tally p = length whole ≡ 240
 
 abbrev μ-loop : tie.MeasureT-loop
-μ-loop whole₀ tally₀ p₀ t4 whole tally p = 9 - p
+μ-loop whole₀ tally₀ p₀ t4 whole tally p = 10 - p
 
 loop-holds : tie.Need-loop-holds Inv-loop μ-loop
 loop-holds c = search needs
