@@ -10,7 +10,7 @@ struct Patch {
     times: usize,
 }
 
-const PATCHES: [Patch; 11] = [
+const PATCHES: [Patch; 12] = [
     // Document 01, section 1: the harness patches f64::atan2.
     Patch { file: "src/constraints/solar_roll.rs", from: "f64::atan2(", to: "crate::patch::atan2(", times: 2 },
     // Document 02, request Three: `solar_optimal_roll_deg` folds its roll. This is its last expression after the patch above.
@@ -44,6 +44,13 @@ const PATCHES: [Patch; 11] = [
         from: "pub fn radec_to_unit_vectors_batch(ras_deg: &[f64], decs_deg: &[f64]) -> Array2<f64> {",
         to: "pub fn radec_to_unit_vectors_batch(ras_deg: &[f64], decs_deg: &[f64]) -> Array2<f64> { \
              if let Some(v) = crate::patch::vectors(ras_deg) { return v; }",
+        times: 1,
+    },
+    // Document 02, request Five: `sweep` is run with the rolls of a table in place of its own.
+    Patch {
+        file: "src/constraints/roll_sweep.rs",
+        from: "step as f64 * (360.0 / n_roll_samples as f64)",
+        to: "crate::patch::sample(step, || step as f64 * (360.0 / n_roll_samples as f64))",
         times: 1,
     },
     // docs/DIFFERENCES.md: a Python datetime holds microseconds.

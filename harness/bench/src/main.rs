@@ -39,6 +39,7 @@ const ENTRIES: &[Entry] = &[
     ("sweep-3600-180", |name, t| sweeps::sweep_case(name, (t, TIMES), 3600, 180.0, PER_CELL)),
     ("sweep-1-10", |name, t| sweeps::sweep_case(name, (t, TIMES), 1, 10.0, PER_CELL)),
     ("sweep-1-90", |name, t| sweeps::sweep_case(name, (t, TIMES), 1, 90.0, PER_CELL)),
+    ("sweep-table-72", |name, t| sweeps::table_case(name, (t, TIMES), 72, 10.0, Limit::Ratio(1.05))),
     ("named", |name, t| sweeps::named_case(name, (t, TIMES), true, PER_CELL)),
     ("named-libm", |name, t| sweeps::named_case(name, (t, TIMES), false, Limit::None)),
     ("mask", |name, t| sweeps::mask_case(name, (t, TIMES), 90.0, PER_CELL)),

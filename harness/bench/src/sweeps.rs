@@ -1,8 +1,8 @@
 //! The sweep, named values and the mask at one roll: the library's calls and the original's.
 use crate::case::{side, Case, Limit, Side};
 use crate::inputs;
-use checks::lent;
-use model::{Plan, Roll};
+use checks::{lent, rolls};
+use model::{plan::Rolls, Plan, Roll};
 use oracle::{patch, Whole};
 use std::rc::Rc;
 use wilfnusk::{CHUNK_CELLS, HEADER_BYTES, LINE_BYTES};
@@ -12,9 +12,9 @@ const LINE: usize = LINE_BYTES as usize;
 
 /// A whole sweep, begin and then every chunk in order, into a journal of just the length.
 pub fn sweep(plan: &Plan, journal: &mut [u8]) {
-    let (lent, n, chunks) = (lent(plan), plan.even_n(), chunks(plan));
-    let used = lent.begin(n, journal, 0).unwrap();
-    let (end, stopped) = lent.work_range(n, 0..chunks, journal, used).unwrap();
+    let (lent, rolls, chunks) = (lent(plan), rolls(plan), chunks(plan));
+    let used = lent.begin(rolls, journal, 0).unwrap();
+    let (end, stopped) = lent.work_range(rolls, 0..chunks, journal, used).unwrap();
     assert_eq!((end, stopped), (journal.len() as u64, chunks));
 }
 
@@ -36,7 +36,7 @@ fn port_sweep(plan: Rc<Plan>) -> Box<dyn Side> {
     let (p, q) = (plan.clone(), plan.clone());
     let collected = move |journal: &Vec<u8>| {
         let mut mask = vec![0; plan.cells()];
-        let probes = lent(&plan).collect(plan.even_n(), journal, journal.len() as u64, &mut mask).unwrap();
+        let probes = lent(&plan).collect(rolls(&plan), journal, journal.len() as u64, &mut mask).unwrap();
         (mask, probes)
     };
     let again = collected.clone();
@@ -65,6 +65,21 @@ pub fn sweep_case(name: &'static str, (targets, times): (usize, usize), n: u64, 
         mask: true,
         other: Some(original_sweep(&plan)),
         port: port_sweep(plan),
+    }
+}
+
+/// A sweep over its even steps lent as a table, which is the same work, against the even steps themselves: both sides are the library's.
+pub fn table_case(name: &'static str, (targets, times): (usize, usize), n: u64, tolerance_deg: f64, limit: Limit) -> Case {
+    let even = inputs::plan(targets, times, n, tolerance_deg);
+    let table = Plan { rolls: Rolls::Table(even.all_rolls()), ..even.clone() };
+    Case {
+        name,
+        title: format!("sweep over a table of {n}, tolerance {tolerance_deg}, against even steps"),
+        unit: "probe",
+        limit,
+        mask: true,
+        other: Some(port_sweep(Rc::new(even))),
+        port: port_sweep(Rc::new(table)),
     }
 }
 

@@ -1,10 +1,12 @@
 //! Plans: poles, zero vectors, the Sun on the boresight and close to it, the Sun at the observer, signed zeros, panels without y-z part,
-//! tolerances at exact distances, NaN and infinite tolerances and rolls; and plans whose rolls are at whole, half, quarter and eighth turns.
+//! tolerances at exact distances, NaN and infinite tolerances and rolls; plans whose rolls are at whole, half, quarter and eighth turns; and tables
+//! of rolls: even steps, close ones, neighbouring floats, of every size, from either zero to the number below 360.
 use crate::catalogue::beside;
 use crate::Seeded;
 use model::plan::{is_unit, Rolls};
 use model::roll::{difference, optimal_roll, sun_unit};
 use model::{arithmetic::remainder, Plan};
+use std::collections::BTreeSet;
 
 type Vector = [f64; 3];
 
@@ -172,7 +174,7 @@ fn panel(s: &mut Seeded) -> Vector {
     }
 }
 
-/// Rows times columns; `for_sweep` or `for_roll` gives it tolerances, and a sweep its rolls.
+/// Rows times columns; `for_sweep`, `for_rolls` or `for_roll` gives it tolerances, and a sweep its rolls.
 pub fn plan(s: &mut Seeded, targets: Targets, rows: usize, times: usize) -> Plan {
     let (suns, observers): (Vec<Vector>, Vec<Vector>) = (0..times).map(|_| positions(s)).unzip();
     let targets: Vec<Vector> = (0..rows).map(|_| target(s, targets, &suns, &observers)).collect();
@@ -213,7 +215,7 @@ fn at_a_turn(s: &mut Seeded) -> Vector {
 }
 
 /// Rows times columns, with rolls at eighths of a turn and just off them. Before the folding some are -360, some 360, -0, or so little below 0 that
-/// 360 more is 360. `for_sweep` or `for_roll` gives it tolerances, and a sweep its rolls.
+/// 360 more is 360. `for_sweep`, `for_rolls` or `for_roll` gives it tolerances, and a sweep its rolls.
 pub fn at_turns(s: &mut Seeded, rows: usize, times: usize) -> Plan {
     let target = |s: &mut Seeded| if s.once_in(4) { axis(s) } else { [1.0, 0.0, 0.0] };
     let panel = if s.once_in(2) { at_a_turn(s) } else { [0.0, s.one_of(&[1.0, -1.0]), signed_zero(s)] };
@@ -288,30 +290,184 @@ fn tolerances(s: &mut Seeded, plan: &mut Plan, entries: Entries, draw: impl Fn(&
     };
 }
 
-/// Settings for a sweep of n rolls: without a configured roll mostly a tolerance below 180 / n, as a larger one marks nothing.
+/// How a table's rolls are spread.
+#[derive(Clone, Copy, PartialEq, Debug)]
+pub enum Spread {
+    /// The even steps of its length.
+    Even,
+    Anywhere,
+    /// Over a part of the turn, so that many cells are far from all of them.
+    Arc,
+    /// About a few, some of them rolls of cells: neighbouring floats, and close ones.
+    Clusters,
+    /// Every size alike, down to the smallest.
+    Sizes,
+}
+
+pub const SPREADS: [Spread; 5] = [Spread::Even, Spread::Anywhere, Spread::Arc, Spread::Clusters, Spread::Sizes];
+
+/// The largest roll of a table.
+pub const BELOW_360: f64 = f64::from_bits(0x4076_7fff_ffff_ffff);
+
+/// So many rolls, which are accepted. Those that are not even steps begin with a zero once in four times, of either sign, and as often end with
+/// the largest.
+pub fn table(s: &mut Seeded, plan: &Plan, spread: Spread, length: usize) -> Vec<f64> {
+    if spread == Spread::Even {
+        return Plan { rolls: Rolls::Even(length as u64), ..Plan::default() }.all_rolls();
+    }
+    let centres = [some_roll(s, plan), some_roll(s, plan), s.between(0.0, 360.0), s.one_of(&[0.0, BELOW_360])];
+    let (start, width) = (s.between(0.0, 360.0), s.one_of(&[1.0, 40.0, 200.0]));
+    // Bits of numbers from 0 up: in the order of the numbers.
+    let mut rolls = BTreeSet::new();
+    for end in [BELOW_360, 0.0] {
+        if s.once_in(4) && rolls.len() < length {
+            rolls.insert(end.to_bits());
+        }
+    }
+    while rolls.len() < length {
+        let roll = match spread {
+            Spread::Even => unreachable!("given above"),
+            Spread::Anywhere => s.between(0.0, 360.0),
+            Spread::Arc => remainder(start + width * s.unit(), 360.0),
+            Spread::Clusters => {
+                let (centre, steps) = (s.one_of(&centres), s.below(2 * length as u64) as i64 - length as i64);
+                if s.once_in(4) {
+                    centre + s.between(-1e-3, 1e-3)
+                } else {
+                    beside(centre, steps)
+                }
+            }
+            Spread::Sizes => f64::from_bits(s.below(360f64.to_bits())),
+        };
+        if (0.0..360.0).contains(&roll) {
+            rolls.insert(roll.abs().to_bits());
+        }
+    }
+    let mut table: Vec<f64> = rolls.into_iter().map(f64::from_bits).collect();
+    if table[0] == 0.0 {
+        table[0] = signed_zero(s);
+    }
+    table
+}
+
+/// What a table can have that is special.
+pub const SPECIAL: [(&str, fn(&[f64]) -> bool); 6] = [
+    ("begin with 0", |table| table[0].to_bits() == 0),
+    ("begin with -0", |table| table[0].to_bits() == 1 << 63),
+    ("end with the number below 360", |table| table[table.len() - 1] == BELOW_360),
+    ("have neighbouring floats", |table| table.windows(2).any(|pair| pair[1].to_bits() == pair[0].to_bits() + 1)),
+    ("have subnormals", |table| table.iter().any(|roll| roll.is_subnormal())),
+    ("lie within half a turn", |table| table.len() > 1 && table[table.len() - 1] - table[0] < 180.0),
+];
+
+/// Tables, each with the number that request Five refuses it by, 0 for none: every rule broken by the only roll, the first, one between and the
+/// last, of few rolls and of the most.
+pub fn listed_tables() -> Vec<(u8, Vec<f64>)> {
+    const NAN: f64 = f64::NAN;
+    const SHORT: [(u8, &[f64]); 27] = [
+        (0, &[-0.0]),
+        (0, &[0.0]),
+        (0, &[5e-324]),
+        (0, &[BELOW_360]),
+        (0, &[-0.0, 5e-324]),
+        (0, &[0.0, 5e-324, BELOW_360]),
+        (18, &[]),
+        // 0 is not above -0, nor -0 above 0.
+        (19, &[-0.0, 0.0]),
+        (19, &[0.0, -0.0]),
+        (19, &[0.0, 0.0]),
+        (19, &[NAN]),
+        (19, &[NAN, 1.0]),
+        (19, &[1.0, NAN]),
+        (19, &[1.0, NAN, 2.0]),
+        (19, &[360.0]),
+        (19, &[1.0, 360.0]),
+        (19, &[BELOW_360, 360.0]),
+        (19, &[-5e-324]),
+        (19, &[-5e-324, 0.0]),
+        (19, &[-10.0, 10.0]),
+        (19, &[f64::INFINITY]),
+        (19, &[1.0, f64::INFINITY]),
+        (19, &[f64::NEG_INFINITY]),
+        (19, &[2.0, 1.0]),
+        (19, &[3.0, 1.0, 2.0]),
+        (19, &[1.0, 3.0, 2.0]),
+        (19, &[1.0, 2.0, 2.0]),
+    ];
+    // A hundredth of a degree apart.
+    let rising = |length: usize| -> Vec<f64> { (0..length).map(|k| k as f64 / 100.0).collect() };
+    let with = |k: usize, roll: f64| {
+        let mut table = rising(3600);
+        table[k] = roll;
+        table
+    };
+    let long = [
+        (0, rising(3600)),
+        (0, with(3599, BELOW_360)),
+        (18, rising(3601)),
+        // Of the length, though each roll is refused too.
+        (18, vec![NAN; 3601]),
+        (18, vec![400.0; 5000]),
+        (19, with(0, NAN)),
+        (19, with(0, -1.0)),
+        (19, with(1800, NAN)),
+        (19, with(1800, 17.99)),
+        (19, with(3599, NAN)),
+        (19, with(3599, 35.98)),
+        (19, with(3599, 360.0)),
+    ];
+    SHORT.into_iter().map(|(number, table)| (number, table.to_vec())).chain(long).collect()
+}
+
+/// The farthest that a roll can be from the nearest of a plan's rolls: half of the widest gap.
+pub fn farthest(plan: &Plan) -> f64 {
+    match &plan.rolls {
+        Rolls::Even(n) => 180.0 / *n as f64,
+        Rolls::Table(table) => {
+            let over_zero = table[0] + 360.0 - table[table.len() - 1];
+            table.windows(2).map(|pair| pair[1] - pair[0]).fold(over_zero, f64::max) / 2.0
+        }
+    }
+}
+
+/// From a roll to the nearest of a plan's rolls.
+fn nearest(plan: &Plan, roll: f64) -> f64 {
+    match &plan.rolls {
+        Rolls::Even(_) => {
+            let step = 2.0 * farthest(plan);
+            let phase = remainder(roll, step);
+            phase.min(step - phase)
+        }
+        Rolls::Table(table) => table.iter().map(|&sample| difference(sample, roll)).fold(f64::INFINITY, f64::min),
+    }
+}
+
+/// Settings for a sweep of n even steps.
 pub fn for_sweep(s: &mut Seeded, plan: &mut Plan, n: u64, entries: Entries) {
-    let half = 180.0 / n as f64;
-    plan.rolls = Rolls::Even(n);
+    for_rolls(s, plan, Rolls::Even(n), entries);
+}
+
+/// Settings for a sweep of these rolls: without a configured roll mostly a tolerance below `farthest`, as a larger one marks nothing.
+pub fn for_rolls(s: &mut Seeded, plan: &mut Plan, rolls: Rolls, entries: Entries) {
+    plan.rolls = rolls;
     plan.roll_deg = s.once_in(5).then(|| roll(s, plan));
     if plan.roll_deg.is_some() {
         return for_roll(s, plan, entries);
     }
+    let farthest = farthest(plan);
     tolerances(s, plan, entries, |s, plan, row| {
-        // Of some cell of the row to the nearest sample.
-        let distance = |s: &mut Seeded| {
-            let phase = remainder(roll_in_row(s, plan, row), 2.0 * half);
-            phase.min(2.0 * half - phase)
-        };
+        // Of some cell of the row.
+        let distance = |s: &mut Seeded| nearest(plan, roll_in_row(s, plan, row));
         match s.below(16) {
             0 => odd_tolerance(s),
-            1 => s.between(half, 200.0),
-            2 => half,
+            1 => s.between(farthest, 200.0),
+            2 => farthest,
             3 => -s.unit(),
             // Met exactly by some cell: not beyond it.
-            4 => difference(plan.roll(s.below(n)), roll_in_row(s, plan, row)),
+            4 => difference(plan.roll(s.below(plan.n())), roll_in_row(s, plan, row)),
             5 | 6 => distance(s),
             7..=10 => between_two(s, distance),
-            _ => s.unit() * half,
+            _ => s.unit() * farthest,
         }
     });
 }
@@ -366,6 +522,7 @@ mod tests {
     use super::*;
     use model::arithmetic::bits;
     use model::journal::Sweep;
+    use model::plan::Third;
     use model::roll::folded;
 
     #[test]
@@ -388,6 +545,15 @@ mod tests {
     }
 
     #[test]
+    fn tables_are_refused_as_listed() {
+        let good = Plan { panels: vec![0.0, 1.0, 0.0], ..Plan::default() };
+        for (number, table) in listed_tables() {
+            let p = Plan { rolls: Rolls::Table(table), ..good.clone() };
+            assert_eq!(p.refusal(Third::Sweep, false).err().unwrap_or(0), number, "{:?}", p.rolls);
+        }
+    }
+
+    #[test]
     fn even_steps_lent_as_a_table_give_the_same_journal() {
         let mut s = Seeded::new(2);
         for k in 0..300 {
@@ -395,10 +561,31 @@ mod tests {
             let n = samples(&mut s);
             for_sweep(&mut s, &mut p, n, Entries::Either);
             let even = Sweep::new(p.clone()).expect("accepted");
-            p.rolls = Rolls::Table((0..n).map(|k| p.roll(k)).collect());
+            p.rolls = Rolls::Table(p.all_rolls());
             let table = Sweep::new(p).expect("accepted");
             let [even, table] = [even, table].map(|sweep| (sweep.header, sweep.lines, sweep.mask, sweep.probes));
             assert!(even == table, "plan {k}, n {n}");
+        }
+    }
+
+    /// Every length at which a library may change how it works, and each kind of roll that a table can hold.
+    #[test]
+    fn tables_are_accepted_and_of_every_kind() {
+        let mut s = Seeded::new(5);
+        let mut tables = Vec::new();
+        for spread in SPREADS {
+            for length in [1, 2, 3, 64, 65, 3599, 3600].repeat(if spread == Spread::Even { 1 } else { 40 }) {
+                let mut p = plan(&mut s, Targets::Any, 2, 3);
+                let table = table(&mut s, &p, spread, length);
+                assert_eq!(table.len(), length, "{spread:?}");
+                for_rolls(&mut s, &mut p, Rolls::Table(table.clone()), Entries::Own);
+                assert_eq!(p.refusal(Third::Sweep, false), Ok(()), "{spread:?} {table:?}");
+                tables.push(table);
+            }
+        }
+        for (what, is) in SPECIAL {
+            let found = tables.iter().filter(|table| is(table)).count();
+            assert!(found >= 50, "{found} tables {what}");
         }
     }
 
@@ -407,20 +594,27 @@ mod tests {
     fn many_rows_are_both_marked_and_clear() {
         for entries in [Entries::Own, Entries::Equal] {
             let mut s = Seeded::new(3);
-            let (mut rows, mut swept, mut at_roll) = (0, 0, 0);
+            let (mut rows, mut swept, mut by_table, mut at_roll) = (0, 0, 0, 0);
             let both = |row: &[u8]| row.contains(&0) as u64 * row.contains(&1) as u64;
-            for _ in 0..2000 {
+            let both_swept = |p: &Plan| -> u64 {
+                let mask: Vec<u8> = p.sweep().iter().map(|cell| cell.0 as u8).collect();
+                mask.chunks(10).map(both).sum()
+            };
+            for k in 0..2000 {
                 let mut p = plan(&mut s, Targets::Unit, 6, 10);
                 let n = samples(&mut s).min(72);
                 for_sweep(&mut s, &mut p, n, entries);
-                let mask: Vec<u8> = p.sweep().iter().map(|cell| cell.0 as u8).collect();
-                swept += mask.chunks(10).map(both).sum::<u64>();
+                swept += both_swept(&p);
+                let table = table(&mut s, &p, SPREADS[k % SPREADS.len()], n as usize);
+                for_rolls(&mut s, &mut p, Rolls::Table(table), entries);
+                by_table += both_swept(&p);
                 p.roll_deg = Some(s.between(0.0, 360.0));
                 for_roll(&mut s, &mut p, entries);
                 at_roll += p.in_constraint_batch(60).expect("accepted").chunks(10).map(both).sum::<u64>();
                 rows += 6;
             }
-            assert!(5 * swept.min(at_roll) > 2 * rows, "{entries:?}: {swept} and {at_roll} of {rows} rows");
+            let least = swept.min(by_table).min(at_roll);
+            assert!(5 * least > 2 * rows, "{entries:?}: {swept}, {by_table} and {at_roll} of {rows} rows");
         }
     }
 

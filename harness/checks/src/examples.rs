@@ -1,6 +1,6 @@
 //! Document 01's examples: what is asked, and the answer that it prints. Beside its own list, the bits and roots that section 1 names, and
 //! what it rules out. Apart from them what document 02's request One says of sine, cosine and catalogue positions, what request Three says of
-//! rolls, and what request Four says of sizes, worked out by hand.
+//! rolls, what request Four says of sizes, and what request Five says of tables, worked out by hand.
 use crate::Calls;
 use model::arithmetic::{bits, P};
 use model::cost::{Extreme, Extreme::Cheapest, Extreme::Costliest, Size};
@@ -43,21 +43,32 @@ pub enum Asked {
     Written(Extreme, u64, u64, u64),
     /// The sum of probes of its sweep.
     Tried(Extreme, u64, u64, u64),
+    /// Mask and sum of probes of that journal's plan swept over this table, with this configured roll.
+    SweptOver(&'static [f64], Option<f64>),
+    /// That journal over this table.
+    TableJournal(&'static [f64]),
 }
 
-/// The header's fields, whose widths section 4 gives (the printed header has four zeros more), and the line.
-const JOURNAL: &str = concat!(
-    "000000010000000200000001",
-    "4024000000000000",
-    "00",
-    "0000000000000000",
-    "0000000000000000",
-    "3ff0000000000000",
-    "0000000000000000",
-    "\n",
-    "00000000000000000000000200000002",
-    "\n"
-);
+/// The example's journal, of n and the line: the header's fields have section 4's widths (the printed header has four zeros more).
+macro_rules! journal {
+    ($n:literal, $line:literal) => {
+        concat!(
+            "0000000100000002",
+            $n,
+            "4024000000000000",
+            "00",
+            "0000000000000000",
+            "0000000000000000",
+            "3ff0000000000000",
+            "0000000000000000",
+            "\n",
+            $line,
+            "\n"
+        )
+    };
+}
+
+const JOURNAL: &str = journal!("00000001", "00000000000000000000000200000002");
 
 pub const EXAMPLES: [(Asked, &str); 29] = [
     (Difference(350.0, 10.0), "20"),
@@ -175,6 +186,30 @@ pub const REQUEST_FOUR: [(Asked, &str); 20] = [
     (Tried(Cheapest, 9, 0, 7), "0"),
 ];
 
+/// The optimal rolls of the two cells are 0 and 90, the tolerance is 10.
+pub const REQUEST_FIVE: [(Asked, &str); 12] = [
+    (SweptOver(&[15.0, 80.0], None), "10 4"),
+    (SweptOver(&[80.0, 350.0], None), "00 3"),
+    (SweptOver(&[79.0, 349.0], None), "11 4"),
+    // The first roll that clears a cell is the last tried for it.
+    (SweptOver(&[5.0, 95.0, 185.0, 275.0], None), "00 3"),
+    // One even step.
+    (SweptOver(&[0.0], None), "01 2"),
+    (SweptOver(&[-0.0], None), "01 2"),
+    // The last rolls whose difference rounds to 10, which meets the tolerance, and the floats beside them.
+    (SweptOver(&[10.000000000000014, 79.99999999999997], None), "00 3"),
+    (SweptOver(&[10.000000000000016, 79.99999999999996], None), "11 4"),
+    // The number below 360.
+    (SweptOver(&[100.0, 359.99999999999994], None), "00 3"),
+    // A configured roll stands for each.
+    (SweptOver(&[0.0, 5.0, 7.0], Some(90.0)), "10 4"),
+    (SweptOver(&[85.0], Some(f64::NAN)), "00 2"),
+    (TableJournal(&[15.0, 80.0]), TABLE_JOURNAL),
+];
+
+/// The header's n is 2; the first cell is marked.
+const TABLE_JOURNAL: &str = journal!("00000002", "00000000000000000000000100000004");
+
 /// The examples' target and panel, with a Sun a time, seen from 0; n is 1.
 pub fn plan(suns: &[[f64; 3]], tolerance_deg: f64) -> Plan {
     Plan {
@@ -196,6 +231,11 @@ pub fn long_row(sun: [f64; 3], panel: [f64; 3]) -> Plan {
 /// The plan of the example's journal.
 pub fn journal_plan() -> Plan {
     plan(&[[0.0, 1.0, 0.0], [0.0, 0.0, 1.0]], 10.0)
+}
+
+/// The same over a table.
+pub fn table_plan(table: &[f64], roll_deg: Option<f64>) -> Plan {
+    Plan { rolls: plan::Rolls::Table(table.to_vec()), roll_deg, ..journal_plan() }
 }
 
 /// A row's mask, and times for it.
@@ -238,6 +278,12 @@ pub fn extreme_plan(calls: &dyn Calls, extreme: Extreme, size: Size) -> Answer<P
     calls.extreme_plan(extreme, size, size.places().map(|places| places as usize))
 }
 
+/// Mask and sum of probes of a plan of one chunk.
+fn swept(calls: &dyn Calls, plan: &Plan) -> Answer<String> {
+    let (_, mask, sum) = calls.swept(plan, &[0])?;
+    Ok(format!("{} {sum}", marks(&mask)))
+}
+
 /// What an implementation says, as document 01 prints it.
 pub fn answer(calls: &dyn Calls, asked: Asked) -> Answer<String> {
     Ok(match asked {
@@ -266,10 +312,9 @@ pub fn answer(calls: &dyn Calls, asked: Asked) -> Answer<String> {
         }
         Expansion((first, last), times) => marks(&calls.expand(&[first], &[last], times, times.len())?),
         Journal => String::from_utf8(calls.swept(&journal_plan(), &[0])?.0).expect("text"),
-        Collected => {
-            let (_, mask, sum) = calls.swept(&journal_plan(), &[0])?;
-            format!("{} {sum}", marks(&mask))
-        }
+        Collected => swept(calls, &journal_plan())?,
+        SweptOver(table, roll_deg) => swept(calls, &table_plan(table, roll_deg))?,
+        TableJournal(table) => String::from_utf8(calls.swept(&table_plan(table, None), &[0])?.0).expect("text"),
         Recovered(used) => calls.recover(&journal_plan(), &JOURNAL.as_bytes()[..used])?.to_string(),
         Cost(targets, times, n) => {
             let cost = calls.cost(size(targets, times, n), 3)?;
@@ -286,8 +331,13 @@ pub fn answer(calls: &dyn Calls, asked: Asked) -> Answer<String> {
     })
 }
 
-const SOURCES: [(&str, &[(Asked, &str)]); 4] =
-    [("document 01", &EXAMPLES), ("request One", &REQUEST_ONE), ("request Three", &REQUEST_THREE), ("request Four", &REQUEST_FOUR)];
+const SOURCES: [(&str, &[(Asked, &str)]); 5] = [
+    ("document 01", &EXAMPLES),
+    ("request One", &REQUEST_ONE),
+    ("request Three", &REQUEST_THREE),
+    ("request Four", &REQUEST_FOUR),
+    ("request Five", &REQUEST_FIVE),
+];
 
 /// Holds an implementation's answers against the printed ones: how many differ.
 pub fn run(who: &str, answer: impl Fn(Asked) -> Answer<String>) -> usize {

@@ -1,9 +1,9 @@
 //! The calls as one trait, so that the library and the plain model can be asked the same: `Library` calls the C names, `Model` is
-//! document 01, and document 02's requests One to Four, in plain Rust.
+//! document 01, and document 02's requests One to Five, in plain Rust.
 pub mod examples;
 mod library;
 
-pub use library::{lent, work_range, Library, Lists};
+pub use library::{lent, rolls, work_range, Library, Lists};
 
 use model::arithmetic::bits;
 use model::cost::{Cost, Extreme, Size};

@@ -17,7 +17,7 @@ const TIME: i64 = -0x1234_5678_9abc;
 const RECORD: wilfnusk::Window =
     wilfnusk::Window { first: NUMBER, last: NUMBER, first_time: TIME, last_time: TIME, severity: FLOAT, is_last: NUMBER };
 
-/// The plan, borrowed as the wrapper takes it: the one place that makes it the C names' arguments. Calls with rolls take their number beside it.
+/// The plan, borrowed as the wrapper takes it: the one place that makes it the C names' arguments. A journal's calls take its `rolls` beside it.
 pub fn lent(p: &Plan) -> wilfnusk::Plan<'_> {
     wilfnusk::Plan {
         targets: &p.targets,
@@ -26,6 +26,14 @@ pub fn lent(p: &Plan) -> wilfnusk::Plan<'_> {
         tolerances: &p.tolerances,
         roll_deg: p.roll_deg,
         panel_normal: p.head_panel(),
+    }
+}
+
+/// A plan's rolls, as the wrapper takes them: it calls one C name for even steps, another for a table.
+pub fn rolls(p: &Plan) -> wilfnusk::Rolls<'_> {
+    match &p.rolls {
+        Rolls::Even(n) => wilfnusk::Rolls::Even(*n),
+        Rolls::Table(table) => wilfnusk::Rolls::Table(table),
     }
 }
 
@@ -121,7 +129,7 @@ fn records(lent: usize, call: impl FnOnce(&mut [wilfnusk::Window]) -> Result<u64
 /// Work over a range: the used length after it, and the chunk at which it stopped, which a refused call leaves as it was.
 pub fn work_range(plan: &Plan, chunks: Range<u64>, journal: &mut [u8], used: u64) -> Answer<(u64, u64)> {
     let mut stopped = NUMBER;
-    let answer = lent(plan).work_range_into(plan.even_n(), chunks, journal, used, &mut stopped);
+    let answer = lent(plan).work_range_into(rolls(plan), chunks, journal, used, &mut stopped);
     assert!(answer.is_ok() || stopped == NUMBER, "{answer:?}, and a number that is not its to write has changed");
     answer.map(|used| (used, stopped)).map_err(|r| r.number())
 }
@@ -132,12 +140,12 @@ fn written(
     lines: u64,
     write: impl FnOnce(&wilfnusk::Plan, &mut [u8], u64) -> Result<u64, Refusal>,
 ) -> Answer<(Vec<u8>, Vec<u8>, u64)> {
-    let (p, n) = (lent(plan), plan.even_n());
+    let (p, rolls) = (lent(plan), rolls(plan));
     let room = wilfnusk::HEADER_BYTES + lines * wilfnusk::LINE_BYTES;
     let mut journal = vec![BYTE; room as usize + 2];
-    let used = p.begin(n, &mut journal, 0).and_then(|used| write(&p, &mut journal, used)).map_err(|r| r.number())?;
+    let used = p.begin(rolls, &mut journal, 0).and_then(|used| write(&p, &mut journal, used)).map_err(|r| r.number())?;
     let mut sum = 0;
-    let mask = output(plan.cells(), BYTE, plan.cells(), |mask| p.collect(n, &journal, used, mask).map(|s| sum = s))?;
+    let mask = output(plan.cells(), BYTE, plan.cells(), |mask| p.collect(rolls, &journal, used, mask).map(|s| sum = s))?;
     assert!(journal[used as usize..].iter().all(|&b| b == BYTE), "a byte beyond the journal has changed");
     journal.truncate(used as usize);
     Ok((journal, mask, sum))
@@ -237,7 +245,7 @@ impl Calls for Library {
     fn swept(&self, plan: &Plan, order: &[u64]) -> Answer<(Vec<u8>, Vec<u8>, u64)> {
         written(plan, order.len() as u64, |p, journal, mut used| {
             for &chunk in order {
-                used = p.work(plan.even_n(), chunk, journal, used)?;
+                used = p.work(rolls(plan), chunk, journal, used)?;
             }
             Ok(used)
         })
@@ -246,7 +254,7 @@ impl Calls for Library {
         let lines = ranges.iter().map(|r| r.end - r.start).sum();
         written(plan, lines, |p, journal, mut used| {
             for range in ranges {
-                let (after, stopped) = p.work_range(plan.even_n(), range.clone(), journal, used)?;
+                let (after, stopped) = p.work_range(rolls(plan), range.clone(), journal, used)?;
                 assert_eq!((after, stopped), (used + (range.end - range.start) * wilfnusk::LINE_BYTES, range.end));
                 used = after;
             }
@@ -254,7 +262,7 @@ impl Calls for Library {
         })
     }
     fn recover(&self, plan: &Plan, journal: &[u8]) -> Answer<u64> {
-        lent(plan).recover(plan.even_n(), journal, journal.len() as u64).map_err(|r| r.number())
+        lent(plan).recover(rolls(plan), journal, journal.len() as u64).map_err(|r| r.number())
     }
     fn cost(&self, size: Size, room: usize) -> Answer<Cost> {
         let Size { targets, times, n } = size;

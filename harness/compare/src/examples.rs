@@ -1,6 +1,8 @@
-//! The examples of document 01 and of requests One, Three and Four against the customer's Rust. What it does not have, root, arctangent, sine,
+//! The examples of document 01 and of requests One, Three, Four and Five against the customer's Rust. What it does not have, root, arctangent, sine,
 //! cosine, header, recovery and cost, is the plain model's.
-use checks::examples::{self, extreme_plan, journal_plan, long_row, marks, plan, roll, rolls, row, vector, windows, Asked, Asked::*};
+use checks::examples::{
+    self, extreme_plan, journal_plan, long_row, marks, plan, roll, rolls, row, table_plan, vector, windows, Asked, Asked::*,
+};
 use checks::Model;
 use model::cost::Size;
 use model::{Answer, Optimal, Plan, Roll};
@@ -14,6 +16,18 @@ fn optimal(plan: &Plan) -> Optimal {
     } else {
         Optimal::Free
     }
+}
+
+/// The model's header, and the lines of the original's sweep.
+fn journal(asked: Asked, plan: &Plan) -> Answer<String> {
+    let header = examples::answer(&Model, asked)?[..107].to_string();
+    let lines = crate::plans::lines(&Oracle::new(plan, &[0, 1]).sweep());
+    Ok(header + &String::from_utf8(lines.concat()).expect("text"))
+}
+
+fn swept(plan: &Plan) -> String {
+    let (mask, tried) = Oracle::new(plan, &[0, 1]).sweep();
+    format!("{} {}", marks(&mask), tried.iter().sum::<u64>())
 }
 
 fn answer(asked: Asked) -> Answer<String> {
@@ -35,15 +49,10 @@ fn answer(asked: Asked) -> Answer<String> {
             windows(&oracle::visibility_windows(&mask, &times))
         }
         Expansion((first, last), times) => marks(&oracle::expand(&[first], &[last], times)),
-        Journal => {
-            let header = examples::answer(&Model, Journal)?[..107].to_string();
-            let lines = crate::plans::lines(&Oracle::new(&journal_plan(), &[0, 1]).sweep());
-            header + &String::from_utf8(lines.concat()).expect("text")
-        }
-        Collected => {
-            let (mask, tried) = Oracle::new(&journal_plan(), &[0, 1]).sweep();
-            format!("{} {}", marks(&mask), tried.iter().sum::<u64>())
-        }
+        Journal => journal(asked, &journal_plan())?,
+        TableJournal(table) => journal(asked, &table_plan(table, None))?,
+        Collected => swept(&journal_plan()),
+        SweptOver(table, roll_deg) => swept(&table_plan(table, roll_deg)),
         Tried(extreme, targets, times, n) => {
             let p = extreme_plan(&Model, extreme, Size { targets, times, n })?;
             Oracle::new(&p, &vec![0; p.times()]).sweep().1.iter().sum::<u64>().to_string()

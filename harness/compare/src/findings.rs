@@ -36,6 +36,7 @@ pub fn run(calls: &dyn Calls, t: &mut Tally) {
     sine_and_cosine(calls, t);
     position_refused(calls, t);
     unfolded(calls, t);
+    table(calls, t);
     nanoseconds(calls, t);
     every_roll(calls, t);
 }
@@ -127,13 +128,31 @@ fn unfolded(calls: &dyn Calls, t: &mut Tally) {
     }
 }
 
+/// The optimal roll is 90. The original has as many even steps; with the table lent it sweeps over tables that are refused here.
+fn table(calls: &dyn Calls, t: &mut Tally) {
+    let over = |table: &[f64]| Plan { rolls: Rolls::Table(table.to_vec()), ..plan([1.0, 0.0, 0.0], [0.0, 0.0, 1.0], 10.0, None) };
+    let ours = |p: &Plan| calls.swept(p, &[0]).map(|(_, mask, probes)| vec![mask[0] as u64, probes]);
+    let theirs = |p: &Plan| {
+        let (mask, tried) = Oracle::new(p, &[0]).sweep();
+        vec![mask[0] as u64, tried[0]]
+    };
+    let p = over(&[45.0, 90.0, 180.0]);
+    for theirs in original(&patch::TABLE, || theirs(&p)) {
+        t.known("7: rolls of a table", (ours(&p), theirs), (Ok(vec![0, 2]), vec![1, 3]));
+    }
+    for (table, number, there) in [(&[][..], 18, vec![1, 0]), (&[0.0, 360.0], 19, vec![1, 2]), (&[90.0, 90.0], 19, vec![0, 1])] {
+        let p = over(table);
+        t.known("7: a table refused", (ours(&p), as_it_is(|| theirs(&p))), (Err(number), there));
+    }
+}
+
 /// One clear sample at 1 ns, and at -1 ns.
 fn nanoseconds(calls: &dyn Calls, t: &mut Tally) {
     for (time, read_back) in [(1, 0), (-1, -1000)] {
         let ours = calls.visibility_windows(&[0], &[time], [1; 6]).map(|l| l.iter().map(|w| w.first_time).collect());
         let theirs = without(&patch::NANOSECONDS, || oracle::visibility_windows(&[0], &[time]));
         let theirs = theirs.iter().map(|w| w.first_time).collect();
-        t.known("7: nanoseconds", (ours, theirs), (Ok(vec![time]), vec![read_back]));
+        t.known("8: nanoseconds", (ours, theirs), (Ok(vec![time]), vec![read_back]));
     }
 }
 

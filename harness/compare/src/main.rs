@@ -7,6 +7,7 @@ mod examples;
 mod findings;
 mod plans;
 mod rows;
+mod tables;
 mod tally;
 
 use checks::{Calls, Library, Model};
@@ -31,11 +32,14 @@ fn main() {
     let mut costs = Tally::default();
     cost::run(calls, &mut costs);
     let cost = start.elapsed() - plans - rows - catalogue;
-    let good = [tally.report(), positions.report_catalogue(), costs.report_cost()] == [true; 3];
-    let [plans, rows, catalogue, cost] = [plans, rows, catalogue, cost].map(|t| t.as_secs_f64());
+    let mut of_tables = Tally::default();
+    tables::run(calls, &mut of_tables, factor);
+    let tables = start.elapsed() - plans - rows - catalogue - cost;
+    let good = [tally.report(), positions.report_catalogue(), costs.report_cost(), of_tables.report_tables()] == [true; 4];
+    let [plans, rows, catalogue, cost, tables] = [plans, rows, catalogue, cost, tables].map(|t| t.as_secs_f64());
     println!(
         "{plans:.1} s for plans, {rows:.1} s for rows, {catalogue:.1} s for catalogue positions, \
-         {cost:.1} s for plans that cost most or least"
+         {cost:.1} s for plans that cost most or least, {tables:.1} s for tables of rolls"
     );
     if !good || examples > 0 {
         exit(1);

@@ -2,7 +2,7 @@
 use crate::cost;
 use crate::tally::{Shape, Tally};
 use cases::catalogue::beside;
-use cases::plans::{around_the_turn, at_turns, for_roll, for_sweep, plan, roll, samples, units, Entries, Targets, FOLDED};
+use cases::plans::{around_the_turn, at_turns, farthest, for_roll, for_sweep, plan, roll, samples, units, Entries, Targets, FOLDED};
 use cases::{rows, Seeded};
 use checks::{Calls, Model};
 use model::arithmetic::bits;
@@ -30,6 +30,19 @@ impl Original<'_> {
             None => oracle,
         };
         Original { plan, by_row: at(Oracle::new(plan, instants)), whole: Oracle::whole(plan, instants).map(at) }
+    }
+    /// The same of a plan with settings for a sweep, which is counted.
+    pub fn counted<'a>(t: &mut Tally, plan: &'a Plan, instants: &[i64], told: Option<Positions>) -> Original<'a> {
+        let original = Original::new(plan, instants, told);
+        t.plans += 1;
+        t.cells += plan.cells() as u64;
+        let small = plan.tolerances.iter().filter(|&&x| x < farthest(plan)).count();
+        t.telling += (plan.roll_deg.is_some() || 2 * small >= plan.rows()) as u64;
+        match &original.whole {
+            Some(_) => t.largest_whole = t.largest_whole.max(plan.cells()),
+            None => t.differing += 1,
+        }
+        original
     }
     pub fn says<T: Shape>(&self, t: &mut Tally, what: &str, answer: impl Fn(&Oracle) -> T) -> T {
         let by_row = answer(&self.by_row);
@@ -124,17 +137,9 @@ pub fn one(calls: &dyn Calls, t: &mut Tally, s: &mut Seeded, mut p: Plan, n: u64
     let instants = rows::times(s, times);
     let cells = p.cells();
     let room = cells + s.index(3);
-    t.cells += cells as u64;
 
     for_sweep(s, &mut p, n, entries);
-    t.plans += 1;
-    let small = p.tolerances.iter().filter(|&&x| x < 180.0 / n as f64).count();
-    t.telling += (p.roll_deg.is_some() || 2 * small >= rows) as u64;
-    let o = Original::new(&p, &instants, told);
-    match &o.whole {
-        Some(_) => t.largest_whole = t.largest_whole.max(cells),
-        None => t.differing += 1,
-    }
+    let o = Original::counted(t, &p, &instants, told);
     let shown = || format!("{p:?}");
     rolls(calls, t, &p, &o, room);
     let swept = o.says(t, "sweep", Oracle::sweep);
@@ -235,8 +240,8 @@ fn mixed_chunks(p: &Plan) -> u64 {
 }
 
 /// The chunks in a random order: each line, the mask, the sum of probes, and that the plan's size foretold them. Where a chunk has several
-/// tolerances, the model's journal too.
-fn sweep(calls: &dyn Calls, t: &mut Tally, s: &mut Seeded, p: &Plan, swept: (Vec<u8>, Vec<u64>)) {
+/// tolerances, and over a table, the model's journal too.
+pub fn sweep(calls: &dyn Calls, t: &mut Tally, s: &mut Seeded, p: &Plan, swept: (Vec<u8>, Vec<u64>)) {
     let mut order: Vec<u64> = (0..p.cells().div_ceil(64) as u64).collect();
     shuffle(s, &mut order);
     let lines = lines(&swept);
@@ -245,8 +250,8 @@ fn sweep(calls: &dyn Calls, t: &mut Tally, s: &mut Seeded, p: &Plan, swept: (Vec
     let mixed = mixed_chunks(p);
     match calls.swept(p, &order) {
         Ok((journal, ours, sum)) => {
-            if mixed > 0 {
-                t.mixed_chunks += mixed;
+            t.mixed_chunks += mixed;
+            if mixed > 0 || p.rolls.table().is_some() {
                 t.same("journal, plain model", Ok(journal.clone()), Model.swept(p, &order).expect("accepted").0, &shown);
             }
             t.mask("sweep", Ok(ours), mask, &shown);
@@ -262,7 +267,7 @@ fn sweep(calls: &dyn Calls, t: &mut Tally, s: &mut Seeded, p: &Plan, swept: (Vec
 }
 
 /// All chunks by ranges in a random order: short ones, the whole, and ones about where the library changes how it works.
-fn ranges(calls: &dyn Calls, t: &mut Tally, s: &mut Seeded, p: &Plan, swept: &(Vec<u8>, Vec<u64>)) {
+pub fn ranges(calls: &dyn Calls, t: &mut Tally, s: &mut Seeded, p: &Plan, swept: &(Vec<u8>, Vec<u64>)) {
     let chunks = p.cells().div_ceil(64) as u64;
     let mut list = Vec::new();
     let mut from = 0;

@@ -1,9 +1,11 @@
 //! What was compared, how much of it was marked, and what differed.
 use crate::cost::{LARGE, MOST_CELLS, SAMPLES};
 use crate::plans::RANGES;
+use crate::tables::LENGTHS;
+use cases::plans::{Spread, SPECIAL, SPREADS};
 use model::arithmetic::bits;
 use model::windows::Window;
-use model::Answer;
+use model::{Answer, Plan};
 use std::collections::BTreeMap;
 use std::fmt::Debug;
 
@@ -38,7 +40,7 @@ pub struct Tally {
     pub plans: u64,
     /// Catalogue positions.
     pub positions: u64,
-    /// Plans with a tolerance below 180 / n for half of their targets or more, or with a configured roll.
+    /// Plans with a tolerance below 180 / n, or below half of a table's widest gap, for half of their targets or more, or with a configured roll.
     pub telling: u64,
     /// Plans whose tolerances differ.
     pub differing: u64,
@@ -58,6 +60,18 @@ pub struct Tally {
     /// Rolls of the original, and how many of them are of each kind of `UNFOLDED`.
     rolls: u64,
     unfolded: [u64; UNFOLDED.len()],
+    /// Plans with a table: by how its rolls are spread, by `LENGTHS`, by `SPECIAL`, and those with a configured roll.
+    spread: [u64; SPREADS.len()],
+    lengths: [u64; LENGTHS.len()],
+    special: [u64; SPECIAL.len()],
+    configured: u64,
+    /// Plans whose table neither has the even steps nor is overridden by a configured roll; those of them whose marks differ from the even
+    /// steps', and those whose marks or probes do; cells, and cells whose marks differ.
+    could_differ: u64,
+    other_marks: u64,
+    other_lines: u64,
+    could_differ_cells: u64,
+    other_cells: u64,
     /// Marks are not counted: one large plan would outweigh all others.
     pub uncounted: bool,
 }
@@ -172,24 +186,61 @@ impl Tally {
             self.both += mask.chunks(times).filter(|row| row.contains(&0) && row.contains(&1)).count() as u64;
         }
     }
+    /// Counts a plan with a table: each cell's mark and how often it was tried, and the same over as many even steps.
+    pub fn count_table(&mut self, plan: &Plan, spread: Spread, swept: &(Vec<u8>, Vec<u64>), stepped: &(Vec<u8>, Vec<u64>)) {
+        let (table, configured) = (plan.all_rolls(), plan.roll_deg.is_some());
+        self.spread[spread as usize] += 1;
+        LENGTHS.iter().position(|&length| length == table.len()).into_iter().for_each(|k| self.lengths[k] += 1);
+        for (count, (_, is)) in self.special.iter_mut().zip(SPECIAL) {
+            *count += is(&table) as u64;
+        }
+        self.configured += configured as u64;
+        if spread == Spread::Even || configured {
+            return;
+        }
+        self.could_differ += 1;
+        self.other_marks += (swept.0 != stepped.0) as u64;
+        self.other_lines += (swept != stepped) as u64;
+        if !self.uncounted {
+            self.could_differ_cells += swept.0.len() as u64;
+            self.other_cells += swept.0.iter().zip(&stepped.0).filter(|(a, b)| a != b).count() as u64;
+        }
+    }
     /// What is demanded of plans in every report.
     fn of_plans(&self) -> Vec<(bool, String)> {
         vec![
-            (2 * self.telling >= self.plans, "fewer than half of the plans have tolerances below 180 / n or a configured roll".to_string()),
+            (
+                2 * self.telling >= self.plans,
+                "fewer than half of the plans have tolerances that can mark, or a configured roll".to_string(),
+            ),
             (3 * self.differing >= self.plans, "fewer than a third of the plans have tolerances that differ".to_string()),
             (5 * (self.plans - self.differing) >= self.plans, "fewer than a fifth of the plans were asked of one evaluator".to_string()),
             (self.largest_whole > 65_536, "no plan beyond the original's own chunks was asked of one evaluator".to_string()),
             (self.mixed_chunks >= 1000, "fewer than 1,000 chunks have several tolerances".to_string()),
             (5 * self.both >= 2 * self.rows, "fewer than two fifths of the rows are both marked and clear".to_string()),
-            (4 * self.unfolded[0] >= self.rolls, "fewer than a quarter of the original's rolls are below 0".to_string()),
             (2 * self.reached[1] >= self.plans, "fewer than half of the plans have probes between the fewest and the most".to_string()),
         ]
     }
-    fn print_plans(&self) {
+    /// What is demanded of the original's rolls, where they are compared.
+    fn of_rolls(&self) -> (bool, String) {
+        (4 * self.unfolded[0] >= self.rolls, "fewer than a quarter of the original's rolls are below 0".to_string())
+    }
+    /// How many answers of this kind were compared.
+    fn asked(&self, kind: &str) -> u64 {
+        self.kinds.get(kind).map_or(0, |k| k.answers)
+    }
+    /// What is demanded of work over ranges: so many of each kind.
+    fn of_ranges(&self, least: u64) -> impl Iterator<Item = (bool, String)> + '_ {
+        RANGES.into_iter().map(move |kind| (self.asked(kind) >= least, format!("fewer than {least} of {kind}")))
+    }
+    fn print_tolerances(&self) {
         println!(
             "tolerances: {} of {} plans have differing ones, {} chunks several; {} of {} rows of 10 times or more are both marked and clear",
             self.differing, self.plans, self.mixed_chunks, self.both, self.rows
         );
+    }
+    fn print_plans(&self) {
+        self.print_tolerances();
         let counted = self.unfolded.iter().zip(UNFOLDED).map(|(count, (what, _))| format!("{count} {what}"));
         println!("{} rolls of the original, before they are folded: {}", self.rolls, counted.collect::<Vec<_>>().join("; "));
         let [fewest, between, most] = self.reached;
@@ -222,9 +273,8 @@ impl Tally {
     pub fn report(&self) -> bool {
         let mut demanded = self.of_plans();
         demanded.push((self.cells >= 2_000_000 && self.masks >= 1_000_000, "fewer than 2,000,000 cells or 1,000,000 masks".to_string()));
-        for name in RANGES {
-            demanded.push((self.kinds.get(name).map_or(0, |k| k.answers) >= 20, format!("fewer than 20 of {name}")));
-        }
+        demanded.push(self.of_rolls());
+        demanded.extend(self.of_ranges(20));
         for (count, (what, _)) in self.unfolded.iter().zip(UNFOLDED) {
             demanded.push((*count >= 50, format!("fewer than 50 of the original's rolls are {what}")));
         }
@@ -240,6 +290,7 @@ impl Tally {
     pub fn report_catalogue(&self) -> bool {
         println!();
         let mut demanded = self.of_plans();
+        demanded.push(self.of_rolls());
         demanded.push((self.positions >= 1_000_000, "fewer than 1,000,000 positions".to_string()));
         demanded.push((self.cells >= 200_000, "fewer than 200,000 cells with targets by their positions".to_string()));
         let good = self.table(&demanded);
@@ -250,9 +301,8 @@ impl Tally {
     /// Of the plans that cost most and least.
     pub fn report_cost(&self) -> bool {
         println!();
-        let asked = |name: &str| self.kinds.get(name).map_or(0, |k| k.answers);
         let plans = 2 * (SAMPLES.len() as u64 * self.shapes + LARGE.len() as u64);
-        let files = ["file's length", "file, recovered", "file's lines"].map(asked);
+        let files = ["file's length", "file, recovered", "file's lines"].map(|kind| self.asked(kind));
         let good = self.table(&[
             (self.plans == plans, format!("{} plans were asked, not both of each shape and n, {plans}", self.plans)),
             (files == [plans; 3], format!("{files:?} journals were read back from a file, not {plans}")),
@@ -263,6 +313,39 @@ impl Tally {
              {} probes of the original, {} bytes of files",
             self.shapes, self.plans, self.cells, self.probes, self.file_bytes
         );
+        good
+    }
+    /// Of tables of rolls.
+    pub fn report_tables(&self) -> bool {
+        println!();
+        let spreads: Vec<(u64, String)> =
+            self.spread.iter().zip(SPREADS).map(|(&n, spread)| (n, format!("are spread as {spread:?}"))).collect();
+        let lengths: Vec<(u64, String)> =
+            self.lengths.iter().zip(LENGTHS).map(|(&n, length)| (n, format!("have {length} rolls"))).collect();
+        let special: Vec<(u64, String)> = self.special.iter().zip(SPECIAL).map(|(&n, (what, _))| (n, what.to_string())).collect();
+        let configured = [(self.configured, "are overridden by a configured roll".to_string())];
+        let kinds = [&spreads[..], &lengths, &special, &configured].concat();
+        let mut demanded = self.of_plans();
+        demanded.extend(self.of_ranges(20));
+        demanded.extend(kinds.iter().map(|(count, what)| (*count >= 30, format!("fewer than 30 tables {what}"))));
+        // Else a library that tried even steps in the place of the table's rolls would not be seen.
+        demanded.push((
+            2 * self.other_marks >= self.could_differ,
+            "fewer than half of the tables mark other cells than even steps do".to_string(),
+        ));
+        demanded.push((
+            10 * self.other_cells >= self.could_differ_cells,
+            "fewer than a tenth of the cells have another mark by even steps".to_string(),
+        ));
+        demanded.push((self.cells >= 500_000, "fewer than 500,000 cells swept over a table".to_string()));
+        let good = self.table(&demanded);
+        let counted: Vec<String> = kinds.iter().map(|(count, what)| format!("{count} {what}")).collect();
+        println!("tables: {} cells of {} plans; of the tables {}", self.cells, self.plans, counted.join(", "));
+        println!(
+            "tables: of {} plans that could differ from as many even steps, {} have other marks ({} of {} cells) and {} other marks or probes",
+            self.could_differ, self.other_marks, self.other_cells, self.could_differ_cells, self.other_lines
+        );
+        self.print_tolerances();
         good
     }
 }

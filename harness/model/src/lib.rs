@@ -1,4 +1,4 @@
-//! Document 01, and document 02's requests One to Four, in plain Rust: a second implementation, written from their text for comparing, not for
+//! Document 01, and document 02's requests One to Five, in plain Rust: a second implementation, written from their text for comparing, not for
 //! speed.
 //!
 //! A refusal is its number; `Answer` is what a call says.

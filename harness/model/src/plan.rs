@@ -1,4 +1,4 @@
-//! The plan, its cells, and refusals 1 to 6 and 17.
+//! The plan, its cells, and refusals 1 to 6 and 17 to 19.
 use crate::{first, Answer};
 use std::fmt;
 
@@ -24,7 +24,18 @@ pub struct Plan {
 pub enum Rolls {
     /// n even steps from 0; any n, also one that is refused.
     Even(u64),
+    /// Request Five's; any numbers, also ones that are refused.
     Table(Vec<f64>),
+}
+
+impl Rolls {
+    /// None where they are even steps.
+    pub fn table(&self) -> Option<&[f64]> {
+        match self {
+            Rolls::Even(_) => None,
+            Rolls::Table(table) => Some(table),
+        }
+    }
 }
 
 impl Default for Rolls {
@@ -33,11 +44,12 @@ impl Default for Rolls {
     }
 }
 
-/// How many there are: a message has no use for 3,600 rolls.
+/// How many there are, and a few: a message has no use for 3,600 rolls.
 impl fmt::Debug for Rolls {
     fn fmt(&self, f: &mut fmt::Formatter) -> fmt::Result {
         match self {
             Rolls::Even(n) => write!(f, "{n} even"),
+            Rolls::Table(table) if table.len() <= 8 => write!(f, "a table of {} {table:?}", table.len()),
             Rolls::Table(table) => write!(f, "a table of {}", table.len()),
         }
     }
@@ -48,7 +60,7 @@ impl fmt::Debug for Rolls {
 pub enum Third {
     /// It takes no rolls.
     Nothing,
-    /// The plan has 1 to 3,600 of them.
+    /// The plan has 1 to 3,600 of them, and where they are a table it is one that is accepted.
     Sweep,
     /// It takes n even steps beside the plan; 0 too.
     Every(u64),
@@ -75,9 +87,14 @@ pub fn too_many(targets: u64, times: u64) -> bool {
     targets > 65_536 || times > 65_536 || targets * times > 1_048_576
 }
 
-/// 3 of a sweep.
+/// 3 of a sweep, 18 of a table's length.
 pub fn bad_samples(n: u64) -> bool {
     !(1..=3600).contains(&n)
+}
+
+/// 19: a roll not within 0 to below 360, as NaN is not, or not above the one before it. -0 is within, and 0 is not above it.
+fn bad_table(table: &[f64]) -> bool {
+    !table.iter().all(|roll| (0.0..360.0).contains(roll)) || !table.windows(2).all(|pair| pair[0] < pair[1])
 }
 
 /// Length 1 up to 1e-9 of its square, summed left to right.
@@ -109,12 +126,13 @@ impl Plan {
             Rolls::Table(table) => table[k as usize],
         }
     }
-    /// n, for what takes no table: a C name, the original, a file.
-    pub fn even_n(&self) -> u64 {
-        match self.rolls {
-            Rolls::Even(n) => n,
-            Rolls::Table(_) => panic!("even steps"),
-        }
+    /// The same over as many even steps.
+    pub fn stepped(&self) -> Plan {
+        Plan { rolls: Rolls::Even(self.n()), ..self.clone() }
+    }
+    /// The rolls of all samples, to be lent as a table.
+    pub fn all_rolls(&self) -> Vec<f64> {
+        (0..self.n()).map(|k| self.roll(k)).collect()
     }
     pub fn target(&self, row: usize) -> [f64; 3] {
         triple(&self.targets, row)
@@ -141,18 +159,24 @@ impl Plan {
         triple(&self.observers, time)
     }
 
+    /// 3, or 18 and 19 in its place.
+    fn third_refusal(&self, third: Third) -> Answer<()> {
+        match (third, &self.rolls) {
+            (Third::Nothing, _) => Ok(()),
+            (Third::Sweep, Rolls::Even(n)) => first(&[(bad_samples(*n), 3)]),
+            (Third::Sweep, Rolls::Table(table)) => first(&[(bad_samples(self.n()), 18), (bad_table(table), 19)]),
+            (Third::Every(n), _) => first(&[(n > 3600, 3)]),
+        }
+    }
     /// *Plan*, before every call with positions. `beyond`: a used length is beyond its buffer.
     pub fn refusal(&self, third: Third, beyond: bool) -> Answer<()> {
         let lengths = [&self.targets, &self.suns, &self.observers];
-        let bad_n = match third {
-            Third::Nothing => false,
-            Third::Sweep => bad_samples(self.n()),
-            Third::Every(n) => n > 3600,
-        };
         first(&[
             (lengths.iter().any(|l| l.len() % 3 != 0) || self.suns.len() != self.observers.len() || beyond, 1),
             (too_many(self.rows() as u64, self.times() as u64), 2),
-            (bad_n, 3),
+        ])?;
+        self.third_refusal(third)?;
+        first(&[
             (bad_position(&self.suns) || bad_position(&self.observers), 4),
             (bad_direction(&self.targets), 5),
             (bad_position(&self.panels), 6),
@@ -165,9 +189,8 @@ impl Plan {
 mod tests {
     use super::*;
 
-    #[test]
-    fn a_tolerance_a_target_or_17_straight_after_6() {
-        let good = Plan {
+    fn accepted() -> Plan {
+        Plan {
             targets: [1.0, 0.0, 0.0].repeat(2),
             suns: vec![0.0; 9],
             observers: vec![0.0; 9],
@@ -175,7 +198,12 @@ mod tests {
             panels: vec![0.0, 1.0, 0.0],
             rolls: Rolls::Even(1),
             ..Plan::default()
-        };
+        }
+    }
+
+    #[test]
+    fn a_tolerance_a_target_or_17_straight_after_6() {
+        let good = accepted();
         assert_eq!(good.refusal(Third::Sweep, false), Ok(()));
         for length in [0, 1, 3, 6] {
             let p = Plan { tolerances: vec![10.0; length], ..good.clone() };
@@ -197,5 +225,39 @@ mod tests {
         assert_eq!(p.head_tolerance().to_bits(), 1 << 63);
         p.tolerances.clear();
         assert_eq!(p.head_tolerance().to_bits(), 0);
+    }
+    #[test]
+    fn eighteen_and_nineteen_stand_where_3_does() {
+        for (table, number) in [(vec![], 18), (vec![f64::NAN; 3601], 18), (vec![5.0, 5.0], 19), (vec![f64::NAN], 19)] {
+            let p = Plan { rolls: Rolls::Table(table), ..accepted() };
+            let after: [fn(&mut Plan); 5] =
+                [|_| (), |p| p.tolerances.clear(), |p| p.panels[1] = f64::NAN, |p| p.targets[0] = 1.5, |p| p.suns[0] = f64::NAN];
+            for spoil in after {
+                let mut p = p.clone();
+                spoil(&mut p);
+                assert_eq!(p.refusal(Third::Sweep, false), Err(number));
+                assert_eq!(p.refusal(Third::Sweep, true), Err(1));
+                p.targets = [1.0, 0.0, 0.0].repeat(65_537);
+                assert_eq!(p.refusal(Third::Sweep, false), Err(2));
+            }
+            // Other calls never look at it.
+            assert_eq!(
+                [Third::Nothing, Third::Every(0), Third::Every(3601)].map(|third| p.refusal(third, false).err()),
+                [None, None, Some(3)]
+            );
+        }
+        for n in [0, 3601, 1 << 40, u64::MAX] {
+            let p = Plan { rolls: Rolls::Even(n), ..accepted() };
+            assert_eq!(p.refusal(Third::Sweep, false), Err(3), "{n}");
+        }
+    }
+
+    #[test]
+    fn even_steps_are_an_accepted_table() {
+        for n in 1..=3600 {
+            let even = Plan { rolls: Rolls::Even(n), ..accepted() };
+            let p = Plan { rolls: Rolls::Table(even.all_rolls()), ..even };
+            assert_eq!(p.refusal(Third::Sweep, false), Ok(()), "{n}");
+        }
     }
 }

@@ -239,7 +239,7 @@ mod tests {
         for (table, swept) in [(&[10.0, 80.0, 90.0][..], (false, 2)), (&[101.0, 10.0, 270.0], (true, 3)), (&[], (true, 0))] {
             p.rolls = Rolls::Table(table.to_vec());
             assert_eq!(p.sweep(), [swept], "{table:?}");
-            assert_eq!(format!("{:?}", p.rolls), format!("a table of {}", table.len()));
+            assert_eq!(format!("{:?}", p.rolls), format!("a table of {} {table:?}", table.len()));
         }
         // A configured roll stands for each.
         p.roll_deg = Some(0.0);

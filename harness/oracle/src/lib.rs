@@ -69,6 +69,11 @@ fn ephemeris(plan: &Plan, times: &[i64]) -> Rc<Ephemeris> {
     Rc::new(Ephemeris(data))
 }
 
+/// A plan's table, if it has one: shared by every evaluator of it too.
+fn table(plan: &Plan) -> Option<Rc<[f64]>> {
+    plan.rolls.table().map(Rc::from)
+}
+
 /// To the bit, every NaN being one.
 fn equal_tolerances(plan: &Plan) -> bool {
     plan.tolerances.iter().all(|&x| bits(x) == bits(plan.head_tolerance()))
@@ -80,8 +85,8 @@ pub struct Oracle(Vec<Whole>);
 
 impl Oracle {
     pub fn new(plan: &Plan, times: &[i64]) -> Oracle {
-        let ephemeris = ephemeris(plan, times);
-        let row = |i| Whole::of(plan, i..i + 1, (plan.tolerance(i), plan.panel(i)), ephemeris.clone());
+        let (ephemeris, table) = (ephemeris(plan, times), table(plan));
+        let row = |i| Whole::of(plan, i..i + 1, (plan.tolerance(i), plan.panel(i)), ephemeris.clone(), table.clone());
         Oracle((0..plan.rows()).map(row).collect())
     }
     /// The same with its targets told by their catalogue positions, of which the original makes the vectors itself. Both fields of regard are
@@ -157,16 +162,24 @@ pub struct Whole {
     /// Right ascensions and declinations are degrees; else a right ascension is the number of a vector.
     degrees: bool,
     times: usize,
+    /// How many rolls a sweep tries, and which, where they are not even steps.
     n: u64,
+    table: Option<Rc<[f64]>>,
 }
 
 impl Whole {
     /// All rows of a plan whose tolerances are equal.
     pub fn new(plan: &Plan, times: &[i64]) -> Whole {
         assert!(equal_tolerances(plan), "an evaluator has one tolerance");
-        Whole::of(plan, 0..plan.rows(), (plan.head_tolerance(), plan.head_panel()), ephemeris(plan, times))
+        Whole::of(plan, 0..plan.rows(), (plan.head_tolerance(), plan.head_panel()), ephemeris(plan, times), table(plan))
     }
-    fn of(plan: &Plan, rows: Range<usize>, (tolerance_deg, panel_normal): (f64, [f64; 3]), ephemeris: Rc<Ephemeris>) -> Whole {
+    fn of(
+        plan: &Plan,
+        rows: Range<usize>,
+        (tolerance_deg, panel_normal): (f64, [f64; 3]),
+        ephemeris: Rc<Ephemeris>,
+        table: Option<Rc<[f64]>>,
+    ) -> Whole {
         let config = SolarRollConfig { tolerance_deg, roll_deg: plan.roll_deg, panel_normal };
         Whole {
             ephemeris,
@@ -177,7 +190,8 @@ impl Whole {
             degrees: false,
             vectors: rows.map(|i| plan.target(i)).collect(),
             times: plan.times(),
-            n: plan.even_n(),
+            n: plan.n(),
+            table,
         }
     }
     fn targets(&self) -> Array2<f64> {
@@ -215,8 +229,16 @@ impl Whole {
                 inner.evaluate(cells, roll)
             }))
         };
-        self.told(|| roll_sweep::sweep_chunks(&mut mask, true, self.n as usize, prepare).unwrap());
+        self.sweep_chunks(&mut mask, prepare);
         (mask, tried.get())
+    }
+    fn sweep_chunks<'a>(
+        &self,
+        mask: &mut Array2<bool>,
+        prepare: impl FnMut(&[roll_sweep::RollCell]) -> PyResult<PreparedRollEvaluator<'a>>,
+    ) {
+        let swept = || roll_sweep::sweep_chunks(mask, true, self.n as usize, prepare).unwrap();
+        patch::with_table(self.table.as_ref(), || self.told(swept));
     }
     /// 1 where a cell is not Free: a tolerance below 0 violates every such cell.
     fn not_free(&self) -> Vec<u8> {
@@ -256,7 +278,7 @@ impl Whole {
                 inner.evaluate(cells, roll)
             }))
         };
-        self.told(|| roll_sweep::sweep_chunks(&mut mask, true, self.n as usize, prepare).unwrap());
+        self.sweep_chunks(&mut mask, prepare);
         let tried = tried.take();
         (bytes(&mask), tried)
     }

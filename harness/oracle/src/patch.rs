@@ -2,6 +2,7 @@
 use chrono::{DateTime, Utc};
 use ndarray::Array2;
 use std::cell::{Cell, RefCell};
+use std::rc::Rc;
 use std::sync::atomic::{AtomicBool, Ordering::Relaxed};
 
 /// Section 1's arctangent instead of the C library's.
@@ -10,6 +11,8 @@ pub static ATAN2: AtomicBool = AtomicBool::new(true);
 pub static FOLD: AtomicBool = AtomicBool::new(true);
 /// Document 02's sine and cosine instead of the C library's.
 pub static TRIG: AtomicBool = AtomicBool::new(true);
+/// A lent table's rolls instead of even steps.
+pub static TABLE: AtomicBool = AtomicBool::new(true);
 /// Vectors handed over instead of right ascension and declination.
 pub static VECTORS: AtomicBool = AtomicBool::new(true);
 /// Whole instants instead of Python datetimes, which hold microseconds.
@@ -26,6 +29,7 @@ pub fn without<A>(patch: &AtomicBool, answer: impl FnOnce() -> A) -> A {
 thread_local! {
     static LENT: RefCell<Vec<[f64; 3]>> = const { RefCell::new(Vec::new()) };
     static NEXT: Cell<Option<usize>> = const { Cell::new(None) };
+    static ROLLS: RefCell<Option<Rc<[f64]>>> = const { RefCell::new(None) };
 }
 
 /// From now on right ascension k means vector k.
@@ -52,6 +56,22 @@ pub fn vector(ra: f64) -> Option<[f64; 3]> {
 pub fn vectors(ras: &[f64]) -> Option<Array2<f64>> {
     let list = ras.iter().map(|&ra| vector(ra)).collect::<Option<Vec<[f64; 3]>>>()?;
     Some(Array2::from_shape_fn((list.len(), 3), |(i, j)| list[i][j]))
+}
+
+/// The answer with this table lent, if any, and taken back afterwards.
+pub fn with_table<A>(table: Option<&Rc<[f64]>>, answer: impl FnOnce() -> A) -> A {
+    let before = ROLLS.replace(table.cloned());
+    let a = answer();
+    ROLLS.set(before);
+    a
+}
+
+/// The roll of a step of `sweep`: the lent table's, and with none lent what the original works out.
+pub fn sample(step: usize, even: impl FnOnce() -> f64) -> f64 {
+    if !TABLE.load(Relaxed) {
+        return even();
+    }
+    ROLLS.with_borrow(|table| table.as_ref().map_or_else(even, |table| table[step]))
 }
 
 pub fn instant(dt: &DateTime<Utc>) -> Option<pyo3::Py<pyo3::PyAny>> {

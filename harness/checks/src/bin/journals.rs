@@ -1,8 +1,9 @@
 //! Begin, work, work over a range, cut, recover and collect over random lists against section 4's ledger, and over damaged journals against
-//! its bytes; what a list of tolerances does to header and lines; and that a whole journal costs what its plan's size foretells.
+//! its bytes, half of both by tables of rolls; what a list of tolerances, and a table, does to header and lines; and that a whole journal costs what
+//! its plan's size foretells.
 //! `journals [FACTOR]` multiplies the number of lists.
 use cases::{plans, Seeded};
-use checks::{lent, Calls, Model};
+use checks::{lent, rolls, Calls, Model};
 use model::arithmetic::bits;
 use model::cost::{Cost, Size};
 use model::journal::{Sweep, HEADER, LINE};
@@ -26,19 +27,19 @@ struct Library;
 
 impl Machine for Library {
     fn begin(&self, sweep: &Sweep, journal: &mut [u8], used: u64) -> Answer<u64> {
-        lent(&sweep.plan).begin(sweep.plan.even_n(), journal, used).map_err(|r| r.number())
+        lent(&sweep.plan).begin(rolls(&sweep.plan), journal, used).map_err(|r| r.number())
     }
     fn work(&self, sweep: &Sweep, chunk: u64, journal: &mut [u8], used: u64) -> Answer<u64> {
-        lent(&sweep.plan).work(sweep.plan.even_n(), chunk, journal, used).map_err(|r| r.number())
+        lent(&sweep.plan).work(rolls(&sweep.plan), chunk, journal, used).map_err(|r| r.number())
     }
     fn work_range(&self, sweep: &Sweep, from: u64, to: u64, journal: &mut [u8], used: u64) -> Answer<(u64, u64)> {
-        lent(&sweep.plan).work_range(sweep.plan.even_n(), from..to, journal, used).map_err(|r| r.number())
+        lent(&sweep.plan).work_range(rolls(&sweep.plan), from..to, journal, used).map_err(|r| r.number())
     }
     fn recover(&self, sweep: &Sweep, journal: &[u8], used: u64) -> Answer<u64> {
-        lent(&sweep.plan).recover(sweep.plan.even_n(), journal, used).map_err(|r| r.number())
+        lent(&sweep.plan).recover(rolls(&sweep.plan), journal, used).map_err(|r| r.number())
     }
     fn collect(&self, sweep: &Sweep, journal: &[u8], used: u64, mask: &mut [u8]) -> Answer<u64> {
-        lent(&sweep.plan).collect(sweep.plan.even_n(), journal, used, mask).map_err(|r| r.number())
+        lent(&sweep.plan).collect(rolls(&sweep.plan), journal, used, mask).map_err(|r| r.number())
     }
     fn cost(&self, size: Size) -> Answer<Cost> {
         checks::Library.cost(size, 3)
@@ -90,6 +91,18 @@ struct Tally {
     collected: u64,
     damaged: u64,
     differ: u64,
+    by_table: ByTable,
+}
+
+/// Those of the above whose rolls are a table; and those of its lists that were cut and then collected.
+#[derive(Default)]
+struct ByTable {
+    lists: u64,
+    ranges: u64,
+    cuts: u64,
+    collected: u64,
+    resumed: u64,
+    damaged: u64,
 }
 
 impl Tally {
@@ -126,6 +139,11 @@ fn end(s: &mut Seeded, sweep: &Sweep, from: u64) -> u64 {
     }
 }
 
+/// 1 where the rolls are a table.
+fn of_table(sweep: &Sweep) -> u64 {
+    sweep.plan.rolls.table().is_some() as u64
+}
+
 /// A write of so many bytes is a range's of several lines.
 fn of_range(cuttable: usize) -> bool {
     cuttable > LINE && cuttable != HEADER
@@ -148,7 +166,10 @@ fn list(s: &mut Seeded, sweep: &Sweep, machine: &dyn Machine, t: &mut Tally) {
     let entries = s.within(1, 6 + 3 * sweep.chunks().min(40) as u64);
     let mut history = Vec::new();
     let unworked = s.index(sweep.chunks() + 1);
+    let table = of_table(sweep);
+    let mut cut = 0;
     t.lists += 1;
+    t.by_table.lists += table;
     for _ in 0..entries {
         let next = (file.len().saturating_sub(HEADER) / LINE + unworked) % sweep.chunks().max(1);
         let entry = match s.below(20) {
@@ -187,6 +208,7 @@ fn list(s: &mut Seeded, sweep: &Sweep, machine: &dyn Machine, t: &mut Tally) {
             }
             Entry::WorkRange { from, to, lent } => {
                 t.ranges += 1;
+                t.by_table.ranges += table;
                 buffer.resize(lent, FILL);
                 machine.work_range(sweep, from, to, &mut buffer, used).map(|(after, chunk)| {
                     stopped = Some(chunk);
@@ -195,6 +217,8 @@ fn list(s: &mut Seeded, sweep: &Sweep, machine: &dyn Machine, t: &mut Tally) {
             }
             Entry::Cut { k } => {
                 t.cuts += 1;
+                t.by_table.cuts += table;
+                cut = table;
                 t.range_cuts += of_range(cuttable) as u64;
                 Ok(used - (cuttable - k) as u64)
             }
@@ -209,6 +233,8 @@ fn list(s: &mut Seeded, sweep: &Sweep, machine: &dyn Machine, t: &mut Tally) {
         let used = match (&said, answer) {
             (Ok(Said::Collected(expected, sum)), Ok(answer)) => {
                 t.collected += 1;
+                t.by_table.collected += table;
+                t.by_table.resumed += std::mem::take(&mut cut);
                 t.same(&shown, answer, *sum);
                 t.same(&shown, &mask[..cells], expected);
                 t.same(&shown, mask[cells..].iter().all(|&b| b == FILL), true);
@@ -288,6 +314,7 @@ fn damaged(s: &mut Seeded, sweep: &Sweep, other: &Sweep) -> Vec<u8> {
 fn on_damage(s: &mut Seeded, sweep: &Sweep, other: &Sweep, machine: &dyn Machine, t: &mut Tally) {
     let j = damaged(s, sweep, other);
     t.damaged += 1;
+    t.by_table.damaged += of_table(sweep);
     let mut buffer = j.clone();
     let more = s.one_of(&[0, 32, 33, 107, 200]);
     buffer.resize(j.len() + more, FILL);
@@ -312,16 +339,31 @@ fn on_damage(s: &mut Seeded, sweep: &Sweep, other: &Sweep, machine: &dyn Machine
     t.same(&shown, &ours, &theirs);
 }
 
-/// A sweep of each size, `count` times.
+/// A sweep of each size, `count` times: every other time by a table.
 fn sweeps(s: &mut Seeded, sizes: &[(usize, usize)], count: usize) -> Vec<Sweep> {
-    let one = |&(rows, times): &(usize, usize)| {
+    let one = |k: usize| {
+        let (rows, times) = sizes[k % sizes.len()];
         let targets = if s.once_in(4) { plans::Targets::Any } else { plans::Targets::Unit };
         let mut plan = plans::plan(s, targets, rows, times);
         let n = s.one_of(&[1, 1, 2, 3, 5, 8, 12]);
-        plans::for_sweep(s, &mut plan, n, plans::Entries::Either);
+        let rolls = if k / sizes.len() % 2 == 0 {
+            Rolls::Even(n)
+        } else {
+            // Not the even steps.
+            let spread = s.one_of(&plans::SPREADS[1..]);
+            Rolls::Table(plans::table(s, &plan, spread, n as usize))
+        };
+        plans::for_rolls(s, &mut plan, rolls, plans::Entries::Either);
         Sweep::new(plan).expect("an accepted plan")
     };
-    sizes.iter().cycle().take(sizes.len() * count).map(one).collect()
+    (0..sizes.len() * count).map(one).collect()
+}
+
+/// How many sweeps with cells are by a table, and how many of those have other lines than over as many even steps.
+fn other_lines(sweeps: &[Sweep]) -> [usize; 2] {
+    let by_table: Vec<&Sweep> = sweeps.iter().filter(|sweep| of_table(sweep) == 1 && sweep.chunks() > 0).collect();
+    let even = |sweep: &Sweep| Sweep::new(sweep.plan.stepped()).expect("accepted");
+    [by_table.len(), by_table.iter().filter(|sweep| even(sweep).lines != sweep.lines).count()]
 }
 
 /// The journal of a whole sweep, the mask and the sum of probes: by one range from an empty buffer, then collected.
@@ -338,19 +380,23 @@ fn whole(machine: &dyn Machine, sweep: &Sweep) -> (Vec<u8>, Vec<u8>, u64) {
     (journal, mask, sum)
 }
 
-/// Request Two's header and lines, where they can be told by hand: three targets at thirty times, so that the first chunk has cells of all
-/// three.
-fn tolerances(machine: &dyn Machine) {
-    let suns = (0..30).flat_map(|j| [0.0, 1.0, j as f64 / 10.0]).collect();
-    let plan = Plan {
+/// Three targets at thirty times, so that the first chunk has cells of all three. They are one direction: each row's optimal rolls rise from 0
+/// to about 71.
+fn three_targets() -> Plan {
+    Plan {
         targets: [1.0, 0.0, 0.0].repeat(3),
-        suns,
+        suns: (0..30).flat_map(|j| [0.0, 1.0, j as f64 / 10.0]).collect(),
         observers: vec![0.0; 90],
         tolerances: vec![20.0, 5.0, 30.0],
         roll_deg: None,
         panels: vec![0.0, 1.0, 0.0],
         rolls: Rolls::Even(4),
-    };
+    }
+}
+
+/// Request Two's header and lines, where they can be told by hand.
+fn tolerances(machine: &dyn Machine) {
+    let plan = three_targets();
     let with = |list: &[f64]| Sweep::new(Plan { tolerances: list.to_vec(), ..plan.clone() }).expect("accepted");
     let field = |journal: &[u8]| String::from_utf8(journal[24..40].to_vec()).expect("text");
 
@@ -407,6 +453,45 @@ fn tolerances(machine: &dyn Machine) {
     assert_eq!(String::from_utf8(journal).expect("text"), header + "00000000000000000000000200000004\n");
 }
 
+/// What request Five's header tells of a table, and what it does not.
+fn tables(machine: &dyn Machine) {
+    let over = |rolls: Rolls| Sweep::new(Plan { rolls, ..three_targets() }).expect("accepted");
+    let table = |list: &[f64]| over(Rolls::Table(list.to_vec()));
+    for length in [1, 2, 64, 3600] {
+        let (even, lent) = (over(Rolls::Even(length)), over(Rolls::Table(over(Rolls::Even(length)).plan.all_rolls())));
+        assert_eq!(whole(machine, &even), whole(machine, &lent), "{length} even steps, and the same lent as a table");
+        assert_eq!(lent.header[16..24], *format!("{length:08x}").as_bytes(), "the header's n");
+    }
+
+    // Two tables of one length: the header cannot tell them apart, both lines do.
+    let (first, second) = (table(&[0.0, 20.0, 40.0]), table(&[50.0, 60.0, 70.0]));
+    let (a, b) = (whole(machine, &first), whole(machine, &second));
+    assert_eq!(a.0[..HEADER], b.0[..HEADER], "one header");
+    assert!((0..2).all(|c| first.lines[c] != second.lines[c]), "other lines");
+    // Nor from as many even steps. Another length is another plan.
+    let (even, longer) = (over(Rolls::Even(3)), table(&[0.0, 20.0, 40.0, 60.0]));
+    let length = a.0.len() as u64;
+    assert_eq!([&second, &even, &longer].map(|other| machine.recover(other, &a.0, length)), [Ok(length), Ok(length), Err(11)]);
+
+    // So a sweep that was cut off and is resumed with the other one is accepted, and ends as none does that is lent one table.
+    let mut file = a.0[..HEADER + LINE + 7].to_vec();
+    let used = machine.recover(&second, &file, file.len() as u64).expect("nothing in it tells the table");
+    assert_eq!(used, (HEADER + LINE) as u64);
+    file.resize(HEADER + 2 * LINE, FILL);
+    assert_eq!(machine.work(&second, 1, &mut file, used), Ok(length));
+    assert_eq!(
+        file,
+        [&first.header[..], &first.lines[0], &second.lines[1]].concat(),
+        "the first chunk by one table, the second by the other"
+    );
+    let mut mask = vec![FILL; 90];
+    for collected in [&first, &second] {
+        machine.collect(collected, &file, length, &mut mask).expect("collected");
+        assert_eq!(mask, [&first.mask[..64], &second.mask[64..]].concat());
+        assert!(mask != first.mask && mask != second.mask);
+    }
+}
+
 /// Few cells, chunks that are not full, no cells at all, chunks of a dozen targets, and some of many chunks.
 const SMALL: [(usize, usize); 13] =
     [(0, 0), (0, 3), (2, 0), (1, 1), (1, 2), (7, 9), (8, 8), (5, 13), (30, 5), (3, 43), (10, 20), (1, 640), (31, 33)];
@@ -419,6 +504,7 @@ fn main() {
     let factor: u64 = arguments.iter().find_map(|a| a.parse().ok()).unwrap_or(1);
     let machine: &dyn Machine = if own { &Bytes } else { &Library };
     tolerances(machine);
+    tables(machine);
     let mut s = Seeded::new(4);
     let (small, long) = (sweeps(&mut s, &SMALL, 30), sweeps(&mut s, &LONG, 4));
     let mut t = Tally::default();
@@ -440,7 +526,17 @@ fn main() {
          against the ledger, {} damaged journals: {} differ",
         t.lists, t.entries, t.accepted, t.ranges, t.cuts, t.range_cuts, t.collected, t.damaged, t.differ
     );
-    if t.differ > 0 || t.lists < 100_000 || t.range_cuts < 5_000 || t.range_lines.iter().any(|&lines| lines < 5_000) {
+    let b = &t.by_table;
+    let [tables, other] = other_lines(&small);
+    println!(
+        "journals by a table: {} lists ({} ranges, {} cuts, {} collected, {} of them after a cut), {} damaged journals; \
+         {other} of {tables} sweeps with cells have other lines than over as many even steps",
+        b.lists, b.ranges, b.cuts, b.collected, b.resumed, b.damaged
+    );
+    // Else even steps in the place of a table's rolls would not be seen.
+    let tables_tell = 5 * b.lists >= 2 * t.lists && b.resumed >= 1_000 && 3 * other >= tables;
+    let enough = t.lists >= 100_000 && t.range_cuts >= 5_000 && t.range_lines.iter().all(|&lines| lines >= 5_000);
+    if t.differ > 0 || !enough || !tables_tell {
         exit(1);
     }
 }

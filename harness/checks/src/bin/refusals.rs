@@ -3,7 +3,7 @@
 //! `refusals [FACTOR]` multiplies the number of inputs.
 use cases::catalogue::{positions, DEC, RA};
 use cases::{plans, rows, Seeded};
-use checks::{lent, runs, work_range, Calls, Library, Model};
+use checks::{lent, rolls, runs, work_range, Calls, Library, Model};
 use model::cost::{Extreme, Size};
 use model::journal::{Sweep, HEADER, LINE};
 use model::plan::{Rolls, Third};
@@ -40,11 +40,17 @@ impl Tally {
     }
 }
 
-/// How many calls have a plan: the third to the fourteenth of those below.
+/// A call, and the numbers that it lists.
+type Listed = (&'static str, &'static [u8]);
+
+/// The calls with a plan that make masks, those of a journal by even steps, and those of one by a table, among those below.
+const MASKS: Range<usize> = 2..9;
+const EVEN: Range<usize> = 9..14;
+const TABLE: Range<usize> = 14..19;
+/// How many of them take one plan, whose rolls are one or the other.
 const PLAN_CALLS: usize = 12;
 
-/// The numbers that each call lists.
-const LISTED: [(&str, &[u8]); 23] = [
+static LISTED: [Listed; 28] = [
     ("cell", &[0, 4, 5, 6]),
     ("catalogue", &[0, 1, 7, 16]),
     ("named values", &[0, 1, 2, 4, 5, 6, 7, 17]),
@@ -59,6 +65,11 @@ const LISTED: [(&str, &[u8]); 23] = [
     ("work over a range", &[0, 1, 2, 3, 4, 5, 6, 7, 9, 10, 11, 12, 17]),
     ("recover", &[0, 1, 2, 3, 4, 5, 6, 11, 17]),
     ("collect", &[0, 1, 2, 3, 4, 5, 6, 7, 11, 12, 15, 17]),
+    ("begin, table", &[0, 1, 2, 4, 5, 6, 7, 13, 17, 18, 19]),
+    ("work, table", &[0, 1, 2, 4, 5, 6, 7, 9, 10, 11, 12, 17, 18, 19]),
+    ("work over a range, table", &[0, 1, 2, 4, 5, 6, 7, 9, 10, 11, 12, 17, 18, 19]),
+    ("recover, table", &[0, 1, 2, 4, 5, 6, 11, 17, 18, 19]),
+    ("collect, table", &[0, 1, 2, 4, 5, 6, 7, 11, 12, 15, 17, 18, 19]),
     ("cost", &[0, 2, 3, 7]),
     ("costliest plan", &[0, 2, 3, 7]),
     ("cheapest plan", &[0, 2, 3, 7]),
@@ -70,9 +81,18 @@ const LISTED: [(&str, &[u8]); 23] = [
     ("seconds", &[0, 1, 2, 8]),
 ];
 
+/// The calls of a journal whose plan has these rolls.
+fn of_journal(rolls: &Rolls) -> &'static [Listed] {
+    match rolls {
+        Rolls::Even(_) => &LISTED[EVEN],
+        Rolls::Table(_) => &LISTED[TABLE],
+    }
+}
+
 const BAD_POSITION: [f64; 5] = [f64::NAN, f64::INFINITY, f64::NEG_INFINITY, 1.0000000000000002e100, -1e101];
 const BAD_DIRECTION: [f64; 6] = [f64::NAN, f64::INFINITY, 1.0000000000000002, -1.0000000000000002, -7.0, 1e308];
-const BAD_N: [u64; 7] = [0, 3601, 1 << 32, (1 << 32) + 5, u64::MAX, 65_536, 1 << 63];
+const BAD_N: [u64; 8] = [0, 3601, 1 << 32, (1 << 32) + 5, 1 << 40, u64::MAX, 65_536, 1 << 63];
+const BAD_ROLL: [f64; 8] = [f64::NAN, 360.0, 360.00000000000006, -5e-324, -1.0, f64::INFINITY, f64::NEG_INFINITY, 1e300];
 
 fn spoil(s: &mut Seeded, list: &mut [f64], with: &[f64]) {
     if !list.is_empty() {
@@ -81,13 +101,39 @@ fn spoil(s: &mut Seeded, list: &mut [f64], with: &[f64]) {
     }
 }
 
-/// A small plan, and the same with any of the faults that refusals 1 to 6 and 17 name.
+/// Faults that refusals 3, 18 and 19 name.
+fn bad_rolls(s: &mut Seeded, good: &Rolls) -> Rolls {
+    let Rolls::Table(table) = good else { return Rolls::Even(s.one_of(&BAD_N)) };
+    let mut table = table.clone();
+    let at = s.index(table.len());
+    let (roll, next) = (table[at], (at + 1) % table.len());
+    match s.below(8) {
+        0 => table.clear(),
+        1 if s.once_in(8) => table.resize(s.one_of(&[3601, 3602, 65_536]), 359.5),
+        1 | 2 => table.insert(at, roll),
+        3 if next != at => table.swap(at, next),
+        // Not the only fault, nor the first.
+        4 => {
+            spoil(s, &mut table, &BAD_ROLL);
+            spoil(s, &mut table, &BAD_ROLL);
+        }
+        _ => spoil(s, &mut table, &BAD_ROLL),
+    }
+    Rolls::Table(table)
+}
+
+/// A small plan, and the same with any of the faults that refusals 1 to 6 and 17 to 19 name.
 fn faulty(s: &mut Seeded) -> (Plan, Plan) {
     let (rows, times) = (s.index(6), s.index(9));
     let mut good = plans::plan(s, plans::Targets::Any, rows, times);
-    let n = if s.once_in(8) { s.one_of(&BAD_N) } else { s.one_of(&[1, 1, 2, 3, 7, 3600]) };
-    plans::for_sweep(s, &mut good, n.clamp(1, 3600), plans::Entries::Either);
-    let mut p = Plan { rolls: Rolls::Even(n), ..good.clone() };
+    let n = if s.once_in(20) { 3600 } else { s.one_of(&[1, 1, 2, 3, 7, 20]) };
+    let spread = s.one_of(&plans::SPREADS);
+    let rolls = if s.once_in(2) { Rolls::Even(n) } else { Rolls::Table(plans::table(s, &good, spread, n as usize)) };
+    plans::for_rolls(s, &mut good, rolls, plans::Entries::Either);
+    let mut p = good.clone();
+    if s.once_in(8) {
+        p.rolls = bad_rolls(s, &good.rolls);
+    }
     if s.once_in(12) {
         p.targets.extend([0.5].repeat(s.within(1, 2) as usize));
     }
@@ -172,9 +218,10 @@ struct Beside {
     mask: usize,
 }
 
-/// Every call with a plan, in the order of `LISTED`: the library's number, 0 for accepted. `sweep`: of the plan, once it is accepted.
+/// Every call with a plan, those of masks first: the library's number, 0 for accepted. `sweep`: of the plan, once it is accepted.
 fn with_plan(t: &mut Tally, p: &Plan, sweep: Option<&Sweep>, b: &Beside) -> [u8; PLAN_CALLS] {
-    let n = p.even_n();
+    // Section 6's calls have even steps, whatever the plan's rolls are.
+    let n = p.n();
     let shown = || if p.cells() > 1000 { format!("{} rows {} times", p.rows(), p.times()) } else { format!("{p:?}") };
     let roll = match b.roll {
         Roll::Sweep(roll) | Roll::Fixed(roll) => roll,
@@ -250,11 +297,15 @@ fn journal(t: &mut Tally, p: &Plan, sweep: Option<&Sweep>, b: &Beside, shown: &d
     let Beside { file, used, chunks, mask, .. } = b;
     let (used, chunk, number) = (*used, chunks.start, |r: wilfnusk::Refusal| r.number());
     // What the model says, once the plan is accepted.
-    let theirs = p.refusal(Third::Sweep, used > file.len() as u64).map(|()| sweep.expect("an accepted plan's sweep"));
-    let (l, n) = (lent(p), p.even_n());
+    let refusal = p.refusal(Third::Sweep, used > file.len() as u64);
+    let theirs = refusal.map(|()| sweep.unwrap_or_else(|| panic!("the model accepts {}", shown())));
+    let (l, rolls) = (lent(p), rolls(p));
+    let bits_of_table = || p.rolls.table().into_iter().flatten().map(|roll| roll.to_bits()).collect::<Vec<_>>();
+    let before = bits_of_table();
+    let &[(begin, _), (work, _), (range, _), (recover, _), (collect, _)] = of_journal(&p.rolls) else { unreachable!("five calls") };
 
     let mut buffer = file.clone();
-    let ours = l.begin(n, &mut buffer, used).map_err(number);
+    let ours = l.begin(rolls, &mut buffer, used).map_err(number);
     assert!(ours.is_ok() || buffer == *file, "begin refused and wrote");
     let expected = theirs.and_then(|sweep| {
         let header = sweep.begin(file.len(), used)?;
@@ -262,9 +313,9 @@ fn journal(t: &mut Tally, p: &Plan, sweep: Option<&Sweep>, b: &Beside, shown: &d
         after[..HEADER].copy_from_slice(header);
         Ok((HEADER as u64, after))
     });
-    let begin = t.same("begin", ours.map(|u| (u, buffer)), expected, shown);
+    let begin = t.same(begin, ours.map(|u| (u, buffer)), expected, shown);
     let mut buffer = file.clone();
-    let ours = l.work(n, chunk, &mut buffer, used).map_err(number);
+    let ours = l.work(rolls, chunk, &mut buffer, used).map_err(number);
     assert!(ours.is_ok() || buffer == *file, "work refused and wrote");
     let expected = theirs.and_then(|sweep| {
         let line = sweep.work(chunk, file, used)?;
@@ -272,7 +323,7 @@ fn journal(t: &mut Tally, p: &Plan, sweep: Option<&Sweep>, b: &Beside, shown: &d
         after[used as usize..][..LINE].copy_from_slice(line);
         Ok((used + LINE as u64, after))
     });
-    let work = t.same("work", ours.map(|u| (u, buffer)), expected, shown);
+    let work = t.same(work, ours.map(|u| (u, buffer)), expected, shown);
     let mut buffer = file.clone();
     let ours = work_range(p, chunks.clone(), &mut buffer, used);
     assert!(ours.is_ok() || buffer == *file, "work over a range refused and wrote");
@@ -282,24 +333,24 @@ fn journal(t: &mut Tally, p: &Plan, sweep: Option<&Sweep>, b: &Beside, shown: &d
         after[used as usize..][..lines.len()].copy_from_slice(&lines);
         Ok(((used + lines.len() as u64, stopped), after))
     });
-    let range = t.same("work over a range", ours.map(|u| (u, buffer)), expected, shown);
+    let range = t.same(range, ours.map(|u| (u, buffer)), expected, shown);
 
     let recovered = theirs.and_then(|sweep| sweep.recover(file, used));
-    let recover = t.same("recover", l.recover(n, file, used).map_err(number), recovered, shown);
+    let recover = t.same(recover, l.recover(rolls, file, used).map_err(number), recovered, shown);
 
     let mut out = vec![0x5a; *mask];
-    let ours = l.collect(n, file, used, &mut out).map_err(number);
+    let ours = l.collect(rolls, file, used, &mut out).map_err(number);
     assert!(ours.is_ok() || out.iter().all(|&b| b == 0x5a), "collect refused and wrote");
     let written = p.cells().min(out.len());
     let ours = ours.map(|sum| (out[..written].to_vec(), sum));
-    let collect = t.same("collect", ours, theirs.and_then(|sweep| sweep.collect(file, used, *mask)), shown);
+    let collect = t.same(collect, ours, theirs.and_then(|sweep| sweep.collect(file, used, *mask)), shown);
+    assert_eq!(bits_of_table(), before, "a roll of the lent table has changed");
     [begin, work, range, recover, collect]
 }
 
-/// Two targets, forty times, two chunks; and what makes every call refuse it for each of its own reasons. With a list of tolerances that is
-/// not one a target each call says 17 to all of that, and 1 to 6 before it.
-fn of_tolerances(t: &mut Tally) {
-    let good = Plan {
+/// Two targets, forty times, two chunks.
+fn two_targets() -> Plan {
+    Plan {
         targets: vec![1.0, 0.0, 0.0, 0.6, 0.0, 0.8],
         suns: [[0.0, 1.0, 0.0], [0.0, 0.0, 1.0]].concat().repeat(20),
         observers: vec![0.0; 120],
@@ -307,8 +358,11 @@ fn of_tolerances(t: &mut Tally) {
         roll_deg: Some(20.0),
         panels: vec![0.0, 1.0, 0.0],
         rolls: Rolls::Even(3),
-    };
-    let sweep = Sweep::new(good.clone()).expect("accepted");
+    }
+}
+
+/// What makes every call accept that plan, and refuse it for each of its own reasons.
+fn own_reasons(sweep: &Sweep) -> [Beside; 11] {
     let header = &sweep.header[..];
     let (one, both) = ([header, &sweep.lines[0]].concat(), [header, &sweep.lines.concat()].concat());
     let spoiled = [b"x", &header[1..]].concat();
@@ -324,7 +378,7 @@ fn of_tolerances(t: &mut Tally) {
         chunks,
         mask: places,
     };
-    let own = [
+    [
         given(&[], 200, 0..2, 0, 80),
         given(header, 200, 0..2, 0, 80),
         // No room.
@@ -339,48 +393,112 @@ fn of_tolerances(t: &mut Tally) {
         given(&both[..150], 200, 1..2, 0, 80),
         given(&one, 200, 0..2, 0, 80),
         given(&both, 200, 0..2, 0, 80),
-    ];
-    let mut seen: [BTreeSet<u8>; PLAN_CALLS] = Default::default();
-    for b in &own {
-        for (seen, number) in seen.iter_mut().zip(with_plan(t, &good, Some(&sweep), b)) {
-            seen.insert(number);
-        }
-    }
-    for ((call, numbers), seen) in LISTED[2..].iter().zip(&seen) {
-        let own: BTreeSet<u8> = numbers.iter().copied().filter(|n| ![1, 2, 3, 4, 5, 6, 17].contains(n)).collect();
-        assert_eq!(*seen, own, "{call}: each of its own answers");
-    }
+    ]
+}
 
-    let listed = |number: u8| LISTED[2..][..PLAN_CALLS].iter().map(move |(_, numbers)| numbers.contains(&number));
-    for length in [0, 1, 3, 6, 40] {
-        let mut wrong = good.clone();
-        wrong.tolerances.resize(length, 10.0);
-        let beside: [(u8, fn(&mut Plan)); 9] = [
-            (17, |_| ()),
-            (6, |p| p.panels[0] = f64::NAN),
-            (5, |p| p.targets[5] = 1.5),
-            (4, |p| p.suns[119] = f64::NAN),
-            (4, |p| p.observers[0] = f64::INFINITY),
-            (3, |p| p.rolls = Rolls::Even(3601)),
-            (2, |p| p.targets = [1.0, 0.0, 0.0].repeat(65_537)),
-            (1, |p| p.targets.push(0.5)),
-            (1, |p| p.suns.truncate(117)),
-        ];
-        for (number, spoil) in beside {
-            let mut p = wrong.clone();
-            spoil(&mut p);
-            let expected: Vec<u8> = listed(number).map(|listed| if listed { number } else { 17 }).collect();
+/// What makes a plan be refused by a number.
+type Fault = (u8, fn(&mut Plan));
+
+/// Faults of a plan for two targets, but for its rolls'.
+const FAULTS: [Fault; 8] = [
+    (1, |p| p.targets.push(0.5)),
+    (1, |p| p.suns.truncate(117)),
+    (2, |p| p.targets = [1.0, 0.0, 0.0].repeat(65_537)),
+    (4, |p| p.suns[119] = f64::NAN),
+    (4, |p| p.observers[0] = f64::INFINITY),
+    (5, |p| p.targets[5] = 1.5),
+    (6, |p| p.panels[0] = f64::NAN),
+    (17, |p| p.tolerances.push(10.0)),
+];
+
+fn spoiled(p: &Plan, spoil: fn(&mut Plan)) -> Plan {
+    let mut p = p.clone();
+    spoil(&mut p);
+    p
+}
+
+/// By even steps and by a table: with a list of tolerances that is not one a target each call says 17 to all of its own reasons, and what comes
+/// before 17 before it.
+fn of_tolerances(t: &mut Tally) {
+    let even: (Rolls, &[Fault]) = (Rolls::Even(3), &[(3, |p| p.rolls = Rolls::Even(3601))]);
+    let table: (Rolls, &[Fault]) = (
+        Rolls::Table(vec![0.0, 35.0, 200.0]),
+        &[(18, |p| p.rolls = Rolls::Table(vec![])), (19, |p| p.rolls = Rolls::Table(vec![0.0, 35.0, 35.0]))],
+    );
+    for (rolls, faults_of_rolls) in [even, table] {
+        let listed: Vec<&Listed> = LISTED[MASKS].iter().chain(of_journal(&rolls)).collect();
+        let good = Plan { rolls, ..two_targets() };
+        let sweep = Sweep::new(good.clone()).expect("accepted");
+        let own = own_reasons(&sweep);
+        let mut seen: [BTreeSet<u8>; PLAN_CALLS] = Default::default();
+        for b in &own {
+            for (seen, number) in seen.iter_mut().zip(with_plan(t, &good, Some(&sweep), b)) {
+                seen.insert(number);
+            }
+        }
+        for ((call, numbers), seen) in listed.iter().zip(&seen) {
+            let own: BTreeSet<u8> = numbers.iter().copied().filter(|n| ![1, 2, 3, 4, 5, 6, 17, 18, 19].contains(n)).collect();
+            assert_eq!(*seen, own, "{call}: each of its own answers");
+        }
+
+        for length in [0, 1, 3, 6, 40] {
+            let mut wrong = good.clone();
+            wrong.tolerances.resize(length, 10.0);
+            let none: Fault = (17, |_| ());
+            let beside = FAULTS.iter().chain(faults_of_rolls).filter(|fault| fault.0 != 17).chain([&none]);
+            for &(number, spoil) in beside {
+                let p = spoiled(&wrong, spoil);
+                let expected: Vec<u8> = listed.iter().map(|(_, numbers)| if numbers.contains(&number) { number } else { 17 }).collect();
+                for b in &own {
+                    assert_eq!(with_plan(t, &p, None, b)[..], expected[..], "{length} tolerances for two targets, and {number}");
+                }
+            }
+        }
+        // No targets, or no times: 17 as well, before 9.
+        let none = Plan { targets: vec![], ..good.clone() };
+        let no_times = Plan { suns: vec![], observers: vec![], tolerances: vec![10.0], ..good.clone() };
+        for p in [none, no_times] {
             for b in &own {
-                assert_eq!(with_plan(t, &p, None, b)[..], expected[..], "{length} tolerances for two targets, and {number}");
+                assert_eq!(with_plan(t, &p, None, b), [17; PLAN_CALLS]);
             }
         }
     }
-    // No targets, or no times: 17 as well, before 9.
-    let none = Plan { targets: vec![], ..good.clone() };
-    let no_times = Plan { suns: vec![], observers: vec![], tolerances: vec![10.0], ..good.clone() };
-    for p in [none, no_times] {
+}
+
+/// The five calls of a journal with each listed table, beside all of their own reasons and each fault of the plan: 18 and 19 follow 1 and 2, and
+/// come before all else. A number of even steps is refused there by 3.
+fn of_tables(t: &mut Tally) {
+    let even = two_targets();
+    // The even steps of every n are a table that is accepted.
+    for n in 1..=3600 {
+        let p = Plan { rolls: Rolls::Even(n), ..even.clone() };
+        assert_eq!(lent(&p).recover(&p.all_rolls()[..], &[], 0), Ok(0), "{n}");
+    }
+    let sweep = Sweep::new(even.clone()).expect("accepted");
+    let own = own_reasons(&sweep);
+    let answers = |t: &mut Tally, p: &Plan, sweep: Option<&Sweep>, b: &Beside| journal(t, p, sweep, b, &|| format!("{:?}", p.rolls));
+    let tables = cases::plans::listed_tables().into_iter().map(|(number, table)| (number, Rolls::Table(table)));
+    for (number, rolls) in tables.chain(BAD_N.map(|n| (3, Rolls::Even(n)))) {
+        let p = Plan { rolls, ..even.clone() };
+        if number == 0 {
+            // As even steps: to each of its own reasons the same number, and to each fault of the plan that of the fault.
+            let swept = Sweep::new(p.clone()).expect("accepted");
+            for (b, as_even) in own_reasons(&swept).iter().zip(&own) {
+                assert_eq!(answers(t, &p, Some(&swept), b), answers(t, &even, Some(&sweep), as_even), "{:?}", p.rolls);
+                for (other, spoil) in FAULTS {
+                    assert_eq!(answers(t, &spoiled(&p, spoil), None, b), [other; 5], "{:?}, and {other}", p.rolls);
+                }
+            }
+            continue;
+        }
         for b in &own {
-            assert_eq!(with_plan(t, &p, None, b), [17; PLAN_CALLS]);
+            assert_eq!(answers(t, &p, None, b), [number; 5], "{:?}", p.rolls);
+            let beyond = Beside { file: vec![0x5a; 200], used: 201, chunks: 0..2, ..*b };
+            assert_eq!(answers(t, &p, None, &beyond), [1; 5], "{:?}, and a used length beyond its buffer", p.rolls);
+            for (other, spoil) in FAULTS {
+                let first = if other <= 2 { other } else { number };
+                assert_eq!(answers(t, &spoiled(&p, spoil), None, b), [first; 5], "{:?}, and {other}", p.rolls);
+            }
         }
     }
 }
@@ -654,6 +772,7 @@ fn main() {
     let mut t = Tally::default();
     of_ends(&mut t);
     of_tolerances(&mut t);
+    of_tables(&mut t);
     of_sizes(&mut t);
     let (mut of_catalogue, mut of_cost) = (Seeded::new(6), Seeded::new(7));
     for _ in 0..60_000 * factor {
@@ -670,11 +789,11 @@ fn main() {
         println!("{call:<27} {}", numbers.iter().map(|(n, k)| format!("{n}: {k}")).collect::<Vec<_>>().join("  "));
     }
     for (call, numbers) in LISTED {
-        for n in numbers {
-            if !t.answers.get(call).is_some_and(|a| a.contains_key(n)) {
-                println!("FAILED {call}: no input gave {n}");
-                good = false;
-            }
+        let given: BTreeSet<u8> = t.answers.get(call).into_iter().flat_map(|a| a.keys().copied()).collect();
+        let listed = numbers.iter().copied().collect();
+        if given != listed {
+            println!("FAILED {call}: answers {given:?}, listed are {listed:?}");
+            good = false;
         }
     }
     println!("refusals: {asked} answers, {} differ from the plain model's", t.differ);

@@ -2,7 +2,7 @@
 //! `stack [KIB]` takes KIB for the promise: with too little, the thread overflows its stack, which ends the program.
 use cases::catalogue::positions;
 use cases::plans::direction;
-use checks::{lent, Lists};
+use checks::{lent, rolls, Lists};
 use model::plan::{is_unit, Rolls};
 use std::hint::black_box;
 use std::process::exit;
@@ -104,7 +104,7 @@ fn each(i: &mut Inputs, run: &mut dyn FnMut(&'static str, &mut dyn FnMut())) {
     of_sizes(&mut i.values, run);
     // The most targets, the most times, and the most times for which work_range holds the Sun's units in a table.
     for (rows, times, roll_deg) in [(65_536, 1, Some(33.0)), (16, 65_536, None), (119, 8784, None), (119, 8784, Some(33.0))] {
-        let plan = model::Plan {
+        let even = model::Plan {
             targets: i.targets[..3 * rows].to_vec(),
             suns: i.suns[..3 * times].to_vec(),
             observers: i.observers[..3 * times].to_vec(),
@@ -113,7 +113,10 @@ fn each(i: &mut Inputs, run: &mut dyn FnMut(&'static str, &mut dyn FnMut())) {
             panels: vec![0.1, 0.9, -0.3],
             rolls: Rolls::Even(ROLLS),
         };
-        of_plan(lent(&plan), plan.even_n(), plan.cells().div_ceil(64) as u64, &mut i.values, &mut i.mask, &mut i.journal, run);
+        of_plan(lent(&even), ROLLS, &mut i.values, &mut i.mask, run);
+        let table = model::Plan { rolls: Rolls::Table(even.all_rolls()), ..even.clone() };
+        of_journal(EVEN, &even, &mut i.mask, &mut i.journal, run);
+        of_journal(TABLE, &table, &mut i.mask, &mut i.journal, run);
     }
     // The most windows, and one as long as the row.
     for step in [2, SAMPLES] {
@@ -141,16 +144,7 @@ fn of_sizes(values: &mut [f64], run: &mut dyn FnMut(&'static str, &mut dyn FnMut
     }
 }
 
-fn of_plan(
-    plan: Plan,
-    n: u64,
-    chunks: u64,
-    values: &mut [f64],
-    mask: &mut [u8],
-    journal: &mut [u8],
-    run: &mut dyn FnMut(&'static str, &mut dyn FnMut()),
-) {
-    let line = |k: u64| wilfnusk::HEADER_BYTES + k * wilfnusk::LINE_BYTES;
+fn of_plan(plan: Plan, n: u64, values: &mut [f64], mask: &mut [u8], run: &mut dyn FnMut(&'static str, &mut dyn FnMut())) {
     run("wilfnusk_named_values", &mut || plan.named_values(values).expect("accepted"));
     run("wilfnusk_in_constraint_batch", &mut || plan.in_constraint_batch(mask).expect("accepted"));
     for roll in [Roll::Sweep(77.0), Roll::Fixed(77.0)] {
@@ -160,17 +154,29 @@ fn of_plan(
     run("wilfnusk_evaluate", &mut || plan.evaluate(0, mask, values).expect("accepted"));
     run("wilfnusk_field_of_regard_violated_batch", &mut || plan.field_of_regard_violated_batch(0, n, mask).expect("accepted"));
     run("wilfnusk_field_of_regard_violated_at_roll", &mut || plan.field_of_regard_violated_at_roll(0, 77.0, mask).expect("accepted"));
-    // A journal of all chunks but the last two in one range, those two by work and by a range of one, then all of it.
-    run("wilfnusk_begin", &mut || assert_eq!(plan.begin(n, journal, 0), Ok(line(0))));
-    run("wilfnusk_work_range", &mut || {
-        assert_eq!(plan.work_range(n, 0..chunks - 2, journal, line(0)), Ok((line(chunks - 2), chunks - 2)));
+}
+
+/// The C names of a journal: begin, work, work over a range, recover, collect.
+type Names = [&'static str; 5];
+const EVEN: Names = ["wilfnusk_begin", "wilfnusk_work", "wilfnusk_work_range", "wilfnusk_recover", "wilfnusk_collect"];
+const TABLE: Names =
+    ["wilfnusk_begin_rolls", "wilfnusk_work_rolls", "wilfnusk_work_range_rolls", "wilfnusk_recover_rolls", "wilfnusk_collect_rolls"];
+
+/// A journal of all chunks but the last two in one range, those two by work and by a range of one, then all of it.
+fn of_journal(names: Names, plan: &model::Plan, mask: &mut [u8], journal: &mut [u8], run: &mut dyn FnMut(&'static str, &mut dyn FnMut())) {
+    let (chunks, rolls, plan) = (plan.cells().div_ceil(64) as u64, rolls(plan), lent(plan));
+    let [begin, work, work_range, recover, collect] = names;
+    let line = |k: u64| wilfnusk::HEADER_BYTES + k * wilfnusk::LINE_BYTES;
+    run(begin, &mut || assert_eq!(plan.begin(rolls, journal, 0), Ok(line(0))));
+    run(work_range, &mut || {
+        assert_eq!(plan.work_range(rolls, 0..chunks - 2, journal, line(0)), Ok((line(chunks - 2), chunks - 2)));
     });
-    run("wilfnusk_work", &mut || assert_eq!(plan.work(n, chunks - 2, journal, line(chunks - 2)), Ok(line(chunks - 1))));
-    run("wilfnusk_work_range", &mut || {
-        assert_eq!(plan.work_range(n, chunks - 1..u64::MAX, journal, line(chunks - 1)), Ok((line(chunks), chunks)));
+    run(work, &mut || assert_eq!(plan.work(rolls, chunks - 2, journal, line(chunks - 2)), Ok(line(chunks - 1))));
+    run(work_range, &mut || {
+        assert_eq!(plan.work_range(rolls, chunks - 1..u64::MAX, journal, line(chunks - 1)), Ok((line(chunks), chunks)));
     });
-    run("wilfnusk_recover", &mut || assert_eq!(plan.recover(n, journal, line(chunks)), Ok(line(chunks))));
-    run("wilfnusk_collect", &mut || assert!(plan.collect(n, journal, line(chunks), mask).is_ok()));
+    run(recover, &mut || assert_eq!(plan.recover(rolls, journal, line(chunks)), Ok(line(chunks))));
+    run(collect, &mut || assert!(plan.collect(rolls, journal, line(chunks), mask).is_ok()));
 }
 
 fn of_row(i: &mut Inputs, mask: &[u8], run: &mut dyn FnMut(&'static str, &mut dyn FnMut())) {

@@ -1,17 +1,29 @@
 //! Writes a sample of the customer's Rust's answers for the program `replay`: one file a section of document 01, the answers for targets that
-//! are no unit vectors in a file of their own, and catalogue positions in another. The seeds stand here, so every run writes the same files. At
-//! the repository's root, after `harness/run`, which builds it:
+//! are no unit vectors in a file of their own, catalogue positions in another, and sweeps over tables of rolls in a third. The seeds stand here, so
+//! every run writes the same files. At the repository's root, after `harness/run`, which builds it:
 //!
 //!     target/cargo/release/record crates/replay/data
 //!
 //! A line is words of hexadecimal digits, the first its kind. A line of kind 0 gives a plan, a row of samples or positions. Each other line
 //! asks about what was given last: two words of what is asked (0 where nothing is), then the Rust's answer up to the line's end. A float is
 //! its bits (every NaN 7ff8000000000000), a time its 64 bits, a mask a word a sample.
+//!
+//! A line of kind 19, `TABLE`, has its table behind the answer, by these words:
+//!
+//! | word | |
+//! |---|---|
+//! | 0 | 19 |
+//! | 1 | how many rolls the table has, 1 to 156: the header's n |
+//! | 2 | the word at which they begin, 100 |
+//! | 3 | probes |
+//! | 4 up to 4 + cells | the mask |
+//! | 4 + cells up to 100 | 7 each: what the program's words are past a line's last, and its lent mask of 96 places before a call |
+//! | 100 up to 100 + rolls | the rolls' bits, in their order |
 use cases::catalogue::{beside, positions};
-use cases::plans::{for_roll, for_sweep, plan, roll, samples, Entries, Targets};
+use cases::plans::{self, for_roll, for_rolls, for_sweep, plan, roll, samples, Entries, Targets, SPREADS};
 use cases::{rows, Seeded};
 use model::arithmetic::bits;
-use model::plan::is_unit;
+use model::plan::{is_unit, Rolls};
 use model::windows::Window;
 use model::{Plan, Roll};
 use oracle::patch::{self, without};
@@ -42,6 +54,12 @@ const EXPAND_REORDERED: u64 = 15; // mask, at other times
 const RESULT: u64 = 16; // how many visibility windows of `ConstraintResult`, each one's first and last time
 const SECONDS: u64 = 17; // the seconds
 const VECTORS: u64 = 18; // x, y, z of each position
+const TABLE: u64 = 19; // how many rolls, the word at which they begin: probes, mask; see above
+
+/// The program's lent mask begins with word 4 and has 96 places.
+const TABLE_BEGINS: usize = 100;
+/// The program's `UNWRITTEN`.
+const UNWRITTEN: u64 = 7;
 
 #[derive(Default)]
 struct File(String);
@@ -81,6 +99,10 @@ fn small(s: &mut Seeded, targets: Targets) -> Plan {
     p
 }
 
+fn oracle(p: &Plan) -> Oracle {
+    Oracle::new(p, &(0..p.times() as i64).collect::<Vec<_>>())
+}
+
 fn given(f: &mut File, p: &Plan) -> Oracle {
     assert!(p.rows() <= 8 && p.times() <= 24 && p.tolerances.len() == p.rows(), "the program has room for it");
     let (t, s) = (p.targets.len() as u64, p.suns.len() as u64);
@@ -88,7 +110,7 @@ fn given(f: &mut File, p: &Plan) -> Oracle {
     let lists = floats(&[&p.head_panel()[..], &p.targets, &p.suns, &p.observers, &p.tolerances].concat());
     let head = [t, s, 11 + t, 11 + t + s, 11 + t + 2 * s];
     f.given(&[&head, &roll, &lists]);
-    Oracle::new(p, &(0..p.times() as i64).collect::<Vec<_>>())
+    oracle(p)
 }
 
 /// How many of a file's plans have several targets with equal tolerances, and with tolerances that differ: by the words, as the program reads them.
@@ -239,6 +261,49 @@ fn any_targets() -> File {
     File(a.0 + &b.0 + &c.0)
 }
 
+/// How many of the lines of `table` are of a plan with a configured roll, and how many of the others have another answer by as many even steps;
+/// marked cells, and clear ones.
+#[derive(Debug, Default)]
+struct Told {
+    configured: usize,
+    other: usize,
+    marked: usize,
+    clear: usize,
+}
+
+/// Request Five: each plan is swept over two tables, its settings being drawn for the first.
+fn table() -> File {
+    // 12 lengths and 5 spreads: each of both comes together.
+    let mut kinds = SPREADS.into_iter().cycle().zip([1, 2, 5, 24, 3, 1, 2, 5, 64, 24, 2, 156].into_iter().cycle());
+    let mut told = Told::default();
+    // Seed 19 makes too few plans with equal tolerances.
+    let f = many(69, 30, Targets::Unit, |f, s, mut p| {
+        let tables = [0, 1].map(|_| {
+            let (spread, length) = kinds.next().expect("without end");
+            plans::table(s, &p, spread, length)
+        });
+        for_rolls(s, &mut p, Rolls::Table(tables[0].clone()), Entries::Either);
+        given(f, &p);
+        for table in tables {
+            p.rolls = Rolls::Table(table);
+            let even = oracle(&p.stepped()).sweep();
+            let (marks, tried) = oracle(&p).sweep();
+            let mut answer = [&[tried.iter().sum()], mask(&marks).as_slice()].concat();
+            // Behind the kind and two words of what is asked.
+            answer.resize(TABLE_BEGINS - 3, UNWRITTEN);
+            f.asked(TABLE, [p.n(), TABLE_BEGINS as u64], &[answer, floats(&p.all_rolls())].concat());
+            let marked = marks.iter().filter(|&&mark| mark == 1).count();
+            told.marked += marked;
+            told.clear += marks.len() - marked;
+            told.configured += p.roll_deg.is_some() as usize;
+            told.other += (p.roll_deg.is_none() && (marks, tried) != even) as usize;
+        }
+    });
+    println!("table: {told:?}");
+    assert!(told.marked >= 150 && told.clear >= 150 && told.configured >= 5 && told.other >= 20, "sweeps of every kind");
+    f
+}
+
 fn catalogue() -> File {
     let mut f = File::default();
     let mut asked = |list: &[(f64, f64)]| {
@@ -278,6 +343,7 @@ fn main() {
         ("section-3", many(43, 80, Targets::Unit, sweeps)),
         ("section-6", many(16, 50, Targets::Unit, others)),
         ("any-targets", any_targets()),
+        ("table", table()),
     ];
     for (name, file) in &plans {
         let [equal, differing] = equal_and_differing(file);
