@@ -28,7 +28,7 @@ pub struct Cost {
     /// How many times
     #[arg(long, value_name = "N", value_parser = whole_number, allow_negative_numbers = true, requires = "targets", requires = "rolls")]
     times: Option<u64>,
-    /// How many rolls, its `rolls`
+    /// How many rolls, even steps or a table
     #[arg(long, value_name = "R", value_parser = whole_number, allow_negative_numbers = true, requires = "targets", requires = "times")]
     rolls: Option<u64>,
     /// Print it as JSON

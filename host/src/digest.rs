@@ -1,5 +1,5 @@
-//! The digest that stands beside a journal. Targets, positions and the tolerances after the first are not in its header, so an edited file
-//! of equal size would resume into wrong windows: J.plan has a digest of every number of the plan, and tells which file changed.
+//! The digest that stands beside a journal. Targets, positions, the tolerances after the first and a table's rolls are not in its header, so an
+//! edited file of equal size would resume into wrong windows: J.plan has a digest of every number of the plan, and tells which file changed.
 use crate::{
     explain,
     fault::Fault,
@@ -130,10 +130,12 @@ pub fn is_known(plan: &Plan, journal: &Path) -> Result<bool, Fault> {
         return Err(unfolded(then.version, plan, journal));
     }
     let mut now = Digest::of(plan);
-    // The tolerances are settings, wherever they stand.
-    if let Told::Column(_) = plan.told {
-        now.files[0] = format!("{} or the column `tolerance` of {}", now.files[0], now.files[1]);
-    }
+    // The settings that the header does not have: which rolls they are, and the tolerances after the first, wherever they stand.
+    now.files[0] = match plan.told {
+        _ if plan.names.len() < 2 => format!("`rolls` in {}", now.files[0]),
+        Told::Column(_) => format!("`rolls` in {} or the column `tolerance` of {}", now.files[0], now.files[1]),
+        Told::Number | Told::List => format!("`rolls` or `tolerance` in {}", now.files[0]),
+    };
     let changed = now.changed(&then);
     if changed.is_empty() {
         return Ok(true);
@@ -168,7 +170,7 @@ pub fn same_plan(plan: &Plan, journal: &Path) -> Result<bool, Fault> {
     let known = is_known(plan, journal)?;
     if !known {
         tell!(
-            "warning: {} is missing: nothing tells whether {} was made from these targets, positions and tolerances. To work every line out again: {} --recompute",
+            "warning: {} is missing: nothing tells whether {} was made from these targets, positions, tolerances and rolls. To work every line out again: {} --recompute",
             Digest::path(journal).display(),
             journal.display(),
             explain::command("check", plan, journal)
@@ -184,14 +186,14 @@ pub fn same_plan(plan: &Plan, journal: &Path) -> Result<bool, Fault> {
 /// The tolerances are one number where it is the same for all targets, so that it does not matter how the files tell it, else one a target;
 /// without targets +0, as the header has it.
 fn settings(plan: &Plan) -> String {
-    let (n, is_configured, roll) = (plan.rolls, plan.configured_roll.is_some() as u64, bits(&plan.configured_roll.unwrap_or(0.0)));
+    let (n, is_configured, roll) = (plan.rolls.count(), plan.configured_roll.is_some() as u64, bits(&plan.configured_roll.unwrap_or(0.0)));
     let tolerances = match common(&plan.tolerances) {
         Some(same) => vec![same],
         None if plan.tolerances.is_empty() => vec![0.0],
         None => plan.tolerances.clone(),
     };
     let list = |numbers: &[f64]| [vec![numbers.len() as u64], numbers.iter().map(bits).collect()].concat();
-    hash([vec![n, is_configured, roll], list(&tolerances), list(&plan.panel), list(&[])].concat())
+    hash([vec![n, is_configured, roll], list(&tolerances), list(&plan.panel), list(plan.rolls.table().unwrap_or(&[]))].concat())
 }
 
 /// A number's bits; one NaN stands for all, as in the journal's header.
@@ -305,14 +307,20 @@ mod tests {
             assert_eq!(settings(&plan), "a1358abd4afafe6cf76725ec2d67b15dbe9196f02854e5337e083c9fb038c20d", "{}", toml);
         }
     }
+    /// What is said of a plan beside the digest of another.
+    fn fault_after(then: &Plan, now: &Plan) -> Fault {
+        let folder = tempfile::tempdir().unwrap();
+        let journal = folder.path().join("j");
+        Digest::of(then).write(&journal).unwrap();
+        assert!(is_known(then, &journal).unwrap());
+        is_known(now, &journal).unwrap_err()
+    }
     /// Bytes put together by another program.
     #[test]
     fn tolerances_that_differ_are_all_hashed() {
         let read = |tolerance: &str| plan(&TOML.replace("10", tolerance), TARGETS, EPHEMERIS).unwrap();
         // 1, 0, 0; 2, 10.0, NaN; 3, 0.0, 1.0, 0.0; 0.
         assert_eq!(settings(&read("[10, nan]")), "e934991011da3d711366f3316cc99451ea276b79f88bee9dfbcc46e5ee9636d0");
-        let folder = tempfile::tempdir().unwrap();
-        let journal = folder.path().join("j");
         for (then, now) in [
             ("10", "[10, 11]"),
             ("[10, 11]", "10"),
@@ -321,12 +329,47 @@ mod tests {
             ("[10, nan]", "[10, 10]"),
             ("[10, 11]", "[11, 10]"),
         ] {
-            Digest::of(&read(then)).write(&journal).unwrap();
-            assert!(is_known(&read(then), &journal).unwrap());
-            let fault = is_known(&read(now), &journal).unwrap_err();
-            assert!(fault.to_string().starts_with("plan.toml: its numbers are not those"), "{} {}: {}", then, now, fault);
+            let fault = fault_after(&read(then), &read(now));
+            assert!(fault.to_string().starts_with("`rolls` or `tolerance` in plan.toml: its numbers are not those"), "{}", fault);
         }
         assert!((0..2).all(|i| Digest::of(&read("[10, 11]")).digests[i + 1] == Digest::of(&read("10")).digests[i + 1]));
+    }
+    /// Bytes put together by another program; even steps are hashed as by the programs before there were tables.
+    #[test]
+    fn a_table_of_rolls_is_hashed_last() {
+        let read = |rolls: &str| plan(&TOML.replace("rolls = 1", &format!("rolls = {}", rolls)), TARGETS, EPHEMERIS).unwrap();
+        // 2, 0, 0; 1, 10.0; 3, 0.0, 1.0, 0.0; and 0, or 2, 0.0, 15.5.
+        assert_eq!(settings(&read("2")), "10b2efad041951a65c8327edc97b31e8751356e834201956d45500355fd97bf2");
+        assert_eq!(settings(&read("[0, 15.5]")), "cd68ffdeec0c59ba8c1c2966983e4db02aea162825ef84271a936e6863654ef3");
+        assert_eq!(settings(&read("[-0.0, 15.5]")), "d365948426dc30e043bbebc4d02a9875514c1bc6c2de7ca4533cf3d56c35b810");
+        for (then, now) in [
+            ("[0, 15.5]", "[0, 15.500000000000002]"),
+            ("[0, 15.5]", "[1, 15.5]"),
+            ("[0, 15.5]", "[-0.0, 15.5]"),
+            // The even steps as a table are the same rolls, and another record of them.
+            ("[0, 180]", "2"),
+            ("2", "[0, 180]"),
+        ] {
+            let fault = fault_after(&read(then), &read(now));
+            assert!(fault.status() == 3 && fault.to_string().starts_with("`rolls` or `tolerance` in plan.toml: its numbers"), "{}", fault);
+            assert!(Digest::of(&read(then)).digests[1..] == Digest::of(&read(now)).digests[1..]);
+        }
+        // The same numbers in other words.
+        assert_eq!(settings(&read("[\n  0.0, # first\n  1.55e1,\n]")), settings(&read("[0, 15.5]")));
+    }
+    /// Of one target or none the header has the tolerance, so it can only be the rolls.
+    #[test]
+    fn only_what_may_have_changed_is_named() {
+        let toml = TOML.replace("rolls = 1", "rolls = [0, 90]");
+        for (targets, files) in [
+            ("name,x,y,z\n", "`rolls` in plan.toml: its numbers"),
+            ("name,x,y,z\nA,1,0,0\n", "`rolls` in plan.toml: its numbers"),
+            (TARGETS, "`rolls` or `tolerance` in plan.toml: its numbers"),
+        ] {
+            let read = |toml: &str| plan(toml, targets, EPHEMERIS).unwrap();
+            let fault = fault_after(&read(&toml), &read(&toml.replace("90", "91")));
+            assert!(fault.to_string().starts_with(files), "{}", fault);
+        }
     }
     #[test]
     fn a_column_that_changed_names_its_file() {
@@ -339,9 +382,9 @@ mod tests {
         let list = plan(TOML.replace("10", "[10, 11]"), TARGETS, EPHEMERIS).unwrap();
         assert_eq!(Digest::of(&list).text(), written);
         for (targets, files) in [
-            (column("10", "12"), "plan.toml or the column `tolerance` of t.csv: its numbers"),
-            (column("12", "11"), "plan.toml or the column `tolerance` of t.csv: its numbers"),
-            (column("10", "12").replace("0,1,0", "0,0,1"), "plan.toml or the column `tolerance` of t.csv, t.csv: its numbers"),
+            (column("10", "12"), "`rolls` in plan.toml or the column `tolerance` of t.csv: its numbers"),
+            (column("12", "11"), "`rolls` in plan.toml or the column `tolerance` of t.csv: its numbers"),
+            (column("10", "12").replace("0,1,0", "0,0,1"), "`rolls` in plan.toml or the column `tolerance` of t.csv, t.csv: its numbers"),
             (column("10", "11").replace("0,1,0", "0,0,1"), "t.csv: its numbers"),
         ] {
             let fault = is_known(&plan(&toml, &targets, EPHEMERIS).unwrap(), &journal).unwrap_err();

@@ -1,5 +1,5 @@
 //! The proved library as this program calls it. Every vector, line, mask and window comes from here, and nothing else calls it.
-use crate::plan::Plan;
+use crate::{plan::Plan, tried::Rolls};
 use std::ops::Range;
 pub use wilfnusk::{cos, sin, Cost, Refusal, Roll, Window, CHUNK_CELLS, HEADER_BYTES, LINE_BYTES};
 use wilfnusk::{Columns, PlanLists};
@@ -15,6 +15,16 @@ fn lent(plan: &Plan) -> wilfnusk::Plan<'_> {
     }
 }
 
+/// A table is lent as it is, without a copy.
+impl<'a> From<&'a Rolls> for wilfnusk::Rolls<'a> {
+    fn from(rolls: &'a Rolls) -> Self {
+        match rolls {
+            Rolls::Even(n) => wilfnusk::Rolls::Even(*n),
+            Rolls::Table(table) => wilfnusk::Rolls::Table(table),
+        }
+    }
+}
+
 /// The unit vectors of catalogue positions in degrees, three numbers each.
 pub fn unit_vectors(ra: &[f64], dec: &[f64]) -> Result<Vec<f64>, Refusal> {
     let mut vectors = vec![0.0; 3 * ra.len()];
@@ -24,7 +34,7 @@ pub fn unit_vectors(ra: &[f64], dec: &[f64]) -> Result<Vec<f64>, Refusal> {
 
 /// Whether the library takes this plan: recovery of an empty journal refuses as the plan does, and a listing as its times do.
 pub fn check(plan: &Plan) -> Result<(), Refusal> {
-    lent(plan).recover(plan.rolls, &[], 0)?;
+    lent(plan).recover(&plan.rolls, &[], 0)?;
     visibility(&vec![0; plan.times.len()], &plan.times)?;
     Ok(())
 }
@@ -107,23 +117,23 @@ pub fn header(plan: &Plan) -> Result<Vec<u8>, Refusal> {
 
 /// Writes the header into an empty journal. The used length after it.
 pub fn begin(plan: &Plan, journal: &mut [u8]) -> Result<usize, Refusal> {
-    lent(plan).begin(plan.rolls, journal, 0).map(|used| used as usize)
+    lent(plan).begin(&plan.rolls, journal, 0).map(|used| used as usize)
 }
 
 /// Appends the lines of a run of chunks, in their order, up to the first that cannot be. The used length after them.
 pub fn work(plan: &Plan, chunks: Range<u64>, journal: &mut [u8], used: usize) -> Result<usize, Refusal> {
-    lent(plan).work_range(plan.rolls, chunks, journal, used as u64).map(|(used, _)| used as usize)
+    lent(plan).work_range(&plan.rolls, chunks, journal, used as u64).map(|(used, _)| used as usize)
 }
 
 /// How much of the journal stands: the header and the lines whose writing ended.
 pub fn recover(plan: &Plan, journal: &[u8]) -> Result<usize, Refusal> {
-    lent(plan).recover(plan.rolls, journal, journal.len() as u64).map(|used| used as usize)
+    lent(plan).recover(&plan.rolls, journal, journal.len() as u64).map(|used| used as usize)
 }
 
 /// The mask that a whole journal holds, and the sum of its probes.
 pub fn collect(plan: &Plan, journal: &[u8]) -> Result<(Vec<u8>, u64), Refusal> {
     let mut mask = vec![0; plan.cells()];
-    let probes = lent(plan).collect(plan.rolls, journal, journal.len() as u64, &mut mask)?;
+    let probes = lent(plan).collect(&plan.rolls, journal, journal.len() as u64, &mut mask)?;
     Ok((mask, probes))
 }
 
@@ -155,12 +165,19 @@ pub fn rolls(plan: &Plan) -> Result<(Vec<f64>, Vec<bool>), Refusal> {
     Ok((rolls, mask.into_iter().map(|marked| marked == 0).collect()))
 }
 
-/// Each target's mark at one time: at a roll, or by the distance to the nearest of the plan's rolls.
-pub fn regard(plan: &Plan, time: usize, roll: Option<f64>) -> Result<Vec<u8>, Refusal> {
+/// What the marks at one time are by: a roll, or the distance to the nearest of n even steps. There is no such call over a table.
+#[derive(Clone, Copy, Debug)]
+pub enum Regarded {
+    Roll(f64),
+    EvenSteps(u64),
+}
+
+/// Each target's mark at one time.
+pub fn regard(plan: &Plan, time: usize, by: Regarded) -> Result<Vec<u8>, Refusal> {
     let mut mask = vec![0; plan.names.len()];
-    match roll {
-        Some(roll) => lent(plan).field_of_regard_violated_at_roll(time as u64, roll, &mut mask)?,
-        None => lent(plan).field_of_regard_violated_batch(time as u64, plan.rolls, &mut mask)?,
+    match by {
+        Regarded::Roll(roll) => lent(plan).field_of_regard_violated_at_roll(time as u64, roll, &mut mask)?,
+        Regarded::EvenSteps(n) => lent(plan).field_of_regard_violated_batch(time as u64, n, &mut mask)?,
     }
     Ok(mask)
 }
@@ -230,7 +247,8 @@ mod tests {
         assert_eq!(recover(&plan, &journal[..journal.len() - 1]), Ok(HEADER_BYTES as usize));
         assert_eq!(collect(&plan, &journal), Ok((vec![0, 1], 2)));
         assert_eq!(mask_at(&plan, Roll::Sweep(0.0)), Ok(vec![0, 1]));
-        assert_eq!((regard(&plan, 0, None), regard(&plan, 1, Some(90.0))), (Ok(vec![0]), Ok(vec![0])));
+        let regarded = [(0, Regarded::EvenSteps(1)), (1, Regarded::EvenSteps(1)), (1, Regarded::Roll(90.0))];
+        assert_eq!(regarded.map(|(time, by)| regard(&plan, time, by)), [Ok(vec![0]), Ok(vec![1]), Ok(vec![0])]);
         let windows = violations(&[0, 1], &plan.times, &[0.0, 0.5]).unwrap();
         assert_eq!((windows.len(), windows[0].first, windows[0].severity, windows[0].is_last), (1, 1, 0.5, 1));
         assert_eq!(visibility(&[0, 1], &plan.times).unwrap().len(), 0);

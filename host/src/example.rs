@@ -53,7 +53,7 @@ ephemeris = \"ephemeris.csv\"    # time, Sun x, y, z and observer x, y, z (here 
 
 # The bus settles at 24 rolls, 15 degrees apart. A target may be looked at while one of
 # them is within 5 degrees of the roll that faces the panel to the Sun.
-rolls = 24                     # tried at every cell: 0, 15, 30, .. 345 degrees
+rolls = 24                     # tried at every cell: 0, 15, 30, .. 345 degrees; or a list, [0, 15.5, 47, ..]
 tolerance = 5                  # degrees, for all targets; or a list with one number a target, [5, 3, ..];
                                # or leave this key out and give targets.csv a column `tolerance`
 panel = [0, 1, 0]              # panel normal in the body's axes: x boresight; at roll 0 y east, z north
@@ -263,6 +263,17 @@ mod tests {
         let lines = targets();
         let rows = lines.lines().skip(1).zip(&own).map(|(line, t)| format!("{},{}\n", line, t));
         assert_eq!(read(PLAN.replace(key, "# "), format!("name,ra,dec,tolerance\n{}", rows.collect::<String>())), own);
+    }
+    /// What its comment says of the rolls may be done.
+    #[test]
+    fn its_rolls_may_be_a_list() {
+        assert!(PLAN.contains("or a list, [0, 15.5, 47, ..]"));
+        let folder = tempfile::tempdir().unwrap();
+        write(folder.path(), &season()).unwrap();
+        fs::write(folder.path().join("plan.toml"), PLAN.replace("rolls = 24 ", "rolls = [0, 15.5, 47] ")).unwrap();
+        let plan = Plan::read(&folder.path().join("plan.toml")).unwrap();
+        engine::check(&plan).unwrap();
+        assert_eq!(plan.rolls.table(), Some(&[0.0, 15.5, 47.0][..]));
     }
     #[test]
     fn is_a_plan() {

@@ -7,8 +7,8 @@ use crate::{
     journal::{chunk_of, hex, lines},
     plan::{Plan, VECTOR_COLUMNS},
     sheet::Sheet,
-    text::{counted, grouped, quoted},
-    tolerance,
+    text::{counted, excerpt, grouped, number, quoted},
+    tolerance, tried,
 };
 use std::path::{Path, PathBuf};
 
@@ -37,7 +37,7 @@ pub fn plan(plan: &Plan, refusal: Refusal) -> Fault {
             grouped(plan.targets_sheet.len() * plan.ephemeris_sheet.len()),
             SIZES
         )),
-        3 => Some(format!("{}: rolls reads {}; allowed: {}", plan.at("rolls"), plan.rolls, ROLLS)),
+        3 => Some(format!("{}: rolls reads {}; allowed: {}", plan.at("rolls"), plan.rolls.count(), tried::ALLOWED)),
         4 => position(plan),
         // The vectors that the library makes of positions are never refused with 5.
         5 if plan.targets_sheet.form() == VECTOR_COLUMNS => {
@@ -62,9 +62,25 @@ pub fn plan(plan: &Plan, refusal: Refusal) -> Fault {
             counted(plan.names.len(), "target"),
             tolerance::ALLOWED
         )),
+        18 => {
+            let count = counted(plan.rolls.count(), "number");
+            Some(format!("{}: rolls lists {}; allowed: {}", plan.at("rolls"), count, tried::ALLOWED))
+        }
+        19 => plan.rolls.table().and_then(|table| roll(plan, table)),
         _ => None,
     };
     Fault::Refused(refusal.number(), found.unwrap_or_else(|| refusal.sentence().to_owned()))
+}
+
+/// What `regard` says where the rolls are a table: without a roll it goes by even steps.
+pub fn needs_even_steps(plan: &Plan, journal: &Path) -> Fault {
+    Fault::Usage(format!(
+        "{}: rolls is {}, and without --roll even steps are needed; allowed: --roll DEG for the marks at one roll, or the mask of a sweep over the \
+         table: `{} --from TIME --to TIME`",
+        plan.at("rolls"),
+        plan.rolls.in_words(""),
+        command("mask", plan, journal)
+    ))
 }
 
 /// A refusal of a size alone, which these words of the command line give.
@@ -119,6 +135,28 @@ pub fn catalogue(targets: &Sheet, refusal: Refusal) -> Fault {
 fn target(targets: &Sheet, row: usize, column: usize, allowed: &str) -> String {
     let (field, name) = (targets.field(row, column), targets.field(row, 0).shown());
     format!("{}: {} of target `{}` reads `{}`; allowed: {}", field.at(), field.name(), name, field.shown(), allowed)
+}
+
+/// The first roll of a table that is refused.
+fn roll(plan: &Plan, table: &[f64]) -> Option<String> {
+    // A text of 16 digits or with an exponent may be another number than it seems to be.
+    let reads = |i: usize| match plan.entry("rolls", i).1 {
+        text if (text.len() > 16 || text.contains(['e', 'E'])) && text != number(table[i]) => format!("{} ({})", excerpt(text), number(table[i])),
+        text => text.to_owned(),
+    };
+    let told = |i: usize, before: &str| {
+        let allowed = "0 up to but not at 360 degrees, each above the one before it";
+        format!("{}: entry {} of rolls reads {}{}; allowed: {}", plan.entry("rolls", i).0, grouped(i + 1), reads(i), before, allowed)
+    };
+    (0..table.len()).find_map(|i| {
+        if !(table[i] >= 0.0 && table[i] < 360.0) {
+            Some(told(i, ""))
+        } else if i > 0 && !(table[i - 1] < table[i]) {
+            Some(told(i, &format!(", and entry {} before it {}", grouped(i), reads(i - 1))))
+        } else {
+            None
+        }
+    })
 }
 
 fn position(plan: &Plan) -> Option<String> {
@@ -287,7 +325,8 @@ fn line_fault(plan: &Plan, line: &[u8], number: usize, seen: &mut [Option<usize>
         return Some((9, format!("mask {:016x} marks cells past the last; allowed: its low {} bits", mask, cells)));
     }
     let marked = u64::from(mask.count_ones());
-    let (fewest, most) = (cells - marked + plan.rolls * marked, plan.rolls * cells);
+    let rolls = plan.rolls.count();
+    let (fewest, most) = (cells - marked + rolls * marked, rolls * cells);
     if !(fewest..=most).contains(&probes) {
         return Some((25, format!("{} probes; allowed for that mask: {} to {}", probes, fewest, most)));
     }

@@ -231,7 +231,8 @@ impl<'a> Listing<'a> {
         let p = self.plan;
         let time = |t| instant::format(t, 9);
         let json = Json {
-            rolls: p.rolls,
+            rolls: p.rolls.count(),
+            rolls_deg: p.rolls.table(),
             tolerance_deg: tolerance::common(&p.tolerances).map(Degrees),
             configured_roll_deg: p.configured_roll.map(Degrees),
             panel_normal: p.panel,
@@ -425,6 +426,8 @@ impl Serialize for Degrees {
 #[derive(Serialize)]
 struct Json<'a> {
     rolls: u64,
+    /// None where they are even steps.
+    rolls_deg: Option<&'a [f64]>,
     /// None where the targets have different ones.
     tolerance_deg: Option<Degrees>,
     configured_roll_deg: Option<Degrees>,

@@ -1,7 +1,7 @@
 //! The commands that only look: windows, status, mask, regard. They take no lock and change no file.
 use crate::{
     digest::same_plan,
-    engine::{self, Roll, HEADER_BYTES},
+    engine::{self, Regarded, Roll, HEADER_BYTES},
     explain,
     fault::{csv_error, Fault},
     files::buffered,
@@ -13,7 +13,9 @@ use crate::{
     say, say_json,
     selection::{self, Selected, Selection},
     text::{all_ranges, counted, grouped, number, printable, ranges},
-    tolerance, Files,
+    tolerance,
+    tried::Rolls,
+    Files,
 };
 use clap::{Args, ValueEnum};
 use serde::Serialize;
@@ -89,6 +91,8 @@ struct State {
     times: usize,
     cells: usize,
     rolls: u64,
+    /// None where they are even steps.
+    rolls_deg: Option<Vec<f64>>,
     /// None where the targets have different ones, or there are none; the list then has them.
     tolerance_deg: Option<Degrees>,
     tolerances_deg: Option<Vec<Degrees>>,
@@ -124,7 +128,8 @@ impl Status {
             targets: plan.names.len(),
             times: plan.times.len(),
             cells: plan.cells(),
-            rolls: plan.rolls,
+            rolls: plan.rolls.count(),
+            rolls_deg: plan.rolls.table().map(<[f64]>::to_vec),
             tolerance_deg: one_tolerance.map(Degrees),
             tolerances_deg: one_tolerance.is_none().then(|| plan.tolerances.iter().copied().map(Degrees).collect()),
             configured_roll_deg: plan.configured_roll.map(Degrees),
@@ -196,7 +201,7 @@ pub fn about(plan: &Plan) -> String {
         counted(plan.times.len(), "time"),
         counted(plan.cells(), "cell"),
         counted(plan.chunks(), "chunk"),
-        counted(plan.rolls, "roll"),
+        plan.rolls.in_words(""),
         tolerance::in_words(&plan.tolerances, ""),
         plan.panel,
         plan.configured_roll.map_or("none".to_owned(), number),
@@ -284,7 +289,7 @@ pub struct Regard {
     /// A sample number, from 0
     #[arg(long, value_name = "J", conflicts_with = "time")]
     sample: Option<usize>,
-    /// The marks at this roll, in degrees; a configured roll overrides it [default: at every roll of the plan]
+    /// The marks at this roll, in degrees; a configured roll overrides it [default: at every roll of the plan, which must then be even steps]
     #[arg(long, value_name = "DEG", allow_hyphen_values = true)]
     roll: Option<f64>,
     /// Leave out all targets but this one; may be given again. * stands for any characters, ? for one, [ab] for a or b
@@ -294,13 +299,18 @@ pub struct Regard {
 
 impl Regard {
     pub fn run(&self) -> Result<(), Fault> {
-        let (plan, _) = Files { plan: self.plan.clone(), journal: None }.read()?;
+        let (plan, journal) = Files { plan: self.plan.clone(), journal: None }.read()?;
         let targets = selection::targets(&self.names, &plan)?;
         let sample = match (&self.time, self.sample) {
             (Some(text), _) => sample_at(&plan, text)?,
             (None, sample) => sample.unwrap_or(0),
         };
-        let marks = engine::regard(&plan, sample, self.roll).map_err(|r| match r.number() {
+        let by = match (self.roll, &plan.rolls) {
+            (Some(roll), _) => Regarded::Roll(roll),
+            (None, Rolls::Even(n)) => Regarded::EvenSteps(*n),
+            (None, Rolls::Table(_)) => return Err(explain::needs_even_steps(&plan, &journal)),
+        };
+        let marks = engine::regard(&plan, sample, by).map_err(|r| match r.number() {
             9 => Fault::Refused(9, format!("sample {}; allowed: below {}", sample, plan.times.len())),
             _ => explain::plan(&plan, r),
         })?;
@@ -338,6 +348,7 @@ mod tests {
             times: 100,
             cells: 300,
             rolls: 8,
+            rolls_deg: None,
             tolerance_deg: Some(Degrees(15.0)),
             tolerances_deg: None,
             configured_roll_deg: None,

@@ -30,6 +30,7 @@ mod stop;
 mod svg;
 mod sweep;
 mod tolerance;
+mod tried;
 
 use clap::{Args, CommandFactory, Parser, Subcommand};
 use fault::Fault;

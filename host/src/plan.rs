@@ -7,6 +7,7 @@ use crate::{
     source::{shown, Source},
     text::{excerpt, grouped},
     tolerance::{self, Told},
+    tried::{self, Rolls},
 };
 use serde::de::{Deserialize, Deserializer, MapAccess, Visitor};
 use std::{
@@ -23,7 +24,7 @@ pub const EPHEMERIS_COLUMNS: Form = &["time", "sun_x", "sun_y", "sun_z", "observ
 /// A target's tolerance may stand beside its position.
 pub const TOLERANCE_COLUMN: &str = "tolerance";
 const KEYS: &[&str] = &["targets", "ephemeris", "rolls", "tolerance", "panel", "configured_roll"];
-/// A list of 65,536 tolerances, each with all its digits, and far more than the other keys and their comments take.
+/// Lists of 65,536 tolerances and 3,600 rolls, each number with all its digits, and far more than the other keys and their comments take.
 const MOST_BYTES: u64 = 1 << 21;
 /// How deep a value may stand in others: the TOML reader calls itself for each.
 const MOST_DEPTH: usize = 16;
@@ -33,7 +34,7 @@ pub struct Plan {
     pub source: Source,
     pub targets_file: String,
     pub ephemeris_file: String,
-    pub rolls: u64,
+    pub rolls: Rolls,
     /// In degrees, one a target. A list of another length is read too; the library refuses it with 17.
     pub tolerances: Vec<f64>,
     pub told: Told,
@@ -156,7 +157,16 @@ impl Plan {
     }
     /// The place of a key's value in the TOML file; of the file's start for a key that is left out.
     pub fn at(&self, key: &str) -> String {
-        self.source.at(self.places.get(key).copied().unwrap_or(0))
+        self.source.at(self.place(key))
+    }
+    fn place(&self, key: &str) -> usize {
+        self.places.get(key).copied().unwrap_or(0)
+    }
+    /// The place of an entry, from 0, of a key's list of numbers, and what it reads there.
+    pub fn entry(&self, key: &str, number: usize) -> (String, &str) {
+        let list = self.place(key);
+        let (at, text) = entry(&self.source.text, list, number).unwrap_or((list, ""));
+        (self.source.at(at), text)
     }
     /// What is accepted and yet seldom meant: two targets of one name, and a name of several lines.
     pub fn warnings(&self) -> Vec<String> {
@@ -191,7 +201,7 @@ impl Plan {
     }
     /// All that its sweep's cost depends on.
     pub fn size(&self) -> engine::Size {
-        engine::Size { targets: self.names.len() as u64, times: self.times.len() as u64, rolls: self.rolls }
+        engine::Size { targets: self.names.len() as u64, times: self.times.len() as u64, rolls: self.rolls.count() }
     }
     pub fn chunks(&self) -> usize {
         (self.cells() + wilfnusk::CHUNK_CELLS as usize - 1) / wilfnusk::CHUNK_CELLS as usize
@@ -291,10 +301,6 @@ impl<'a> Values<'a> {
     fn wrong(&self, key: &str, read: &Read, allowed: &str) -> Fault {
         self.source.fault(read.at, format!("{} reads {}", key, read.text), allowed)
     }
-    /// A form that the library has and a plan cannot ask for yet.
-    fn later(&self, key: &str, read: &Read, what: &str, allowed: &str) -> Fault {
-        self.source.fault(read.at, format!("{} reads {}: {} cannot be swept yet", key, read.text, what), allowed)
-    }
     fn file(&mut self, key: &'static str) -> Result<String, Fault> {
         let allowed = format!("{} = \"{}.csv\", a file named from the plan's folder", key, key);
         match self.needed(key, &allowed)? {
@@ -302,14 +308,21 @@ impl<'a> Values<'a> {
             read => Err(self.wrong(key, &read, &allowed)),
         }
     }
-    fn rolls(&mut self) -> Result<u64, Fault> {
-        const ALLOWED: &str = "a whole number of rolls, 1 to 3600";
-        let read = self.needed("rolls", ALLOWED)?;
-        match &read.value {
-            Value::Integer(n) => u64::try_from(*n).map_err(|_| self.wrong("rolls", &read, ALLOWED)),
-            Value::Array(_) => Err(self.later("rolls", &read, "a table of rolls", ALLOWED)),
-            _ => Err(self.wrong("rolls", &read, ALLOWED)),
+    fn rolls(&mut self) -> Result<Rolls, Fault> {
+        let read = self.needed("rolls", tried::ALLOWED)?;
+        match read.value {
+            Value::Integer(n) => u64::try_from(n).map(Rolls::Even).map_err(|_| self.wrong("rolls", &read, tried::ALLOWED)),
+            _ => self.list("rolls", &read, tried::ALLOWED).map(Rolls::Table),
         }
+    }
+    fn list(&self, key: &str, read: &Read, allowed: &str) -> Result<Vec<f64>, Fault> {
+        let items = read.value.as_array().ok_or_else(|| self.wrong(key, read, allowed))?;
+        let numbers: Vec<_> = items.iter().map_while(number).collect();
+        if numbers.len() < items.len() {
+            let wrong = format!("{} reads {}, and its entry {} is no number", key, read.text, grouped(numbers.len() + 1));
+            return Err(self.source.fault(read.at, wrong, allowed));
+        }
+        Ok(numbers)
     }
     /// One number or a list of them, and what stands there.
     fn tolerance(&mut self) -> Result<Option<(Read, Told, Vec<f64>)>, Fault> {
@@ -320,12 +333,7 @@ impl<'a> Values<'a> {
         if let Some(x) = number(&read.value) {
             return Ok(Some((read, Told::Number, vec![x])));
         }
-        let items = read.value.as_array().ok_or_else(|| self.wrong("tolerance", &read, tolerance::ALLOWED))?;
-        let numbers: Vec<_> = items.iter().map_while(number).collect();
-        if numbers.len() < items.len() {
-            let wrong = format!("tolerance reads {}, and its entry {} is no number", read.text, grouped(numbers.len() + 1));
-            return Err(self.source.fault(read.at, wrong, tolerance::ALLOWED));
-        }
+        let numbers = self.list("tolerance", &read, tolerance::ALLOWED)?;
         Ok(Some((read, Told::List, numbers)))
     }
     fn panel(&mut self) -> Result<[f64; 3], Fault> {
@@ -336,7 +344,9 @@ impl<'a> Values<'a> {
         };
         let panel = match read.value.as_array().map(Vec::as_slice) {
             Some([Value::Array(panel)]) => Some(panel.as_slice()),
-            Some(items) if items.iter().any(Value::is_array) => return Err(self.later("panel", &read, "several panels", ALLOWED)),
+            Some(items) if items.iter().any(Value::is_array) => {
+                return Err(self.source.fault(read.at, format!("panel reads {}: several panels cannot be swept yet", read.text), ALLOWED))
+            }
             items => items,
         };
         let numbers: Option<Vec<f64>> = panel.and_then(|items| items.iter().map(number).collect());
@@ -413,6 +423,31 @@ fn value_start(text: &str, key_end: usize) -> usize {
     }
 }
 
+/// The byte and the text of an entry, from 0, of the list that starts here, up to which there are numbers alone. The reader's own place of a number
+/// is after its decimal point.
+fn entry(text: &str, list: usize, number: usize) -> Option<(usize, &str)> {
+    let (mut at, mut before) = (list + 1, 0);
+    loop {
+        let rest = text.get(at..)?;
+        at += match rest.bytes().next()? {
+            b'#' => rest.find('\n')?,
+            b',' => {
+                before += 1;
+                1
+            }
+            b' ' | b'\t' | b'\r' | b'\n' => 1,
+            b']' => return None,
+            _ => {
+                let length = rest.find(|c: char| ",]#".contains(c) || c.is_whitespace()).unwrap_or(rest.len());
+                if before == number {
+                    return Some((at, &rest[..length]));
+                }
+                length
+            }
+        };
+    }
+}
+
 /// A TOML number, whole or not.
 fn number(value: &Value) -> Option<f64> {
     match value {
@@ -472,7 +507,7 @@ pub mod tests {
     #[test]
     fn a_plan() {
         let p = with("rolls = 1\ntolerance = 10\n").unwrap();
-        assert_eq!((p.rolls, &p.tolerances[..], p.configured_roll, p.panel), (1, &[10.0][..], None, [0.0, 1.0, 0.0]));
+        assert_eq!((&p.rolls, &p.tolerances[..], p.configured_roll, p.panel), (&Rolls::Even(1), &[10.0][..], None, [0.0, 1.0, 0.0]));
         assert_eq!((p.names.len(), p.times.len(), p.cells(), p.chunks()), (1, 2, 2, 1));
         assert_eq!(p.suns, [0.0, 1.0, 0.0, 0.0, 0.0, 1.0]);
         assert!(p.at("tolerance").ends_with("plan.toml, line 4, column 13"));
@@ -494,18 +529,27 @@ pub mod tests {
     }
     #[test]
     fn forms_that_come_later_are_told_apart() {
-        assert!(fault("rolls = [0, 90]\ntolerance = 1").starts_with(
-            "plan.toml, line 3, column 9: rolls reads [0, 90]: a table of rolls cannot be swept yet; allowed: a whole number"
-        ));
         assert!(fault("rolls = 1\ntolerance = 1\npanel = [[0, 1, 0], [0, 0, 1]]").contains("several panels cannot be swept yet"));
     }
     #[test]
     fn wrong_settings() {
         for (settings, says) in [
-            ("tolerance = 1", "plan.toml, line 1, column 1: `rolls` is missing; allowed: a whole number of rolls, 1 to 3600"),
+            (
+                "tolerance = 1",
+                "plan.toml, line 1, column 1: `rolls` is missing; allowed: a whole number of rolls, 1 to 3600, or a list of 1 to 3600 rolls in degrees",
+            ),
             ("rolls = 1", "plan.toml, line 1, column 1: `tolerance` is missing; allowed: one number of degrees for all targets, or a list"),
             ("rolls = -1\ntolerance = 1", "plan.toml, line 3, column 9: rolls reads -1; allowed: a whole number"),
             ("rolls = 1.5\ntolerance = 1", "plan.toml, line 3, column 9: rolls reads 1.5; allowed: a whole number"),
+            ("rolls = true\ntolerance = 1", "plan.toml, line 3, column 9: rolls reads true; allowed: a whole number"),
+            (
+                "rolls = [0, \"90\"]\ntolerance = 1",
+                "plan.toml, line 3, column 9: rolls reads [0, \"90\"], and its entry 2 is no number; allowed: a whole number",
+            ),
+            (
+                "rolls = [[0, 90]]\ntolerance = 1",
+                "plan.toml, line 3, column 9: rolls reads [[0, 90]], and its entry 1 is no number; allowed: a whole number",
+            ),
             ("rolls = 1\ntolerance = \"2\"", "plan.toml, line 4, column 13: tolerance reads \"2\"; allowed: one number"),
             ("rolls = 1\ntolerance = 1\npanel = [0, 1]", "plan.toml, line 5, column 9: panel reads [0, 1]; allowed: one panel normal"),
             ("rolls = 1\ntolerance = 1\npanel = [0, \"y\", 0]", "plan.toml, line 5, column 9: panel reads"),
@@ -515,6 +559,95 @@ pub mod tests {
         ] {
             let text = fault(settings);
             assert!(text.starts_with(says), "{}", text);
+        }
+    }
+    /// The entries of `rolls`, each with what is written after it.
+    fn list(entries: &[(String, &str)]) -> String {
+        format!("[{}]", entries.iter().map(|(number, after)| number.clone() + after).collect::<String>())
+    }
+    #[test]
+    fn a_table_of_rolls() {
+        let read = |rolls: &str| {
+            let p = with(&format!("rolls = {}\ntolerance = 1", rolls)).unwrap();
+            engine::check(&p).unwrap();
+            bits(p.rolls.table().unwrap())
+        };
+        assert_eq!(read("[0, 15.5, 90, 359.5]"), bits(&[0.0, 15.5, 90.0, 359.5]));
+        assert_eq!(
+            read("[\n  -0.0, # the first\n  1e-300,\n  3_0,\n  0x5a, 3.5999999999999994e2,\n]"),
+            bits(&[-0.0, 1e-300, 30.0, 90.0, 359.99999999999994])
+        );
+        assert_eq!(read("[47]"), bits(&[47.0]));
+        let most: Vec<f64> = (0..3600).map(|k| k as f64 * 0.1).collect();
+        assert_eq!(read(&list(&most.iter().map(|x| (format!("{:?}", x), ",\n")).collect::<Vec<_>>())), bits(&most));
+    }
+    /// What is said of a plan with these rolls, further keys and targets.
+    fn rolls_fault(rolls: &str, more: &str, targets: &str) -> String {
+        let (status, text) = fault_of(format!("targets = \"t.csv\"\nephemeris = \"e.csv\"\nrolls = {}\n{}\n", rolls, more), targets);
+        assert_eq!(status, 1, "{}", text);
+        text
+    }
+    #[test]
+    fn a_table_that_is_refused_is_told_at_its_entry() {
+        const ENTRY: &str = "; allowed: 0 up to but not at 360 degrees, each above the one before it";
+        const LENGTH: &str = "; allowed: a whole number of rolls, 1 to 3600, or a list of 1 to 3600 rolls in degrees";
+        for (rolls, says) in [
+            ("[360]", "plan.toml, line 3, column 10: entry 1 of rolls reads 360"),
+            ("[0, 3.6e2, 400]", "plan.toml, line 3, column 13: entry 2 of rolls reads 3.6e2 (360)"),
+            ("[0, -1, 400]", "plan.toml, line 3, column 13: entry 2 of rolls reads -1"),
+            ("[-5e-324]", "plan.toml, line 3, column 10: entry 1 of rolls reads -5e-324"),
+            ("[nan]", "plan.toml, line 3, column 10: entry 1 of rolls reads nan"),
+            ("[0, -nan, 90]", "plan.toml, line 3, column 13: entry 2 of rolls reads -nan"),
+            ("[0, 90, nan]", "plan.toml, line 3, column 17: entry 3 of rolls reads nan"),
+            ("[0, inf]", "plan.toml, line 3, column 13: entry 2 of rolls reads inf"),
+            ("[-inf]", "plan.toml, line 3, column 10: entry 1 of rolls reads -inf"),
+            ("[0, 0.0]", "plan.toml, line 3, column 13: entry 2 of rolls reads 0.0, and entry 1 before it 0"),
+            ("[-0.0, 0]", "plan.toml, line 3, column 16: entry 2 of rolls reads 0, and entry 1 before it -0.0"),
+            ("[0, -0.0]", "plan.toml, line 3, column 13: entry 2 of rolls reads -0.0, and entry 1 before it 0"),
+            ("[359.99999999999999999]", "plan.toml, line 3, column 10: entry 1 of rolls reads 359.99999999999999999 (360)"),
+            (
+                "[1, 1.00000000000000001]",
+                "plan.toml, line 3, column 13: entry 2 of rolls reads 1.00000000000000001 (1), and entry 1 before it 1",
+            ),
+            (
+                "[64.00000000000001, 64.00000000000002]",
+                "plan.toml, line 3, column 29: entry 2 of rolls reads 64.00000000000002 (64.00000000000001), and entry 1 before it 64.00000000000001",
+            ),
+            ("[5e-324, 6E-324]", "plan.toml, line 3, column 18: entry 2 of rolls reads 6E-324 (5e-324), and entry 1 before it 5e-324"),
+            ("[0, 90, 15.5, 15]", "plan.toml, line 3, column 17: entry 3 of rolls reads 15.5, and entry 2 before it 90"),
+            (
+                "[ # 1, 2 ]\r\n\t0 , 15.5# 400,\r\n  ,\n\n   90,15.5\n]",
+                "plan.toml, line 7, column 7: entry 4 of rolls reads 15.5, and entry 3 before it 90",
+            ),
+        ] {
+            assert_eq!(rolls_fault(rolls, "tolerance = 1", TARGETS), format!("refused with 19: {}{}", says, ENTRY), "{}", rolls);
+        }
+        let more = list(&vec![("1".to_owned(), ","); 3601]);
+        let digits = format!("[361.{}]", "1".repeat(1_000_000));
+        assert!(rolls_fault(&digits, "tolerance = 1", TARGETS).len() < 300);
+        for (rolls, count) in [("[]", "0 numbers"), ("[ ]", "0 numbers"), ("[ # 1\n]", "0 numbers"), (&more, "3,601 numbers")] {
+            let says = format!("refused with 18: plan.toml, line 3, column 9: rolls lists {}{}", count, LENGTH);
+            assert_eq!(rolls_fault(rolls, "tolerance = 1", TARGETS), says);
+        }
+    }
+    /// 18, then 19, in the place of 3: after 2, before 4, 5, 6 and 17.
+    #[test]
+    fn a_table_is_asked_for_in_the_place_of_3() {
+        let said = |rolls: &str, more: &str, targets: &str| -> String { rolls_fault(rolls, more, targets)[13..15].to_owned() };
+        let many = "name,x,y,z\n".to_owned() + &"A,1,0,0\n".repeat(65_537);
+        for (more, targets, then) in [
+            ("tolerance = 1", "name,x,y,z\nA,1.5,0,0\n", "5:"),
+            ("tolerance = 1\npanel = [0, inf, 0]", TARGETS, "6:"),
+            ("tolerance = [1, 2]", TARGETS, "17"),
+            ("tolerance = [1, 2]\npanel = [0, inf, 0]", "name,x,y,z\nA,1.5,0,0\n", "5:"),
+        ] {
+            assert_eq!(said("[]", more, targets), "18");
+            assert_eq!(said("[0, 90, 90]", more, targets), "19");
+            assert_eq!(said("[0, 90]", more, targets), then);
+        }
+        assert_eq!(said(&list(&vec![("400".to_owned(), ","); 3601]), "tolerance = 1", TARGETS), "18");
+        for rolls in ["[]", "[400]"] {
+            assert_eq!(said(rolls, "tolerance = 1", &many), "2:");
         }
     }
     const THREE: &str = "name,x,y,z\nA,1,0,0\nB,0,1,0\nC,0,0,1\n";
@@ -567,8 +700,11 @@ pub mod tests {
     }
     /// What is said of a plan with this line for the tolerance and these targets.
     fn tolerance_fault(line: &str, targets: &str) -> (i32, String) {
-        let read = plan(format!("{}{}\n", KEYS_BUT_TOLERANCE, line), targets, EPHEMERIS);
-        let fault = match read {
+        fault_of(format!("{}{}\n", KEYS_BUT_TOLERANCE, line), targets)
+    }
+    /// What is said of a plan that cannot be read or is refused.
+    fn fault_of(toml: String, targets: &str) -> (i32, String) {
+        let fault = match plan(toml, targets, EPHEMERIS) {
             Ok(p) => explain::plan(&p, engine::check(&p).unwrap_err()),
             Err(fault) => fault,
         };
@@ -762,15 +898,15 @@ pub mod tests {
     fn a_message_shows_what_the_plan_reads() {
         for (value, shown) in [
             ("{ a = { b = 1 }, c = 2 }", "rolls reads { a = { b = 1 }, c = 2 }; allowed"),
-            ("[{a = 1}, 2]", "rolls reads [{a = 1}, 2]: a table"),
+            ("[{a = 1}, 2]", "rolls reads [{a = 1}, 2], and its entry 1 is no number"),
             ("\"\\u001b[2J\"", "rolls reads \"\\u001b[2J\"; allowed"),
-            ("[1,\n 2]", "rolls reads [1,\\n 2]: a table"),
+            ("[1,\n '2']", "rolls reads [1,\\n '2'], and its entry 2 is no number"),
         ] {
             let text = fault(&format!("tolerance = 1\nrolls = {}", value));
             assert!(text.starts_with("plan.toml, line 4, column 9: ") && text.contains(shown), "{}", text);
         }
-        let text = fault(&format!("tolerance = 1\nrolls = [{}]", "1, ".repeat(10_000)));
-        assert!(text.len() < 300, "{}", text.len());
+        let text = fault(&format!("tolerance = 1\nrolls = [{}true]", "1, ".repeat(10_000)));
+        assert!(text.len() < 300 && text.contains(" .., and its entry 10,001 is no number; "), "{}", text);
         assert!(fault("tolerance = 1\n\"\\u001b[2J\" = 1").contains("`\\u{1b}[2J` is no key"));
     }
     #[test]
@@ -836,7 +972,7 @@ pub mod tests {
         "[", "[[", "]", "{", "}", "=", ".", ",", "\"", "\"\"\"", "'", "'''", "\\", "\\u0000", "#", "\n", "\r", "\r\n", " ", "\t", "\0",
         "\u{1b}", "\u{a0}", "\u{3000}", "\u{feff}", "é", "targets", "rolls", "panel", "rolls=", "a.b", "0", "-1", "1.5", "1e999", "0x1f",
         "1_000", "nan", "-inf", "true", "A,1,0,0", "9e99", ";", "00:00Z", "99:99", "ra", "dec", ",x", "ra_deg", "A,1,0", "360", "-90",
-        "5h", "5:34:31", "°", "tolerance", ",tolerance", "tolerance=", "[5, 6]", "[]",
+        "5h", "5:34:31", "°", "tolerance", ",tolerance", "tolerance=", "[5, 6]", "[]", "rolls=[0, 90.5]", "[0, 359.5,\n90 # ]\n]", "360,",
     ];
     /// An angle within a range, at its ends, just beyond them, or any number.
     fn angle(least: f64, most: f64) -> impl Strategy<Value = f64> {
@@ -890,8 +1026,9 @@ pub mod tests {
     proptest! {
         #[test]
         fn a_changed_plan_is_read_or_refused(targets in prop::sample::select(&[TARGETS, CATALOGUE, OUTSIDE, COLUMN][..]),
-                tolerance in prop::sample::select(&["tolerance = 10\n", "tolerance = [10, 20.5]\n", ""][..]), t in changes(), e in changes(), p in changes()) {
-            let toml = format!("targets = \"t.csv\"\nephemeris = \"e.csv\"\nrolls = 1\n{}panel = [[0, 1, 0.5]]\n# ..\n", tolerance);
+                tolerance in prop::sample::select(&["tolerance = 10\n", "tolerance = [10, 20.5]\n", ""][..]),
+                rolls in prop::sample::select(&["1", "[0, 15.5, 90]", "[\n0, # the first\n3.6e2]"][..]), t in changes(), e in changes(), p in changes()) {
+            let toml = format!("targets = \"t.csv\"\nephemeris = \"e.csv\"\nrolls = {}\n{}panel = [[0, 1, 0.5]]\n# ..\n", rolls, tolerance);
             let told = match plan(changed(&toml, &p), changed(targets, &t), changed(EPHEMERIS, &e)) {
                 Ok(plan) => {
                     Digest::of(&plan);
@@ -936,6 +1073,34 @@ pub mod tests {
                     prop_assert!(fault.to_string().starts_with("refused with 16: ") && fault.to_string().ends_with(&says), "{} {}", fault, says);
                 }
                 (read, wrong) => prop_assert!(false, "{:?} {:?}", read.map(|p| p.targets), wrong),
+            }
+        }
+        /// A table is taken, or the first roll that cannot be is told where it stands.
+        #[test]
+        fn any_table_is_taken_or_told(
+            drawn in prop::collection::vec((angle(0.0, 360.0), prop::sample::select(&[",", ", ", " ,", ",\n", " # 3, ]\n,", ",#\r\n\t"][..])), 0..8),
+            is_sorted in any::<bool>(),
+        ) {
+            let mut rolls: Vec<f64> = drawn.iter().map(|(roll, _)| *roll).collect();
+            if is_sorted {
+                rolls.sort_by(f64::total_cmp);
+            }
+            let written: Vec<_> = rolls.iter().zip(&drawn).map(|(roll, (_, after))| (format!("{:?}", roll).replace("NaN", "nan"), *after)).collect();
+            let toml = format!("targets = \"t.csv\"\nephemeris = \"e.csv\"\ntolerance = 1\nrolls = {}\n", list(&written));
+            let read = plan(&toml, TARGETS, EPHEMERIS).unwrap();
+            let same = |list: &[f64]| list.iter().map(crate::digest::bits).collect::<Vec<_>>();
+            prop_assert_eq!(read.rolls.table().map(same), Some(same(&rolls)));
+            let wrong = (0..rolls.len()).find(|&i| !(0.0..360.0).contains(&rolls[i]) || i > 0 && rolls[..i].iter().any(|before| *before >= rolls[i]));
+            let said = engine::check(&read).map_err(|r| explain::plan(&read, r).to_string());
+            match (wrong, said) {
+                (None, Ok(())) => prop_assert!(!rolls.is_empty()),
+                (None, Err(said)) => prop_assert!(rolls.is_empty() && said.starts_with("refused with 18: "), "{}", said),
+                (Some(i), Err(said)) => {
+                    let before = toml.find("= [").unwrap() + 3 + written[..i].iter().map(|(number, after)| number.len() + after.len()).sum::<usize>();
+                    let place = format!("{}: entry {} of rolls reads {}", read.source.at(before), i + 1, written[i].0);
+                    prop_assert!(said.starts_with(&format!("refused with 19: {}", place)), "{} {}", said, place);
+                }
+                (Some(_), Ok(())) => prop_assert!(false, "{:?}", rolls),
             }
         }
         #[test]

@@ -71,7 +71,7 @@ fn heading_of(svg: &mut String, listing: &Listing) -> f64 {
     let mut about = format!("{}, {}", counted(plan.names.len(), "target"), counted(plan.times.len(), "time"));
     about += &match plan.configured_roll {
         Some(roll) => format!(", roll {}°", number(roll)),
-        None => format!(", {}", counted(plan.rolls, "roll")),
+        None => format!(", {}", plan.rolls.in_words("°")),
     };
     about += &format!(", tolerance {}", in_words(&plan.tolerances, "°"));
     if listing.has_severities() {

@@ -1,5 +1,5 @@
-//! The tolerances of a plan, one a target, whichever way its files give them; and where one is so wide that nothing can be violated: among
-//! evenly spaced rolls one is never further from a roll than half their step.
+//! The tolerances of a plan, one a target, whichever way its files give them; and where one is so wide that nothing can be violated: no roll is
+//! further from the nearest of those that are tried than half their largest gap.
 use crate::{
     digest::bits,
     plan::Plan,
@@ -65,7 +65,7 @@ pub fn reads(plan: &Plan, target: usize) -> String {
     }
 }
 
-/// What rounding can add to a difference of two rolls, in degrees: the step, a sample, the difference and its arc are each rounded once
+/// What rounding can add to a difference of two rolls, in degrees: the step or the gap, a sample, the difference and its arc are each rounded once
 /// or twice at up to 360, as an optimal roll lies within 0 to 360, so it stays below 3e-13.
 const ROUNDING: f64 = 1e-12;
 
@@ -74,34 +74,34 @@ const NAMED: usize = 5;
 
 /// Says so where no position can make the sweep of this plan mark a cell, or a cell of some targets.
 pub fn nothing_violated(plan: &Plan) -> Option<String> {
-    let half_step = 180.0 / plan.rolls as f64;
+    let half_gap = plan.rolls.half_gap();
     // A NaN is not at least anything.
-    let wide: Vec<usize> = plan.tolerances.iter().enumerate().filter(|(_, &t)| t >= half_step).map(|(i, _)| i).collect();
+    let wide: Vec<usize> = plan.tolerances.iter().enumerate().filter(|(_, &t)| t >= half_gap).map(|(i, _)| i).collect();
     // A configured roll stands for every sample.
     if plan.configured_roll.is_some() || wide.is_empty() {
         return None;
     }
-    // A difference is at most 180, so of one roll rounding takes nothing away.
-    let sure = plan.rolls == 1 || wide.iter().all(|&i| plan.tolerances[i] > half_step + ROUNDING);
+    // A difference is at most 180, whatever is rounded.
+    let sure = wide.iter().all(|&i| plan.tolerances[i] >= 180.0 || plan.tolerances[i] > half_gap + ROUNDING);
     let (count, all) = (wide.len(), plan.tolerances.len());
     let read = match common(&plan.tolerances) {
         Some(x) => format!("tolerance reads {}", x),
-        None if count == all => format!("each tolerance reads {} or more", half_step),
+        None if count == all => format!("each tolerance reads {} or more", half_gap),
         None => {
             let mut names: Vec<_> = wide.iter().take(NAMED).map(|&i| format!("`{}`", plan.targets_sheet.field(i, 0).shown())).collect();
             if count > NAMED {
                 names.push(format!("and {} more", grouped(count - NAMED)));
             }
             let read = if count == 1 { "reads" } else { "read" };
-            format!("{} of {} tolerances {} {} or more ({})", grouped(count), grouped(all), read, half_step, names.join(", "))
+            format!("{} of {} tolerances {} {} or more ({})", grouped(count), grouped(all), read, half_gap, names.join(", "))
         }
     };
     Some(format!(
         "{}: {}, and no roll is further than {} degrees from the nearest of {}: nothing can be violated{}{}",
         place(plan),
         read,
-        half_step,
-        plan.rolls,
+        half_gap,
+        plan.rolls.count(),
         if count == all { "" } else { " there" },
         if sure { "" } else { " but by rounding, midway between two of them" }
     ))
@@ -110,7 +110,7 @@ pub fn nothing_violated(plan: &Plan) -> Option<String> {
 #[cfg(test)]
 mod tests {
     use super::*;
-    use crate::{engine, plan::tests::plan};
+    use crate::{engine, plan::tests::plan, tried::Rolls};
     use proptest::prelude::*;
 
     /// A plan of one target along x, with these settings and the Sun here.
@@ -169,6 +169,38 @@ mod tests {
             "rolls = 24\ntolerance = 10\nconfigured_roll = 30",
         ] {
             assert_eq!(said(can), None, "{}", can);
+        }
+    }
+    /// Of a table half the largest gap takes the place of 180 / n, also where that is the one from the last roll to the first.
+    #[test]
+    fn half_the_largest_gap_of_a_table_is_told() {
+        assert_eq!(
+            said("rolls = [0, 90, 250]\ntolerance = 100").unwrap(),
+            "plan.toml, line 4, column 13: tolerance reads 100, and no roll is further than 80 degrees from the nearest of 3: \
+             nothing can be violated"
+        );
+        const ROUNDING: &str = "nothing can be violated but by rounding, midway between two of them";
+        for (table, half) in [("[0, 90, 250]", "80"), ("[100, 110, 130]", "165"), ("[0, 15.5, 90, 359.5]", "134.75")] {
+            let at = |tolerance: &str| said(&format!("rolls = {}\ntolerance = {}", table, tolerance));
+            assert!(at(half).unwrap().ends_with(ROUNDING) && at("165.5").unwrap().ends_with("nothing can be violated"), "{}", table);
+            let below = half.parse::<f64>().unwrap() - 1e-9;
+            assert_eq!(at(&below.to_string()), None, "{}", table);
+        }
+        // One roll is 180 from its opposite, wherever it is, and so are rolls that lie together.
+        for table in ["[0]", "[0.1]", "[359.99999999999994]", "[0, 1e-14]"] {
+            assert!(said(&format!("rolls = {}\ntolerance = 180", table)).unwrap().ends_with("nothing can be violated"));
+            assert_eq!(said(&format!("rolls = {}\ntolerance = 179.9", table)), None);
+        }
+        assert_eq!(said("rolls = [0, 180]\ntolerance = 100\nconfigured_roll = 30"), None);
+    }
+    /// The worst place is midway in the largest gap: there a cell is marked just below half of it, and not above.
+    #[test]
+    fn below_half_the_largest_gap_a_cell_can_be_marked() {
+        for (table, midway, half) in [("[0, 90, 250]", 170.0, 80.0), ("[100, 110, 130]", 295.0, 165.0), ("[47.5]", 227.5, 180.0)] {
+            let (z, y) = f64::to_radians(midway).sin_cos();
+            let at = |tolerance: f64| with(&format!("rolls = {}\ntolerance = {}", table, tolerance), [0.0, y, z]);
+            assert!(marked(&at(half - 0.01)) && !marked(&at(half + 0.01)), "{}", table);
+            assert!(nothing_violated(&at(half - 0.01)).is_none() && nothing_violated(&at(half + 0.01)).is_some(), "{}", table);
         }
     }
     #[test]
@@ -246,6 +278,24 @@ mod tests {
             let roll = f64::from_bits((midway.to_bits() as i64 + ulps) as u64);
             let nearest = [k + n - 1, k, k + 1].iter().map(|k| wilfnusk::circular_diff_deg((k % n) as f64 * step, roll)).fold(180.0, f64::min);
             prop_assert!(nearest <= 180.0 / n as f64 + ROUNDING / 2.0, "{} from {}", nearest, roll);
+        }
+        /// No roll is further from a table than half its largest gap, and one is as far.
+        #[test]
+        fn rounding_stays_below_its_bound_over_a_table(drawn in prop::collection::vec(0.0f64..360.0, 1..9), ulps in -4i64..=4) {
+            let mut table = drawn;
+            table.sort_by(f64::total_cmp);
+            table.dedup();
+            let half_gap = Rolls::Table(table.clone()).half_gap();
+            let mut furthest = 0.0;
+            for (i, roll) in table.iter().enumerate() {
+                let next = table.get(i + 1).copied().unwrap_or(table[0] + 360.0);
+                let midway = ((roll + next) / 2.0) % 360.0;
+                let from = f64::from_bits((midway.to_bits() as i64 + if midway > 1.0 { ulps } else { 0 }) as u64);
+                let nearest = table.iter().map(|&roll| wilfnusk::circular_diff_deg(roll, from)).fold(180.0, f64::min);
+                prop_assert!(nearest <= half_gap + ROUNDING / 2.0, "{} from {}", nearest, from);
+                furthest = f64::max(furthest, nearest);
+            }
+            prop_assert!(furthest >= half_gap - ROUNDING, "{} of {}", furthest, half_gap);
         }
     }
 }

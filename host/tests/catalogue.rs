@@ -1,7 +1,7 @@
 //! Whole commands on targets by right ascension and declination: each does what it does on the same directions by x, y, z.
 mod common;
 
-use common::Folder;
+use common::{ephemeris, Folder};
 use std::collections::BTreeSet;
 
 /// Name, right ascension and declination in degrees, the ends of both ranges among them.
@@ -27,12 +27,7 @@ fn folder(targets: &str) -> Folder {
     let f = Folder::new(&[], "", "tolerance = 15\n");
     f.write("plan.toml", "targets = \"t.csv\"\nephemeris = \"e.csv\"\nrolls = 8\ntolerance = 15\n");
     f.write("t.csv", targets);
-    let mut ephemeris = String::from("time,sun_x,sun_y,sun_z,observer_x,observer_y,observer_z\n");
-    for j in 0..100 {
-        let ((s, c), z) = ((j as f64 * 0.3).sin_cos(), (j as f64 * 0.7).cos());
-        ephemeris += &format!("2026-03-20T{:02}:{:02}:00Z,{},{},{},0,0,0\n", j / 60, j % 60, c, s, 0.4 * z);
-    }
-    f.write("e.csv", &ephemeris);
+    f.write("e.csv", &ephemeris(100));
     f
 }
 

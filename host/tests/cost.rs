@@ -1,7 +1,7 @@
 //! What a sweep costs: `cost`, the line with which `check` ends, and the plans of a size that `example` writes, which cost the most and the least.
 mod common;
 
-use common::{done, json, run, Folder};
+use common::{document, done, json, run, Folder};
 use fs2::FileExt;
 use proptest::prelude::*;
 use serde_json::json;
@@ -196,12 +196,17 @@ fn plans_that_are_refused() {
         assert_eq!((checked.status, checked.stdout.as_str(), &checked.stderr), (status, "", &ended.stderr));
         assert!(f.all() == before);
     };
-    for rolls in ["0", "3601", "9223372036854775807"] {
+    for (rolls, status, refusal) in
+        [("0", 1, "refused with 3: "), ("3601", 1, "refused with 3: "), ("9223372036854775807", 1, "refused with 3: "), ("-1", 3, "")]
+    {
         f.write("plan.toml", &toml.replace("rolls = 1\n", &format!("rolls = {}\n", rolls)));
-        refused(1, &[&format!("wilfnusk: refused with 3: plan.toml, line 3, column 9: rolls reads {}; allowed: 1 to 3600\n", rolls)]);
+        let says = format!(
+            "wilfnusk: {}plan.toml, line 3, column 9: rolls reads {}; allowed: a whole number of rolls, 1 to 3600, or a list of 1 to 3600 rolls in \
+             degrees\n",
+            refusal, rolls
+        );
+        refused(status, &[&says]);
     }
-    f.write("plan.toml", &toml.replace("rolls = 1\n", "rolls = -1\n"));
-    refused(3, &["wilfnusk: plan.toml, line 3, column 9: rolls reads -1; allowed: a whole number of rolls, 1 to 3600\n"]);
     f.write("plan.toml", &toml);
     let targets = f.read("t.csv");
     f.write("t.csv", &format!("name,x,y,z\n{}", (0..70_000).map(|i| format!("T{},1,0,0\n", i)).collect::<String>()));
@@ -402,13 +407,12 @@ fn check_ends_with_the_cost() {
 /// The lines that docs/HOST.md shows are those of the example.
 #[test]
 fn the_document_s_example() {
-    let document = fs::read_to_string(concat!(env!("CARGO_MANIFEST_DIR"), "/../docs/HOST.md")).unwrap();
+    let (document, unwrapped) = document();
     let f = empty();
     done(&f, "example season");
     let line = done(&f, "cost season/plan.toml");
     assert_eq!(line, "cost     360 chunks, a journal of 11,987 bytes, at least 23,040 and at most 552,960 rolls tried\n");
     assert!(document.contains(&format!("\n{}", line)), "{}", line);
-    let unwrapped = document.replace('\n', " ");
     for (size, number) in [("--targets 65536 --times 1440 --rolls 24", 2), ("--targets 16 --times 1440 --rolls 0", 3)] {
         let refused = run(&f, &format!("cost {}", size));
         refused.says(1, &[&format!("wilfnusk: refused with {}: {}: ", number, size)]);

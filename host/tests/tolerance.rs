@@ -2,7 +2,7 @@
 //! where nothing can be violated.
 mod common;
 
-use common::{done, json, run, Folder};
+use common::{document, done, ephemeris, json, run, told_by_every_command, told_of_another_plan, Folder};
 use serde_json::json;
 
 const NAMES: [&str; 5] = ["A", "B", "C", "D", "E"];
@@ -14,12 +14,7 @@ const DIFFERENT: [&str; 5] = ["15", "3", "nan", "-1", "21.5"];
 fn folder(tolerance: &str, targets: &str) -> Folder {
     let f = Folder::new(&[], "", "");
     tell(&f, &(tolerance.into(), targets.into()));
-    let mut ephemeris = String::from("time,sun_x,sun_y,sun_z,observer_x,observer_y,observer_z\n");
-    for j in 0..30 {
-        let ((s, c), z) = ((j as f64 * 0.3).sin_cos(), (j as f64 * 0.7).cos());
-        ephemeris += &format!("2026-03-20T00:{:02}:00Z,{},{},{},0,0,0\n", j, c, s, 0.4 * z);
-    }
-    f.write("e.csv", &ephemeris);
+    f.write("e.csv", &ephemeris(30));
     f
 }
 fn plain() -> String {
@@ -123,12 +118,7 @@ fn any_way_goes_on_with_the_others_sweep() {
                 tell(&f, second);
                 assert!(done(&f, "check plan.toml --recompute").contains("the files are those it was begun with"));
                 run(&f, "sweep plan.toml -q").says(0, &["3 of 3 chunks have a line"]);
-                let sorted = |f: &Folder| {
-                    let mut lines: Vec<_> = f.read("plan.journal").lines().map(str::to_owned).collect();
-                    lines.sort();
-                    lines
-                };
-                assert_eq!(sorted(&f), sorted(&unbroken));
+                assert_eq!(f.sorted("plan.journal"), unbroken.sorted("plan.journal"));
                 assert_eq!(f.read("plan.journal.plan"), unbroken.read("plan.journal.plan"));
                 assert_eq!(done(&f, "windows plan.toml"), done(&unbroken, "windows plan.toml"));
             }
@@ -139,25 +129,19 @@ fn any_way_goes_on_with_the_others_sweep() {
 /// The header holds the first entry alone, so that J.plan must tell.
 #[test]
 fn another_tolerance_of_another_target_is_another_plan() {
-    const BEGUN: &str = ": its numbers are not those that plan.journal was begun with, as plan.journal.plan shows";
     let old = ways(&DIFFERENT);
     for (k, changed) in [(1, "3.0000000000000004"), (4, "nan"), (2, "-0"), (3, "15")] {
         let mut other = DIFFERENT;
         other[k] = changed;
         for (then, now, file) in [
-            (0, 0, "plan.toml"),
-            (0, 1, "plan.toml or the column `tolerance` of t.csv"),
-            (1, 1, "plan.toml or the column `tolerance` of t.csv"),
+            (0, 0, "`rolls` or `tolerance` in plan.toml"),
+            (0, 1, "`rolls` in plan.toml or the column `tolerance` of t.csv"),
+            (1, 1, "`rolls` in plan.toml or the column `tolerance` of t.csv"),
         ] {
             let f = folder(&old[then].0, &old[then].1);
             run(&f, "sweep plan.toml -q --part 1/2").says(0, &["1 of 3 chunks have a line"]);
             tell(&f, &ways(&other)[now]);
-            let before = f.all();
-            for words in ["check", "status", "status --json", "windows", "mask", "sweep", "check --recompute --write-digest"] {
-                run(&f, &format!("{} plan.toml", words)).says(3, &[&format!("wilfnusk: {}{}", file, BEGUN)]);
-            }
-            run(&f, "merge plan.toml plan.journal -o all.journal").says(3, &[&format!("wilfnusk: {}{}", file, BEGUN)]);
-            assert!(f.all() == before, "a file was changed");
+            told_of_another_plan(&f, file);
         }
     }
     // Without J.plan the lines tell, where they are worked out again: chunk 0 has the first two targets and some of the third.
@@ -251,32 +235,14 @@ fn what_is_wrong_is_told_by_every_command() {
             format!("plan.toml, line 4, column 13: tolerance reads [1, 2, '3', 4, 5], and its entry 3 is no number; allowed: {}", ALLOWED),
         ),
     ] {
-        let f = folder(&key, &targets);
-        let before = f.all();
-        for words in [
-            "check plan.toml",
-            "check plan.toml --recompute --write-digest",
-            "status plan.toml --json",
-            "sweep plan.toml --csv s.csv",
-            "windows plan.toml --csv -",
-            "mask plan.toml --roll 30",
-            "mask plan.toml",
-            "regard plan.toml --sample 3",
-            "rolls plan.toml --csv r.csv",
-            "merge plan.toml a.journal -o all.journal",
-        ] {
-            let ended = run(&f, words);
-            assert_eq!((ended.status, ended.stdout, ended.stderr), (status, String::new(), format!("wilfnusk: {}\n", says)), "{}", words);
-        }
-        assert!(f.all() == before, "a file was written: {}", says);
+        told_by_every_command(&folder(&key, &targets), status, &says);
     }
 }
 
 /// The ways and the sentences that docs/HOST.md shows.
 #[test]
 fn the_document_s_examples() {
-    let document = std::fs::read_to_string(concat!(env!("CARGO_MANIFEST_DIR"), "/../docs/HOST.md")).unwrap();
-    let shown = document.split_whitespace().collect::<Vec<_>>().join(" ");
+    let (document, shown) = document();
     let column = "name,ra,dec,tolerance\nVega,279.235,38.784,5\nDeneb,310.358,45.280,0.5\n";
     let three = "name,ra,dec\nVega,279.235,38.784\nDeneb,310.358,45.280\nAltair,297.696,8.868\n";
     let two = three.replace("Altair,297.696,8.868\n", "");
@@ -369,7 +335,7 @@ fn parts_are_merged_by_the_same_list() {
     done(&f, "sweep plan.toml -q --journal part3.journal --part 2/2");
     tell(&f, &ways[1]);
     run(&f, "merge plan.toml part1.journal part3.journal -o all.journal")
-        .says(3, &["plan.toml or the column `tolerance` of t.csv: its numbers are not those that part3.journal was begun with"]);
+        .says(3, &["`rolls` in plan.toml or the column `tolerance` of t.csv: its numbers are not those that part3.journal was begun with"]);
     assert!(!f.path("all.journal").exists());
 }
 

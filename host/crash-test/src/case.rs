@@ -66,6 +66,17 @@ impl Case {
         plan.targets = ra.iter().zip(&dec).flat_map(|(&ra, &dec)| radec_to_unit(ra, dec)).collect();
         Case { positions: Some((ra, dec)), ..Case::new(self.name, plan, self.told) }
     }
+    /// The same over a table of rolls. Over as many even steps the sweep would be another.
+    pub fn over(self, table: &[f64]) -> Case {
+        let plan = Plan { rolls: Rolls::Table(table.to_vec()), ..self.sweep.plan };
+        let stepped = Sweep::new(plan.stepped()).expect("an accepted plan");
+        let case = Case { positions: self.positions, ..Case::new(self.name, plan, self.told) };
+        assert!(case.sweep.mask != stepped.mask, "{}: rolls that mark alike", case.name);
+        case
+    }
+    pub fn has_table(&self) -> bool {
+        self.sweep.plan.rolls.table().is_some()
+    }
     /// The same with a tolerance for each target: these, over and over. With the first for all of them the sweep would be another.
     pub fn with_tolerances(self, told: Told, tolerances: &[f64]) -> Case {
         let mut plan = self.sweep.plan.clone();
@@ -85,7 +96,11 @@ impl Case {
     pub fn write(&self, folder: &Path) {
         let plan = &self.sweep.plan;
         let mut toml = String::from("targets = \"targets.csv\"\nephemeris = \"ephemeris.csv\"\n");
-        let _ = writeln!(toml, "rolls = {}\npanel = {:?}", plan.even_n(), plan.head_panel());
+        let _ = match &plan.rolls {
+            Rolls::Even(n) => writeln!(toml, "rolls = {}", n),
+            Rolls::Table(table) => writeln!(toml, "rolls = {:?}", table),
+        };
+        let _ = writeln!(toml, "panel = {:?}", plan.head_panel());
         let list: Vec<_> = plan.tolerances.iter().copied().map(toml_number).collect();
         let (mut column, mut cells) = ("", vec![String::new(); plan.rows()]);
         let _ = match self.told {

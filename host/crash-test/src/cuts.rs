@@ -89,7 +89,6 @@ pub fn every_byte(case: &Case, order: &[usize], folder: &Path, tally: &mut Tally
     assert!(machine.windows_csv() == case.windows_csv(), "the windows are not those of section 5");
     let length = machine.journal().len();
     let ascending: Vec<_> = (0..case.chunks()).collect();
-    let before = tally.cuts;
     for byte in 0..=length {
         machine.without_journal();
         let mut ledger = Ledger::new(&case.sweep);
@@ -97,7 +96,7 @@ pub fn every_byte(case: &Case, order: &[usize], folder: &Path, tally: &mut Tally
         assert_eq!(ended.status, if byte < length { -libc::SIGXFSZ } else { 0 }, "{}", ended.stderr);
         swept(&mut ledger, order, byte);
         assert_eq!(ledger.length(), byte);
-        tally.cuts += (byte < length) as u64;
+        tally.cut(&machine, (byte < length) as u64);
         looked_at(&machine, &ledger);
 
         let again = |stop| run_to(&machine, &sweep_words(said), stop, 0).killed;
@@ -113,7 +112,7 @@ pub fn every_byte(case: &Case, order: &[usize], folder: &Path, tally: &mut Tally
             assert!(again(Stop::After(libc::SYS_ftruncate)));
             ledger.enter(Entry::Recover).unwrap();
             assert!(machine.journal() == ledger.journal(), "recovery left other bytes than the ledger's");
-            tally.cuts += 2;
+            tally.cut(&machine, 2);
         }
         let rest = if byte % 2 == 0 { order } else { &ascending };
         let ended = machine.sweep(if byte % 2 == 0 { said } else { None });
@@ -122,12 +121,6 @@ pub fn every_byte(case: &Case, order: &[usize], folder: &Path, tally: &mut Tally
         whole(&machine, &ended);
     }
     tally.bytes += length as u64 + 1;
-    if machine.is_catalogue() {
-        tally.catalogue += tally.cuts - before;
-    }
-    if case.has_tolerances() {
-        tally.by_target += tally.cuts - before;
-    }
 }
 
 /// The power fails while the digest is written, before the first byte of the journal: at every byte of it.
@@ -141,7 +134,7 @@ pub fn every_byte_of_the_digest(case: &Case, folder: &Path, tally: &mut Tally) {
         fs::remove_file(&digest).unwrap();
         assert_eq!(machine.sweep_to_byte(None, byte).status, -libc::SIGXFSZ);
         assert!(machine.journal().is_empty() && !digest.exists());
-        tally.cuts += 1;
+        tally.cut(&machine, 1);
         whole(&machine, &machine.sweep(None));
         assert!(fs::read(&digest).unwrap() == text);
     }
@@ -168,7 +161,7 @@ pub fn every_call_over_an_old_digest(case: &Case, folder: &Path, tally: &mut Tal
             if !killed {
                 break;
             }
-            tally.cuts += 1;
+            tally.cut(&machine, 1);
             tally.calls += 1;
         }
     }
@@ -186,11 +179,11 @@ pub fn every_call(case: &Case, folder: &Path, seeded: &mut Seeded, tally: &mut T
         let _ = fs::remove_file(machine.folder.join("plan.journal.plan"));
         machine.without_journal();
         let first = run_to(&machine, &sweep_words(None), Stop::Call(number), 0);
-        tally.cuts += first.killed as u64;
+        tally.cut(&machine, first.killed as u64);
         between_entries(&machine, &all);
         let before = machine.journal();
         let second = run_to(&machine, &sweep_words(None), Stop::Call(1 + seeded.below(number + 1)), first.durable);
-        tally.cuts += second.killed as u64;
+        tally.cut(&machine, second.killed as u64);
         between_entries(&machine, &all);
         let after = machine.journal();
         assert!(after.starts_with(&before), "a whole line was lost");
@@ -266,7 +259,7 @@ pub fn any_moment(case: &Case, folder: &Path, seeded: &mut Seeded, until: Instan
             looked_at(&machine, &ledger);
         }
     }
-    tally.cuts += kills;
+    tally.cut(&machine, kills);
     tally.longest = tally.longest.max(kills);
     let ended = machine.sweep(None);
     whole(&machine, &ended);

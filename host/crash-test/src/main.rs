@@ -13,6 +13,7 @@ mod trouble;
 
 use case::{Case, Told};
 use cases::Seeded;
+use machine::Machine;
 use std::{
     env, fs,
     path::{Path, PathBuf},
@@ -30,6 +31,8 @@ pub struct Tally {
     pub catalogue: u64,
     /// Those of plans whose targets have tolerances of their own.
     pub by_target: u64,
+    /// Those of plans over a table of rolls.
+    pub by_table: u64,
     /// Bytes of journals at which it was cut.
     pub bytes: u64,
     /// System calls at which it was cut.
@@ -43,6 +46,16 @@ pub struct Tally {
     /// Damaged journals, and how many of them were told from right ones.
     pub damaged: u64,
     pub told: u64,
+}
+
+impl Tally {
+    /// So many cuts of a machine, or of several with the same plan.
+    pub fn cut(&mut self, machine: &Machine, cuts: u64) {
+        self.cuts += cuts;
+        self.catalogue += cuts * u64::from(machine.is_catalogue());
+        self.by_target += cuts * u64::from(machine.case.has_tolerances());
+        self.by_table += cuts * u64::from(machine.case.has_table());
+    }
 }
 
 fn main() {
@@ -70,11 +83,13 @@ fn main() {
     fs::remove_dir_all(&folder).unwrap();
     println!(
         "{} power cuts ({} of them took bytes that were not synced, {} were on targets by right ascension and declination, {} on tolerances by \
-         target), up to {} in a row on one journal, {} split sweeps, {} damaged journals ({} refused, the rest still right): nothing was lost",
+         target, {} on a table of rolls), up to {} in a row on one journal, {} split sweeps, {} damaged journals ({} refused, the rest still \
+         right): nothing was lost",
         tally.cuts + tally.unsynced,
         tally.unsynced,
         tally.catalogue,
         tally.by_target,
+        tally.by_table,
         tally.longest,
         tally.splits,
         tally.damaged,
@@ -100,7 +115,9 @@ fn run(folder: &Path, seconds: u64, seed: u64) -> Tally {
     let column = Case::drawn("4 targets by ra and dec, a column of tolerances, 19 times, a configured roll", 9, 4, 19, 5, 30.0, Some(20.5))
         .of_catalogue(6)
         .with_tolerances(Told::Column, &[30.0, -1.0, f64::INFINITY, 75.0]);
-    for case in [&example, &four, &fixed, &none, &catalogue, &list, &column] {
+    let table = Case::drawn("5 targets, 14 times, a table of 7 rolls", 10, 5, 14, 7, 12.0, None)
+        .over(&[0.0, 15.5, 47.0, 90.0, 200.125, 240.0, 305.25]);
+    for case in [&example, &four, &fixed, &none, &catalogue, &list, &column, &table] {
         let chunks = case.chunks();
         let mut orders = vec![(0..chunks).collect::<Vec<_>>()];
         if chunks > 1 {
@@ -119,6 +136,7 @@ fn run(folder: &Path, seconds: u64, seed: u64) -> Tally {
     }
     assert!(tally.catalogue > 0, "no plan by right ascension and declination was cut");
     assert!(tally.by_target > 0, "no plan with a tolerance for each target was cut");
+    assert!(tally.by_table > 0, "no plan over a table of rolls was cut");
     let missed = syncs::missed(&four, &at("missed"));
     done(format!("a sync that is missing: {} of {} told", missed, missed));
     cuts::every_byte_of_the_digest(&example, &at("digest"), &mut tally);
@@ -136,9 +154,13 @@ fn run(folder: &Path, seconds: u64, seed: u64) -> Tally {
     for what in trouble::all(&four, &at("trouble")) {
         done(what);
     }
-    for (case, file) in [(&list, "plan.toml"), (&column, "targets.csv")] {
-        trouble::edited_tolerance(case, file, &at("trouble"));
-        done(format!("an edited tolerance of the last target in {}", file));
+    for (case, file, key, what) in [
+        (&list, "plan.toml", "tolerance = ", "tolerance of the last target"),
+        (&column, "targets.csv", "", "tolerance of the last target"),
+        (&table, "plan.toml", "rolls = ", "last roll of the table"),
+    ] {
+        trouble::edited_last(case, file, key, &at("trouble"));
+        done(format!("an edited {} in {}", what, file));
     }
 
     let large = Case::drawn("40 targets, 1,000 times, 3,600 rolls", 5, 40, 1000, 3600, 0.03, None);
@@ -151,10 +173,12 @@ fn run(folder: &Path, seconds: u64, seed: u64) -> Tally {
     done(format!("any moment: {}: {} cuts on one journal", large.name, tally.cuts - before));
     let middle = Case::drawn("9 targets, a list of tolerances, 200 times, 90 rolls", 6, 9, 200, 90, 1.7, None)
         .with_tolerances(Told::List, &[1.7, 0.4, 1.2]);
+    let squares: Vec<_> = (0..90).map(|k| f64::from(k * k) / 22.5).collect();
+    let uneven = Case::drawn("7 targets, 250 times, a table of 90 rolls", 11, 7, 250, 90, 1.7, None).over(&squares);
     loop {
-        for machines in [2, 5] {
-            split::split(&middle, machines, &at("split"), &mut seeded, &mut tally);
-            split::with_parallel(&middle, machines, &at("parallel"), &mut seeded, &mut tally);
+        for (case, machines) in [(&middle, 2), (&middle, 5), (&uneven, 2), (&uneven, 5)] {
+            split::split(case, machines, &at("split"), &mut seeded, &mut tally);
+            split::with_parallel(case, machines, &at("parallel"), &mut seeded, &mut tally);
         }
         cuts::any_moment(&middle, &at("moments"), &mut seeded, until, &mut tally);
         if Instant::now() >= until {

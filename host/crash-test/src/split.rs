@@ -34,7 +34,7 @@ pub fn split(case: &Case, machines: usize, folder: &Path, seeded: &mut Seeded, t
             std::thread::sleep(Duration::from_micros(seeded.below(4000)));
             let _ = child.kill();
             ended(child);
-            tally.cuts += 1;
+            tally.cut(machine, 1);
         }
     }
     merged(case, folder, &all, tally);
@@ -53,7 +53,7 @@ pub fn with_parallel(case: &Case, machines: usize, folder: &Path, seeded: &mut S
         let run = command.stdin(Stdio::null()).stdout(Stdio::null()).stderr(Stdio::null()).status();
         let status = run.expect("timeout and GNU parallel");
         assert!(killed || status.success(), "parallel: {}", status);
-        tally.cuts += killed as u64;
+        tally.cut(&all[0], killed as u64);
         pause();
     }
     merged(case, folder, &all, tally);
@@ -130,7 +130,7 @@ pub fn every_call_of_merge(case: &Case, folder: &Path, tally: &mut Tally) {
             } else {
                 assert!(killed, "no merged journal");
             }
-            tally.cuts += killed as u64;
+            tally.cut(&machine, killed as u64);
             if !killed {
                 break;
             }

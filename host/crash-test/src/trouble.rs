@@ -195,14 +195,15 @@ fn edited(machine: &Machine) {
     whole(machine, &machine.sweep(None));
 }
 
-/// The header holds the first tolerance alone, so J.plan must tell that a later one was edited, and the message name the file it stands in.
-pub fn edited_tolerance(case: &Case, file: &str, folder: &Path) {
+/// The header holds the first tolerance and the number of rolls alone, so J.plan must tell that the last number of a list was edited, and the message
+/// name the file it stands in: at the end of the key's list, or of the file where it is a column.
+pub fn edited_last(case: &Case, file: &str, key: &str, folder: &Path) {
     let machine = Machine::new(case, folder);
     whole(&machine, &machine.sweep(None));
     let (journal, path) = (machine.journal(), machine.folder.join(file));
     let before = fs::read_to_string(&path).unwrap();
-    // The last tolerance stands at the end of the list, and of the file where it is a column.
-    let end = before.rfind(']').unwrap_or_else(|| before.trim_end().len());
+    let list = before.find(key).unwrap();
+    let end = before[list..].find(']').map_or(before.trim_end().len(), |length| list + length);
     fs::write(&path, [&before[..end], "1", &before[end..]].concat()).unwrap();
     for ended in [machine.sweep(None), machine.run(&["windows", "plan.toml"]), machine.run(&["check", "plan.toml"])] {
         says(&ended, 3, &[file, "its numbers are not those that plan.journal was begun with"]);

@@ -32,6 +32,12 @@ impl Folder {
     pub fn read(&self, name: &str) -> String {
         fs::read_to_string(self.path(name)).unwrap()
     }
+    /// The header and lines of a journal, in an order that does not tell which was worked out first.
+    pub fn sorted(&self, journal: &str) -> Vec<String> {
+        let mut lines: Vec<_> = self.read(journal).lines().map(str::to_owned).collect();
+        lines.sort();
+        lines
+    }
     /// Every file and what it holds.
     pub fn all(&self) -> Vec<(String, Vec<u8>)> {
         let entries = fs::read_dir(self.0.path()).unwrap().map(|entry| entry.unwrap());
@@ -68,8 +74,70 @@ pub fn done(f: &Folder, words: &str) -> String {
     assert_eq!(ended.status, 0, "{}: {}", words, ended.stderr);
     ended.stdout
 }
+/// Each command that reads a plan says this alone of one that cannot be taken, and no file is written.
+#[track_caller]
+pub fn told_by_every_command(f: &Folder, status: i32, says: &str) {
+    let before = f.all();
+    for words in [
+        "check plan.toml",
+        "check plan.toml --recompute --write-digest",
+        "status plan.toml --json",
+        "sweep plan.toml --csv s.csv",
+        "windows plan.toml --csv -",
+        "mask plan.toml --roll 30",
+        "mask plan.toml",
+        "regard plan.toml --sample 3",
+        "regard plan.toml --sample 3 --roll 30",
+        "rolls plan.toml --csv r.csv",
+        "cost plan.toml",
+        "merge plan.toml a.journal -o all.journal",
+    ] {
+        let ended = run(f, words);
+        assert_eq!((ended.status, ended.stdout, ended.stderr), (status, String::new(), format!("wilfnusk: {}\n", says)), "{}", words);
+    }
+    assert!(f.all() == before, "a file was written: {}", says);
+}
+/// Each command that reads the lines of plan.journal says that what this names has other numbers than when it was begun, and no file is changed.
+#[track_caller]
+pub fn told_of_another_plan(f: &Folder, changed: &str) {
+    let before = f.all();
+    let says = format!(
+        "wilfnusk: {}: its numbers are not those that plan.journal was begun with, as plan.journal.plan shows; put the old file back, or sweep \
+         the new one into a journal of its own with --journal\n",
+        changed
+    );
+    for words in [
+        "check plan.toml",
+        "check plan.toml --recompute --write-digest",
+        "status plan.toml",
+        "status plan.toml --json",
+        "windows plan.toml",
+        "mask plan.toml",
+        "sweep plan.toml",
+        "sweep plan.toml --part 2/2",
+        "merge plan.toml plan.journal -o all.journal",
+    ] {
+        run(f, words).says(3, &[&says]);
+    }
+    assert!(f.all() == before, "a file was changed");
+}
 pub fn json(text: &str) -> serde_json::Value {
     serde_json::from_str(text).unwrap()
+}
+/// A time each minute from 2026-03-20T00:00:00Z on; the Sun turns, so that marks come in runs.
+pub fn ephemeris(times: usize) -> String {
+    let mut text = String::from("time,sun_x,sun_y,sun_z,observer_x,observer_y,observer_z\n");
+    for j in 0..times {
+        let ((s, c), z) = ((j as f64 * 0.3).sin_cos(), (j as f64 * 0.7).cos());
+        text += &format!("2026-03-20T{:02}:{:02}:00Z,{},{},{},0,0,0\n", j / 60, j % 60, c, s, 0.4 * z);
+    }
+    text
+}
+/// docs/HOST.md, and the same with each run of spaces and line ends as one space.
+pub fn document() -> (String, String) {
+    let text = fs::read_to_string(concat!(env!("CARGO_MANIFEST_DIR"), "/../docs/HOST.md")).unwrap();
+    let unwrapped = text.split_whitespace().collect::<Vec<_>>().join(" ");
+    (text, unwrapped)
 }
 
 /// The program that was built, or what WILFNUSK names.
