@@ -307,13 +307,23 @@ mod tests {
             assert_eq!(settings(&plan), "a1358abd4afafe6cf76725ec2d67b15dbe9196f02854e5337e083c9fb038c20d", "{}", toml);
         }
     }
-    /// What is said of a plan beside the digest of another.
-    fn fault_after(then: &Plan, now: &Plan) -> Fault {
+    /// What is said of a plan beside the digest of another, of which the settings alone are others.
+    fn fault_after(then: &Plan, now: &Plan) -> String {
         let folder = tempfile::tempdir().unwrap();
         let journal = folder.path().join("j");
-        Digest::of(then).write(&journal).unwrap();
-        assert!(is_known(then, &journal).unwrap());
-        is_known(now, &journal).unwrap_err()
+        let digest = Digest::of(then);
+        digest.write(&journal).unwrap();
+        assert!(is_known(then, &journal).unwrap() && digest.digests[1..] == Digest::of(now).digests[1..]);
+        let fault = is_known(now, &journal).unwrap_err();
+        assert_eq!(fault.status(), 3);
+        fault.to_string()
+    }
+    /// The second of each pair is told from the first.
+    fn told_apart(read: impl Fn(&str) -> Plan, pairs: &[(&str, &str)]) {
+        for (then, now) in pairs {
+            let fault = fault_after(&read(then), &read(now));
+            assert!(fault.starts_with("`rolls` or `tolerance` in plan.toml: its numbers are not those"), "{}", fault);
+        }
     }
     /// Bytes put together by another program.
     #[test]
@@ -321,18 +331,17 @@ mod tests {
         let read = |tolerance: &str| plan(&TOML.replace("10", tolerance), TARGETS, EPHEMERIS).unwrap();
         // 1, 0, 0; 2, 10.0, NaN; 3, 0.0, 1.0, 0.0; 0.
         assert_eq!(settings(&read("[10, nan]")), "e934991011da3d711366f3316cc99451ea276b79f88bee9dfbcc46e5ee9636d0");
-        for (then, now) in [
-            ("10", "[10, 11]"),
-            ("[10, 11]", "10"),
-            ("[10, 11]", "[10, 11.000000000000002]"),
-            ("[10, 0.0]", "[10, -0.0]"),
-            ("[10, nan]", "[10, 10]"),
-            ("[10, 11]", "[11, 10]"),
-        ] {
-            let fault = fault_after(&read(then), &read(now));
-            assert!(fault.to_string().starts_with("`rolls` or `tolerance` in plan.toml: its numbers are not those"), "{}", fault);
-        }
-        assert!((0..2).all(|i| Digest::of(&read("[10, 11]")).digests[i + 1] == Digest::of(&read("10")).digests[i + 1]));
+        told_apart(
+            read,
+            &[
+                ("10", "[10, 11]"),
+                ("[10, 11]", "10"),
+                ("[10, 11]", "[10, 11.000000000000002]"),
+                ("[10, 0.0]", "[10, -0.0]"),
+                ("[10, nan]", "[10, 10]"),
+                ("[10, 11]", "[11, 10]"),
+            ],
+        );
     }
     /// Bytes put together by another program; even steps are hashed as by the programs before there were tables.
     #[test]
@@ -342,20 +351,11 @@ mod tests {
         assert_eq!(settings(&read("2")), "10b2efad041951a65c8327edc97b31e8751356e834201956d45500355fd97bf2");
         assert_eq!(settings(&read("[0, 15.5]")), "cd68ffdeec0c59ba8c1c2966983e4db02aea162825ef84271a936e6863654ef3");
         assert_eq!(settings(&read("[-0.0, 15.5]")), "d365948426dc30e043bbebc4d02a9875514c1bc6c2de7ca4533cf3d56c35b810");
-        for (then, now) in [
-            ("[0, 15.5]", "[0, 15.500000000000002]"),
-            ("[0, 15.5]", "[1, 15.5]"),
-            ("[0, 15.5]", "[-0.0, 15.5]"),
-            // The even steps as a table are the same rolls, and another record of them.
-            ("[0, 180]", "2"),
-            ("2", "[0, 180]"),
-        ] {
-            let fault = fault_after(&read(then), &read(now));
-            assert!(fault.status() == 3 && fault.to_string().starts_with("`rolls` or `tolerance` in plan.toml: its numbers"), "{}", fault);
-            assert!(Digest::of(&read(then)).digests[1..] == Digest::of(&read(now)).digests[1..]);
-        }
         // The same numbers in other words.
         assert_eq!(settings(&read("[\n  0.0, # first\n  1.55e1,\n]")), settings(&read("[0, 15.5]")));
+        // The even steps as a table are the same rolls, and another record of them.
+        told_apart(read, &[("[0, 180]", "2"), ("2", "[0, 180]")]);
+        told_apart(read, &[("[0, 15.5]", "[0, 15.500000000000002]"), ("[0, 15.5]", "[1, 15.5]"), ("[0, 15.5]", "[-0.0, 15.5]")]);
     }
     /// Of one target or none the header has the tolerance, so it can only be the rolls.
     #[test]
@@ -368,7 +368,7 @@ mod tests {
         ] {
             let read = |toml: &str| plan(toml, targets, EPHEMERIS).unwrap();
             let fault = fault_after(&read(&toml), &read(&toml.replace("90", "91")));
-            assert!(fault.to_string().starts_with(files), "{}", fault);
+            assert!(fault.starts_with(files), "{}", fault);
         }
     }
     #[test]

@@ -150,11 +150,16 @@ mod tests {
 
     #[test]
     fn half_a_step_or_more_is_told() {
-        assert_eq!(
-            said("rolls = 24\ntolerance = 10").unwrap(),
-            "plan.toml, line 4, column 13: tolerance reads 10, and no roll is further than 7.5 degrees from the nearest of 24: \
-             nothing can be violated"
-        );
+        for (rolls, tolerance, half, count) in [("24", "10", "7.5", "24"), ("[0, 90, 250]", "100", "80", "3")] {
+            assert_eq!(
+                said(&format!("rolls = {}\ntolerance = {}", rolls, tolerance)).unwrap(),
+                format!(
+                    "plan.toml, line 4, column 13: tolerance reads {}, and no roll is further than {} degrees from the nearest of {}: \
+                     nothing can be violated",
+                    tolerance, half, count
+                )
+            );
+        }
         assert!(said("rolls = 24\ntolerance = 7.5")
             .unwrap()
             .ends_with("nothing can be violated but by rounding, midway between two of them"));
@@ -174,11 +179,6 @@ mod tests {
     /// Of a table half the largest gap takes the place of 180 / n, also where that is the one from the last roll to the first.
     #[test]
     fn half_the_largest_gap_of_a_table_is_told() {
-        assert_eq!(
-            said("rolls = [0, 90, 250]\ntolerance = 100").unwrap(),
-            "plan.toml, line 4, column 13: tolerance reads 100, and no roll is further than 80 degrees from the nearest of 3: \
-             nothing can be violated"
-        );
         const ROUNDING: &str = "nothing can be violated but by rounding, midway between two of them";
         for (table, half) in [("[0, 90, 250]", "80"), ("[100, 110, 130]", "165"), ("[0, 15.5, 90, 359.5]", "134.75")] {
             let at = |tolerance: &str| said(&format!("rolls = {}\ntolerance = {}", table, tolerance));

@@ -1,7 +1,7 @@
 -- Tests joined by && and ||, taken apart and put together. Not here: tests of numbers (`borrow.Author.Tests`). Assumes nothing.
 use mathlib.Core.Path.{_≡_, refl, ap, _∙_}
 use mathlib.Core.Logic.{_↔_}
-use mathlib.Core.Bool.{Bool, true, false, _&&_, _||_, not, and-eq-true-iff, true≢false, false≢true}
+use mathlib.Core.Bool.{Bool, true, false, _&&_, _||_, and-eq-true-iff, true≢false, false≢true}
 use native.Mathlib.Omega.{arith}
 use Rattle.buffers.specs.Ranges.{flag}
 use Prim.Native.Nat.{_≤_}
@@ -39,10 +39,6 @@ or-left false b e = refl
 pub or-right : (a b : Bool) → a || b ≡ false → b ≡ false
 or-right true b e = absurd (true≢false e)
 or-right false b e = e
-
-pub not-not : (b : Bool) → not (not b) ≡ b
-not-not true = refl
-not-not false = refl
 
 -- ---- flags
 

@@ -10,12 +10,12 @@ use native.Mathlib.Omega.{arith}
 use lib.Dec.{eqb, ltb, lit<}
 use lib.Ieee.{Float, nan, lt, le}
 use lib.ListN.{length, getD}
-use borrow.Author.Tests.{eqb-false, ltb-false, eq-eqb, ne-eqb, lt-ltb, le-ltb}
+use borrow.Author.Tests.{eqb-false, ltb-false, not-false, eq-eqb, ne-eqb, lt-ltb, le-ltb}
 use Rattle.buffers.specs.Ranges.{anyBelow}
 use Rattle.buffers.specs.Refusal.{Conditions}
 use Rattle.buffers.proofs.Ranges.{below-suc, any-none, any-found, any-clear}
 use Rattle.buffers.proofs.Refusal.{first-none, first-here, first-skip, first-clear}
-use Rattle.buffers.proofs.Tests.{and-left, and-right, or-here, or-skip, or-none, or-left, or-right, not-not}
+use Rattle.buffers.proofs.Tests.{and-left, and-right, or-here, or-skip, or-none, or-left, or-right}
 use Rattle.float.specs.Arithmetic.{zero·0, fullTurn}
 use Rattle.float.proofs.Order.{lt-trans}
 use Rattle.solar_roll.specs.Roll.{InTurn}
@@ -35,10 +35,6 @@ pub record TableFacts (rolls : List Float) : Type 0 where
   pub rising : (j k : ℕ) → j < k → k < length rolls → lt (getD rolls j nan) (getD rolls k nan) ≡ true
 
 -- ---- one roll
-
--- what is not refused holds
-holds : (b : Bool) → not b ≡ false → b ≡ true
-holds b e = sym (not-not b) ∙ ap not e
 
 module _ (rolls : List Float) where
   -- not within 0 to below 360
@@ -70,12 +66,12 @@ module _ (rolls : List Float) where
   turn k e =
       let low : Bool = le zero·0 (at rolls k) in
       let high : Bool = lt (at rolls k) fullTurn in
-      let both : low && high ≡ true = holds (low && high) (or-left _ (notAbove rolls k) e) in
+      let both : low && high ≡ true = not-false (low && high) (or-left _ (notAbove rolls k) e) in
       record { low = and-left low high both; high = and-right low high both }
 
   above : (k : ℕ) → badRoll rolls (suc k) ≡ false → lt (at rolls k) (at rolls (suc k)) ≡ true
   unfolding badRoll notAbove
-  above k e = holds _ (or-right (notInTurn (at rolls (suc k))) _ e)
+  above k e = not-false _ (or-right (notInTurn (at rolls (suc k))) _ e)
 
   -- ---- 18 and 19
 
