@@ -1,18 +1,31 @@
--- What the three steps of the code of Root make, in the order of IEEE 754's text: special operands, the floor of the root of a scaled significand, rounding.
--- The private functions of src/root.rt cite them; `sqrtOf` (Root) does not rest on them. Definitions only. Assumes nothing.
-use Prim.Native.Nat.{ℕ, zero, suc, _+_, _-_, _*_, _/_, _%_, _^_, Ordering, Ordering·lt, Ordering·eq, Ordering·gt}
-use mathlib.Core.Bool.{Bool, cond}
+-- The three steps of IEEE 754's squareRoot, in the order of its text: special operands (5.4.1); the intermediate result (5.1), as the floor of the root of a scaled
+-- significand and whether it is exact; rounding (4.3.1). The functions of src/root.rt cite them; `sqrtOf` (Root) does not rest on them. That they give it is the
+-- theorem `root-from-steps` (statement: `FromSteps`). Definitions only. Assumes nothing.
+use mathlib.Core.Path.{_≡_}
+use Prim.Native.Nat.{ℕ, zero, suc, _+_, _-_, _*_, _/_, _%_, _^_, _≤_, _<_, Ordering, Ordering·lt, Ordering·eq, Ordering·gt}
+use mathlib.Core.Bool.{Bool, true, false, cond}
 use lib.Dec.{eqb}
-use lib.Ieee.{Float, size, nearest}
-use lib.Ieee.Positive.{positive}
-use Rattle.float.specs.Root.{isqrt, sqrtOf}
-use Rattle.float.specs.declared.root.Scaled.{Scaled}
+use lib.Ieee.{Float, nan, inf, fin, binary64, size, nearest, units, toBits}
 use Rattle.float.specs.declared.root.Operand.{Operand}
 use Rattle.float.specs.declared.root.Operand.the-variants.{Answer, Positive}
+use Rattle.float.specs.declared.root.Scaled.{Scaled}
+use Rattle.float.specs.declared.root.Floor.{Floor}
+use Rattle.float.specs.declared.root.Trial.{Trial}
+use Rattle.float.specs.declared.root.Trial.the-variants.{Found, Missed}
 
--- Step 1: the special operands with their answers; what is left is finite and above 0.
+-- ---- step 1
+
+-- The special operands with their answers: of a NaN, of a negative number and of -infinity NaN; of -0, +0 and +infinity itself. What is left is finite and
+-- above 0.
 unfoldable pub operandOf : Float → Operand
-operandOf x = cond (positive x) Positive (Answer (sqrtOf x))
+operandOf nan = Answer nan
+operandOf (inf true) = Answer nan
+operandOf (inf false) = Answer (inf false)
+operandOf (fin s zero e) = Answer (fin s zero e)
+operandOf (fin true (suc m) e) = Answer nan
+operandOf (fin false (suc m) e) = Positive
+
+-- ---- scaling
 
 -- The magnitude of the bit pattern b, which has the sign clear and is no infinity and no NaN, in units of the smallest value, 2 ^ -1074.
 abbrev pub magnitude : ℕ → ℕ
@@ -30,12 +43,39 @@ scaledFrom a = record { significand = a / 4 ^ ((size a - 53) / 2); half = (size 
 abbrev pub scaledOf : ℕ → Scaled
 scaledOf b = scaledFrom (magnitude b * 2 ^ 1074)
 
--- Step 3: how the root compares with q + 1/2, from r, the whole part of twice the root, which is 2 * q or 2 * q + 1, and whether r is twice the root exactly.
+-- ---- step 2
+
+-- f has the largest whole number whose square does not pass n, and whether it meets n. That the two inequalities have one solution, and that it is the largest,
+-- is the theorem `largest-root`.
+abbrev pub LargestRoot : ℕ → Floor → Type 0
+LargestRoot n f = (f .root * f .root ≤ n) × (n < (f .root + 1) * (f .root + 1)) × (f .exact ≡ eqb (f .root * f .root) n)
+
+-- ---- step 3
+
+-- How a root compares with q + 1/2, from h, the last digit of r = 2 * q + h, the whole part of twice the root, and whether r is twice the root exactly.
 abbrev pub halfway : ℕ → Bool → Ordering
 halfway zero exact = Ordering·lt
 halfway (suc h) exact = cond exact Ordering·eq Ordering·gt
 
--- Steps 2 and 3: the root of m * 2 ^ 52, to the nearest whole number, from the root of four times that.
-unfoldable pub roundedRoot : ℕ → ℕ
-unfolding isqrt
-roundedRoot m = let r = isqrt (m * 2 ^ 54) in nearest (r / 2) (halfway (r % 2) (eqb (r * r) (m * 2 ^ 54)))
+-- The whole number nearest to a root, ties to even, from f: twice the root is f's number or, where that is not exact, between it and the next.
+abbrev pub roundedOf : Floor → ℕ
+roundedOf f = nearest (f .root / 2) (halfway (f .root % 2) (f .exact))
+
+-- ---- the steps together
+
+-- r is what the steps give after step 1's o: what it answered, or step 3's number of what step 2 finds of the scaled significand, that is of `significand * 2 ^ 54`.
+-- That is in units of 2 ^ (half - 27), and its half in units of 2 ^ (half - 26), of the smallest value; half is at least 511.
+abbrev pub FromOperand : Operand → Scaled → Float → Type 0
+FromOperand (Answer a) s r = r ≡ a
+FromOperand Positive s r = (f : Floor) → LargestRoot (s .significand * 2 ^ 54) f → r ≡ units binary64 false (roundedOf f) (s .half - 26)
+
+-- r is what the steps give for x.
+abbrev pub FromSteps : Float → Float → Type 0
+FromSteps x r = FromOperand (operandOf x) (scaledOf (toBits binary64 x)) r
+
+-- ---- a guess
+
+-- What trying q, a guess of step 3's number, gives: what step 2 finds of n where step 3 makes q of it, else `Missed`.
+abbrev pub Tried : ℕ → ℕ → Trial → Type 0
+Tried n q (Found f) = LargestRoot n f × (roundedOf f ≡ q)
+Tried n q Missed = (f : Floor) → LargestRoot n f → roundedOf f ≡ q → ⊥

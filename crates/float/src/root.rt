@@ -1,14 +1,13 @@
-// The square root of an f64: IEEE 754-2019's squareRoot, to nearest, ties to even.
+// The square root of an f64: IEEE 754-2019's squareRoot, to nearest, ties to even, in the order of its text: special operands; the intermediate result, as the
+// floor of the root of a scaled significand and whether it is exact; rounding. Numbers such as 5.4.1 are its clauses.
 //
-// `sqrt_by_steps` goes in the order of the text: special operands, the floor of the root, rounding. `sqrt` first guesses
-// the root by float steps and checks the guess exactly, with integers; where that fails it goes by the steps.
+// Step 2 first tries a guess of the root, made by float steps. Nothing is promised of it: it is checked exactly, with integers.
 ghost use mathlib.Core.Path.{_≡_};
-ghost use mathlib.Core.Bool.{true, false};
-ghost use Prim.Native.Nat.{_+_, _*_, _/_, _%_, _^_, _<_, _≤_};
-ghost use lib.Dec.{eqb};
-ghost use lib.Ieee.{binary64, nearest, units};
-ghost use Rattle.float.specs.Root.{isqrt, sqrtOf};
-ghost use Rattle.float.specs.RootSteps.{operandOf, pairedOf, scaledOf, halfway, roundedRoot};
+ghost use mathlib.Core.Bool.{false};
+ghost use Prim.Native.Nat.{_*_, _^_, _<_, _≤_};
+ghost use lib.Ieee.{binary64, units};
+ghost use Rattle.float.specs.Root.{sqrtOf};
+ghost use Rattle.float.specs.RootSteps.{operandOf, pairedOf, scaledOf, LargestRoot, roundedOf, Tried};
 use std::num::wrapping_sub_u64;
 
 // What the root of an operand asks: nothing more, or the root of a number finite and above 0.
@@ -29,23 +28,33 @@ struct Floor {
     exact: bool,
 }
 
-// Step 1: the special operands and their answers.
+// What trying a guess gives.
+enum Trial {
+    Found(Floor),
+    Missed,
+}
+
+// Step 1 (5.4.1, squareRoot): the special operands and their answers.
 fn special(x: f64) -> Operand
     ensures { λ r. ⌜ r ≡ operandOf x ⌝ }
 {
-    if x != x {
+    if x > 0.0 {
+        if x < f64::from_bits(0x7ff0_0000_0000_0000) {
+            return Operand::Positive;
+        }
+        // 6.1: +infinity is its own root.
         return Operand::Answer(x);
     }
     if x == 0.0 {
+        // 6.3: the root of -0 is -0, and that of +0 is +0.
         return Operand::Answer(x);
     }
     if x < 0.0 {
+        // 7.2, invalid operation: below 0, -infinity among them, there is no root.
         return Operand::Answer(0.0 / 0.0);
     }
-    if x == f64::from_bits(0x7ff0_0000_0000_0000) {
-        return Operand::Answer(x);
-    }
-    Operand::Positive
+    // 6.2: of a NaN it is NaN.
+    Operand::Answer(x)
 }
 
 // m * 2^e as a number times a power of four.
@@ -73,10 +82,10 @@ fn scale(b: u64) -> Scaled
     }
 }
 
-// Step 2: the largest number whose square does not pass m * 2^54, and whether it meets it. Digit by digit: each turn brings two bits down.
-fn floor_root(m: u64) -> Floor
+// The floor of the root of m * 2^54, digit by digit: each turn brings two bits down.
+fn floor_by_digits(m: u64) -> Floor
     requires { ⌜ m < 2 ^ 54 ⌝ }
-    ensures { λ r. ⌜ (r .root ≡ isqrt (m * 2 ^ 54)) × (r .exact ≡ eqb (r .root * r .root) (m * 2 ^ 54)) ⌝ }
+    ensures { λ r. ⌜ LargestRoot (m * 2 ^ 54) r ⌝ }
 {
     let mut bits = m << 10;
     let mut root: u64 = 0;
@@ -99,6 +108,55 @@ fn floor_root(m: u64) -> Floor
     }
 }
 
+// The floor of the root of m * 2^54, if step 3 makes q of it: if m * 2^52 lies above the square of q - 1/2 and below that of q + 1/2.
+// With d = q - 1, squared by its upper and its lower digits, `rest` is m * 2^52 - d * d, and t is `rest` - q: it is d where m * 2^52 is the square of q. A
+// difference below 0 wraps, and is too large for the next test; the tests of `over` and `part` also keep the products within 64 bits.
+fn near(m: u64, q: u64) -> Trial
+    requires { ⌜ (m < 2 ^ 54) × (2 ^ 52 ≤ q) × (q < 2 ^ 53) ⌝ }
+    ensures { λ r. ⌜ Tried (m * 2 ^ 54) q r ⌝ }
+{
+    let d = q - 1;
+    let a = d / 0x400_0000;
+    let c = d % 0x400_0000;
+    let over = wrapping_sub_u64(m, a * a);
+    if over < 0x1000_0000 {
+        let part = wrapping_sub_u64(over * 0x200_0000, a * c);
+        if part < 0x4000_0000 {
+            let rest = wrapping_sub_u64(part * 0x800_0000, c * c);
+            let t = wrapping_sub_u64(rest, q);
+            if t <= q * 2 - 1 {
+                if t == d {
+                    return Trial::Found(Floor {
+                        root: q * 2,
+                        exact: true,
+                    });
+                }
+                let up: u64 = if t < d { 0 } else { 1 };
+                return Trial::Found(Floor {
+                    root: d * 2 + 1 + up,
+                    exact: false,
+                });
+            }
+        }
+    }
+    Trial::Missed
+}
+
+// Step 2 (5.1, the intermediate result): the largest whole number whose square does not pass m * 2^54, and whether it meets it. Of the guess g nothing is asked:
+// its digits are tried.
+fn floor_root(m: u64, g: f64) -> Floor
+    requires { ⌜ m < 2 ^ 54 ⌝ }
+    ensures { λ r. ⌜ LargestRoot (m * 2 ^ 54) r ⌝ }
+{
+    if g == g {
+        let q = 0x10_0000_0000_0000 + f64::to_bits(g) % 0x10_0000_0000_0000;
+        if let Trial::Found(f) = near(m, q) {
+            return f;
+        }
+    }
+    floor_by_digits(m)
+}
+
 // q times 2^k units, q having 53 digits, or the next power of two.
 fn packed(q: u64, k: u64) -> f64
     requires { ⌜ (2 ^ 52 ≤ q) × (q ≤ 2 ^ 53) × (k < 2000) ⌝ }
@@ -107,33 +165,18 @@ fn packed(q: u64, k: u64) -> f64
     f64::from_bits(k * 0x10_0000_0000_0000 + q)
 }
 
-// Step 3: to nearest, ties to even. The root is half of what step 2 found, or more than that where it is not exact.
-fn rounded(root: u64, exact: bool, k: u64) -> f64
-    requires { ⌜ (2 ^ 53 ≤ root) × (root < 2 ^ 54) × (k < 2000) ⌝ }
-    ensures { λ r. ⌜ r ≡ units binary64 false (nearest (root / 2) (halfway (root % 2) exact)) k ⌝ }
+// Step 3 (4.3.1, roundTiesToEven): to nearest, ties to even. The root is half of what step 2 found, or more than that where it is not exact.
+fn rounded(f: Floor, k: u64) -> f64
+    requires { ⌜ (2 ^ 53 ≤ f .root) × (f .root < 2 ^ 54) × (k < 2000) ⌝ }
+    ensures { λ r. ⌜ r ≡ units binary64 false (roundedOf f) k ⌝ }
 {
-    let q = root / 2;
-    if root % 2 == 0 {
-        return packed(q, k);
+    let root = f.root;
+    let q = (root + 1) / 2;
+    if f.exact {
+        // Half of an odd number was rounded up: down again, where that is the even one.
+        return packed(q - (root % 2) * (q % 2), k);
     }
-    if exact {
-        return packed(q + q % 2, k);
-    }
-    packed(q + 1, k)
-}
-
-// The square root, by the three steps.
-fn sqrt_by_steps(x: f64) -> f64
-    ensures { λ r. ⌜ r ≡ sqrtOf x ⌝ }
-{
-    match special(x) {
-        Operand::Answer(r) => r,
-        Operand::Positive => {
-            let s = scale(f64::to_bits(x));
-            let f = floor_root(s.significand);
-            rounded(f.root, f.exact, s.half - 26)
-        }
-    }
+    packed(q, k)
 }
 
 // About the root of f, from g, about the root, and h, about half of 1 / root(f): g to 26 digits, so that its square is exact; then what that leaves of f,
@@ -149,8 +192,8 @@ pub(crate) fn root_by_inverse(f: f64, y: f64) -> f64 {
     root_near(f, f * y, 0.5 * y)
 }
 
-// About the root of the normal pattern b's number times a power of four, from 1/2 to 2: its nearest f64 but for few operands. Nothing is promised of it:
-// `sqrt` checks it.
+// About the root of the normal pattern b's number times a power of four, from 1/2 to 2: its nearest f64 but for few operands. Nothing is promised of it, and of
+// a subnormal pattern it is another number's.
 fn guess(b: u64) -> f64 {
     // The number times a power of four, from 1/2 to 2.
     let n = b % 0x20_0000_0000_0000 + 0x3fe0_0000_0000_0000;
@@ -164,45 +207,19 @@ fn guess(b: u64) -> f64 {
     root_near(f, 88.9696947 * z * p, 44.48484735 * y * p)
 }
 
-// Whether q is what steps 2 and 3 make of m: m * 2^52 lies above the square of q - 1/2 and below that of q + 1/2.
-// `rest` is m * 2^52 less the square of d = q - 1, by the upper and the lower digits of d.
-fn is_rounded_root(m: u64, q: u64) -> bool
-    requires { ⌜ (m < 2 ^ 54) × (2 ^ 52 ≤ q) × (q < 2 ^ 53) ⌝ }
-    ensures { λ r. ⌜ (r ≡ true → roundedRoot m ≡ q) ⌝ }
-{
-    let d = q - 1;
-    let a = d / 0x400_0000;
-    let c = d % 0x400_0000;
-    let over = wrapping_sub_u64(m, a * a);
-    if over < 0x1000_0000 {
-        let part = wrapping_sub_u64(over * 0x400_0000, a * c * 2);
-        if part < 0x8000_0000 {
-            let rest = wrapping_sub_u64(part * 0x400_0000, c * c);
-            return wrapping_sub_u64(rest, q) <= d * 2 + 1;
-        }
-    }
-    false
-}
-
-// The square root.
+// The square root, by the three steps.
 pub fn sqrt(x: f64) -> f64
     ensures { λ r. ⌜ r ≡ sqrtOf x ⌝ }
 {
-    if x > 0.0 {
-        let b = f64::to_bits(x);
-        // A normal pattern: its exponent's field lies from 1 to 2046.
-        if wrapping_sub_u64(b >> 52, 1) < 2046 {
-            let g = guess(b);
-            if g == g {
-                let q = 0x10_0000_0000_0000 + f64::to_bits(g) % 0x10_0000_0000_0000;
-                let s = scale(b);
-                if is_rounded_root(s.significand, q) {
-                    return packed(q, s.half - 26);
-                }
-            }
+    match special(x) {
+        Operand::Answer(r) => r,
+        Operand::Positive => {
+            let b = f64::to_bits(x);
+            let s = scale(b);
+            let f = floor_root(s.significand, guess(b));
+            rounded(f, s.half - 26)
         }
     }
-    sqrt_by_steps(x)
 }
 
 // The square root of x, which is g if x lies from 1 to 2 and the guess is good. Nothing is asked of g.
@@ -218,7 +235,7 @@ pub(crate) fn checked_to_two(x: f64, g: f64) -> f64
                     let s = scale(b);
                     if s.half == 1048 {
                         let q = 0x10_0000_0000_0000 + c % 0x10_0000_0000_0000;
-                        if is_rounded_root(s.significand, q) {
+                        if let Trial::Found(_) = near(s.significand, q) {
                             return g;
                         }
                     }

@@ -1,94 +1,97 @@
--- `float::root::sqrt` meets its contract: a guess that passes the test is what steps 2 and 3 give. Assumes nothing.
-use mathlib.Core.Path.{_≡_, sym, ap, _∙_, subst}
-use mathlib.Core.Bool.{false}
-use Prim.Native.Nat.{ℕ, _+_, _-_, _*_, _/_, _^_, _≤_, _<_}
+-- `float::root::sqrt` meets its contract, from those of the three steps. Assumes nothing.
+use mathlib.Core.Path.{_≡_, refl, sym, _∙_, subst, subst₂}
+use Prim.Native.Nat.{_*_, _^_, _≤_, _<_}
 use native.Mathlib.Omega.{arith}
 use lib.Dec.{T}
-use lib.Ieee.{binary64, toBits, units}
-use Rattle.float.specs.RootSteps.{magnitude}
+use lib.Ieee.{binary64, fits, toBits}
+use Rattle.float.specs.Root.{sqrtOf}
+use Rattle.float.specs.RootSteps.{operandOf, magnitude, scaledOf, FromOperand}
+use Rattle.float.specs.declared.root.Operand.{Operand}
+use Rattle.float.specs.declared.root.Operand.the-variants.{Positive}
 use Rattle.float.specs.declared.root.Scaled.{Scaled}
-use Rattle.float.proofs.Scaling.{Scales, scaled-facts}
-use Rattle.float.proofs.Sign.{same-not-nan, above-not-nan}
-use Rattle.float.proofs.Steps.{normal-left, root-of-scaled}
+use Rattle.float.proofs.Scaling.{Scales}
+use Rattle.float.proofs.Steps.{left-over, scaled-is, root-digits, root-from-steps}
 use borrow.Author.Needs.{needs}
 use Rattle.float.proofs.root.sqrt.Statement.{statement}
 use Rattle.float.proofs.root.sqrt.Tie as tie
 
--- a pattern that passes the test is a normal number's
-normal : (c : tie.Then2) → let b = toBits binary64 (c .before .before .before .args .x) in (2 ^ 52 ≤ b) × (b < 2047 * 2 ^ 52)
-normal c =
-    let b = toBits binary64 (c .before .before .before .args .x) in
-    let r = c .before .wrapping-sub-u64 .result in
-    let e : r + 1 ≡ b / 2 ^ 52 = omega arith in
-    (omega arith, omega arith)
+-- what owning an `f64` tells: the format holds it
+held : (c : tie.Start) → T (fits binary64 (c .args .x))
+held c = subst T (sym (c .good .0 .1)) tt
 
--- what `scale` gives
-scaled-at : (c : tie.After-scale) → Scales (magnitude (toBits binary64 (c .before .before .before .before .before .before .args .x)) * 2 ^ 1074) (c .scale .result) × (511 ≤ c .scale .result .half) × (c .scale .result .half < 1560)
+-- the root, from what step 1 answered and from the scaled significand
+given : (c : tie.After-special) (o : Operand) (s : Scaled) → (let x = c .before .args .x in c .special .result ≡ o → s ≡ scaledOf (toBits binary64 x) → FromOperand o s (sqrtOf x))
+given c o s e w =
+    let x = c .before .args .x in
+    subst₂ (λ (p : Operand) (t : Scaled). FromOperand p t (sqrtOf x)) (sym (c .special .ensures) ∙ e) (sym w) (root-from-steps x (held (c .before)))
+
+-- what step 1 left
+left : (c : tie.After-enum-told) → operandOf (c .before .before .before .args .x) ≡ Positive
+left c = sym (c .before .before .special .ensures) ∙ c .enum-told .given .1
+
+-- what step 2 is handed
+scaled-at : (c : tie.After-scale) → Scales (magnitude (toBits binary64 (c .before .before .before .before .args .x)) * 2 ^ 1074) (c .scale .result) × (511 ≤ c .scale .result .half) × (c .scale .result .half < 1560)
 scaled-at c =
-    let b = toBits binary64 (c .before .before .before .before .before .before .args .x) in
-    let n = normal (c .before .before .before) in
-    subst (λ (s : Scaled). Scales (magnitude b * 2 ^ 1074) s × (511 ≤ s .half) × (s .half < 1560)) (sym (c .scale .ensures)) (scaled-facts b (omega (arith, n .0)) (n .1))
+    let x = c .before .before .before .before .args .x in
+    let l = left-over x (left (c .before)) (held (c .before .before .before .before)) in
+    scaled-is (toBits binary64 x) (c .scale .result) (c .scale .ensures) (l .1) (l .2)
+
+special-requires : tie.Need-special-requires
+special-requires c κs = search needs
+
+enum-known-r : tie.Need-enum-known-r
+enum-known-r c = search needs
+
+enum-told : tie.Need-enum-told
+enum-told c = search needs
 
 float-to-bits-b : tie.Need-float-to-bits-b
-float-to-bits-b c = above-not-nan (c .before .args .x) (c .if1 .taken)
+float-to-bits-b c = left-over (c .before .before .before .args .x) (left c) (held (c .before .before .before)) .0
 
-wrapping-sub-u64-requires : tie.Need-wrapping-sub-u64-requires
-wrapping-sub-u64-requires c κs = search needs
+scale-requires : tie.Need-scale-requires
+scale-requires c κs =
+    let l = left-over (c .before .before .before .args .x) (left c) (held (c .before .before .before)) in
+    (l .1, l .2)
 
 guess-requires : tie.Need-guess-requires
 guess-requires c κs = search needs
 
-float-to-bits-q : tie.Need-float-to-bits-q
-float-to-bits-q c = same-not-nan (c .before .guess .result) (c .if3 .taken)
+floor-root-requires : tie.Need-floor-root-requires
+floor-root-requires c κs = scaled-at (c .before) .0 .2
 
-add-q : tie.Need-add-q
-add-q c = search needs
+sub-rounded : tie.Need-sub-rounded
+sub-rounded c = let f = scaled-at (c .before .before .before) .1 in omega arith
 
-scale-requires : tie.Need-scale-requires
-scale-requires c κs = let n = normal (c .before .before) in (omega (arith, n .0), n .1)
-
-is-rounded-root-requires : tie.Need-is-rounded-root-requires
-is-rounded-root-requires c κs = (scaled-at c .0 .2, omega arith, omega arith)
-
-sub-packed : tie.Need-sub-packed
-sub-packed c = let f = scaled-at (c .before .before .before) .1 in omega arith
-
-packed-requires : tie.Need-packed-requires
-packed-requires c κs =
-    let f = scaled-at (c .before .before .before) .2 in
-    let k : c .before .before .before .scale .result .half - 26 < 2000 = omega arith in
-    (omega arith, omega arith, k)
+rounded-requires : tie.Need-rounded-requires
+rounded-requires c κs =
+    let s = c .before .before .before in
+    let f = scaled-at s in
+    let R = c .before .floor-root .ensures in
+    let d = root-digits (s .scale .result .significand) (c .before .floor-root .result .root) (f .0 .1) (f .0 .2) (R .0, R .1) in
+    (d .0, d .1, omega (arith, f .2))
 
 returns : tie.Need-returns
-returns c =
-    let r = c .before .before .before in
-    let s = r .before in
-    let start = s .before .before .before .before .before in
-    let x = start .before .args .x in
-    let f = scaled-at s in
-    c .packed .ensures
-    ∙ ap (λ (q : ℕ). units binary64 false q (s .scale .result .half - 26)) (sym (r .is-rounded-root .ensures (c .before .before .if4 .taken)))
-    ∙ root-of-scaled x (s .scale .result) (normal-left x (start .if1 .taken) (omega arith)) (subst T (sym (start .before .good .0 .1)) tt) (f .0) (omega arith)
-
-sqrt-by-steps-requires : tie.Need-sqrt-by-steps-requires
-sqrt-by-steps-requires c κs = search needs
+returns c = sym (given (c .before .before .before) _ _ (c .before .r .given .1) refl)
 
 returns-2 : tie.Need-returns-2
-returns-2 c = search needs
+returns-2 c =
+    let f = c .before .before in
+    let s = f .before .before in
+    let o = s .before in
+    c .rounded .ensures ∙ sym (given (o .before .before) Positive (s .scale .result) (o .enum-told .given .1) (s .scale .ensures) (f .floor-root .result) (f .floor-root .ensures))
 
 pub sqrt-spec : {M : Type 1} → statement M
 sqrt-spec =
     tie.close
     (tie.spec
+    special-requires
+    enum-known-r
+    enum-told
     float-to-bits-b
-    wrapping-sub-u64-requires
-    guess-requires
-    float-to-bits-q
-    add-q
     scale-requires
-    is-rounded-root-requires
-    sub-packed
-    packed-requires
+    guess-requires
+    floor-root-requires
+    sub-rounded
+    rounded-requires
     returns
-    sqrt-by-steps-requires
     returns-2)
