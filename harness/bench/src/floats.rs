@@ -71,10 +71,22 @@ fn title(of: &str, chain: bool) -> String {
 
 /// Positive numbers, every size alike.
 pub fn root_case(name: &'static str, chain: bool, limit: Limit) -> Case {
-    let operands = operands(|s| (f64::from_bits(s.below(0x7fe0_0000_0000_0000)), 0.0));
+    roots(name, title("root", chain), chain, limit, |s| s.below(0x7fe0_0000_0000_0000))
+}
+
+/// Subnormal numbers, every size alike: their roots are worked out digit by digit.
+pub fn subnormal_case(name: &'static str, limit: Limit) -> Case {
+    roots(name, "root of subnormal numbers".into(), false, limit, |s| {
+        let top = 1 << s.below(52);
+        top | s.below(top)
+    })
+}
+
+fn roots(name: &'static str, title: String, chain: bool, limit: Limit, mut pattern: impl FnMut(&mut Seeded) -> u64) -> Case {
+    let operands = operands(|s| (f64::from_bits(pattern(s)), 0.0));
     Case {
         name,
-        title: title("root", chain),
+        title,
         unit: "call",
         limit,
         mask: false,

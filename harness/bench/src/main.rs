@@ -45,6 +45,7 @@ const ENTRIES: &[Entry] = &[
     ("mask", |name, t| sweeps::mask_case(name, (t, TIMES), 90.0, PER_CELL)),
     ("root", |name, _| floats::root_case(name, false, Limit::Ratio(5.0))),
     ("root-chained", |name, _| floats::root_case(name, true, Limit::Ratio(5.0))),
+    ("root-subnormal", |name, _| floats::subnormal_case(name, Limit::None)),
     ("arctangent", |name, _| floats::angle_case(name, false, Limit::Ratio(4.0))),
     ("arctangent-chained", |name, _| floats::angle_case(name, true, Limit::Ratio(4.0))),
     ("sine", |name, _| floats::turn_case(name, Limit::None)),
