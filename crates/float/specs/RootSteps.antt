@@ -1,6 +1,6 @@
--- The three steps of IEEE 754's squareRoot, in the order of its text: special operands (5.4.1); the intermediate result (5.1), as the floor of the root of a scaled
--- significand and whether it is exact; rounding (4.3.1). The functions of src/root.rt cite them; `sqrtOf` (Root) does not rest on them. That they give it is the
--- theorem `root-from-steps` (statement: `FromSteps`). Definitions only. Assumes nothing.
+-- The three steps of squareRoot, in the order in which IEEE 754's text has it worked out: special operands (5.4.1); the intermediate result (5.1), as the floor of
+-- the root of a scaled significand and whether it is exact; rounding (4.3.1). The functions of src/root.rt cite them; `sqrtOf` (Root) does not rest on them. That
+-- they give it is the theorem `root-from-steps` (statement: `FromSteps`). Definitions only. Assumes nothing.
 use mathlib.Core.Path.{_≡_}
 use Prim.Native.Nat.{ℕ, zero, suc, _+_, _-_, _*_, _/_, _%_, _^_, _≤_, _<_, Ordering, Ordering·lt, Ordering·eq, Ordering·gt}
 use mathlib.Core.Bool.{Bool, true, false, cond}
@@ -64,7 +64,7 @@ roundedOf f = nearest (f .root / 2) (halfway (f .root % 2) (f .exact))
 -- ---- the steps together
 
 -- r is what the steps give after step 1's o: what it answered, or step 3's number of what step 2 finds of the scaled significand, that is of `significand * 2 ^ 54`.
--- That is in units of 2 ^ (half - 27), and its half in units of 2 ^ (half - 26), of the smallest value; half is at least 511.
+-- Step 2's number is in units of 2 ^ (half - 27) smallest values, step 3's in units of 2 ^ (half - 26); half is at least 511.
 abbrev pub FromOperand : Operand → Scaled → Float → Type 0
 FromOperand (Answer a) s r = r ≡ a
 FromOperand Positive s r = (f : Floor) → LargestRoot (s .significand * 2 ^ 54) f → r ≡ units binary64 false (roundedOf f) (s .half - 26)

@@ -1,5 +1,5 @@
-// The square root of an f64: IEEE 754-2019's squareRoot, to nearest, ties to even, in the order of its text: special operands; the intermediate result, as the
-// floor of the root of a scaled significand and whether it is exact; rounding. Numbers such as 5.4.1 are its clauses.
+// The square root of an f64: IEEE 754-2019's squareRoot, to nearest, ties to even, in the order in which its text has it worked out: special operands; the
+// intermediate result, as the floor of the root of a scaled significand and whether it is exact; rounding. Numbers such as 5.4.1 are its clauses.
 //
 // Step 2 first tries a guess of the root, made by float steps. Nothing is promised of it: it is checked exactly, with integers.
 ghost use mathlib.Core.Path.{_≡_};
@@ -10,7 +10,7 @@ ghost use Rattle.float.specs.Root.{sqrtOf};
 ghost use Rattle.float.specs.RootSteps.{operandOf, pairedOf, scaledOf, LargestRoot, roundedOf, Tried};
 use std::num::wrapping_sub_u64;
 
-// What the root of an operand asks: nothing more, or the root of a number finite and above 0.
+// What step 1 gives: the answer, or that the operand is finite and above 0.
 enum Operand {
     Answer(f64),
     Positive,
@@ -53,7 +53,7 @@ fn special(x: f64) -> Operand
         // 7.2, invalid operation: below 0, -infinity among them, there is no root.
         return Operand::Answer(0.0 / 0.0);
     }
-    // 6.2: of a NaN it is NaN.
+    // 6.2: the root of a NaN is NaN.
     Operand::Answer(x)
 }
 
@@ -110,7 +110,8 @@ fn floor_by_digits(m: u64) -> Floor
 
 // The floor of the root of m * 2^54, if step 3 makes q of it: if m * 2^52 lies above the square of q - 1/2 and below that of q + 1/2.
 // With d = q - 1, squared by its upper and its lower digits, `rest` is m * 2^52 - d * d, and t is `rest` - q: it is d where m * 2^52 is the square of q. A
-// difference below 0 wraps, and is too large for the next test; the tests of `over` and `part` also keep the products within 64 bits.
+// difference below 0 wraps, and is too large for the next test; the tests of `over` and `part` also keep the products within 64 bits. What is found is
+// written so that the compiler sees that step 3 makes q of it.
 fn near(m: u64, q: u64) -> Trial
     requires { ⌜ (m < 2 ^ 54) × (2 ^ 52 ≤ q) × (q < 2 ^ 53) ⌝ }
     ensures { λ r. ⌜ Tried (m * 2 ^ 54) q r ⌝ }
@@ -142,8 +143,8 @@ fn near(m: u64, q: u64) -> Trial
     Trial::Missed
 }
 
-// Step 2 (5.1, the intermediate result): the largest whole number whose square does not pass m * 2^54, and whether it meets it. Of the guess g nothing is asked:
-// its digits are tried.
+// Step 2 (5.1, the intermediate result): the largest whole number whose square does not pass m * 2^54, and whether it meets it. Of the guess g nothing is
+// asked: its digits are tried.
 fn floor_root(m: u64, g: f64) -> Floor
     requires { ⌜ m < 2 ^ 54 ⌝ }
     ensures { λ r. ⌜ LargestRoot (m * 2 ^ 54) r ⌝ }
@@ -165,7 +166,7 @@ fn packed(q: u64, k: u64) -> f64
     f64::from_bits(k * 0x10_0000_0000_0000 + q)
 }
 
-// Step 3 (4.3.1, roundTiesToEven): to nearest, ties to even. The root is half of what step 2 found, or more than that where it is not exact.
+// Step 3 (4.3.1, roundTiesToEven): to nearest, ties to even. The root is half of f's number or, where that is not exact, between this half and the next.
 fn rounded(f: Floor, k: u64) -> f64
     requires { ⌜ (2 ^ 53 ≤ f .root) × (f .root < 2 ^ 54) × (k < 2000) ⌝ }
     ensures { λ r. ⌜ r ≡ units binary64 false (roundedOf f) k ⌝ }

@@ -1,6 +1,6 @@
 -- `float::root::floor_by_digits` meets its contract. After i turns `root` is the floor of the root of the first 2 * i bits of m * 2 ^ 54, which has 108, `rest` is
 -- what its square leaves of them, and `bits` has the next 64. Assumes nothing.
-use mathlib.Core.Path.{_≡_, refl, sym, ap, _∙_, subst, subst₂}
+use mathlib.Core.Path.{_≡_, sym, ap, _∙_, subst, subst₂}
 use mathlib.Core.Logic.{⊎-elim}
 use Prim.Native.Nat.{ℕ, zero, suc, _+_, _-_, _*_, _/_, _%_, _^_, _≤_, _<_}
 use native.Mathlib.Nat.{lt-of-lt-of-le, mul-assoc, mul-mul-mul-comm, pow-suc}
@@ -69,35 +69,27 @@ finish m bits root rest i d h =
 loop-holds : tie.Need-loop-holds Inv-loop μ-loop
 loop-holds c = start (c .args .m) (c .pre)
 
+-- what a turn starts with
+root-small : (c : tie.In-loop Inv-loop μ-loop) → (let l = c .before .loop in (l .root < 2 ^ 53) × (l .rest ≤ 2 * l .root) × (l .bits < 2 ^ 64))
+root-small c = let l = c .before .loop in (small (c .before .before .args .m) (l .bits) (l .root) (l .rest) (l .i) (l .inv) (c .loop-test .taken), l .inv .2, l .inv .4)
+
 mul-rest : tie.Need-mul-rest Inv-loop μ-loop
-mul-rest c =
-    let b = small (c .before .before .args .m) (c .before .loop .bits) (c .before .loop .root) (c .before .loop .rest) (c .before .loop .i) (c .before .loop .inv) (c .loop-test .taken) in
-    omega (arith, c .before .loop .inv .2, c .before .loop .inv .4)
+mul-rest c = let b = root-small c in omega (arith, b .1, b .2)
 
 add-rest : tie.Need-add-rest Inv-loop μ-loop
-add-rest c =
-    let b = small (c .before .before .args .m) (c .before .loop .bits) (c .before .loop .root) (c .before .loop .rest) (c .before .loop .i) (c .before .loop .inv) (c .loop-test .taken) in
-    omega (arith, c .before .loop .inv .2, c .before .loop .inv .4)
+add-rest c = let b = root-small c in omega (arith, b .1, b .2)
 
 mul-trial : tie.Need-mul-trial Inv-loop μ-loop
-mul-trial c =
-    let b = small (c .before .before .args .m) (c .before .loop .bits) (c .before .loop .root) (c .before .loop .rest) (c .before .loop .i) (c .before .loop .inv) (c .loop-test .taken) in
-    omega (arith, c .before .loop .inv .2, c .before .loop .inv .4)
+mul-trial c = let b = root-small c in omega (arith, b .1, b .2)
 
 add-trial : tie.Need-add-trial Inv-loop μ-loop
-add-trial c =
-    let b = small (c .before .before .args .m) (c .before .loop .bits) (c .before .loop .root) (c .before .loop .rest) (c .before .loop .i) (c .before .loop .inv) (c .loop-test .taken) in
-    omega (arith, c .before .loop .inv .2, c .before .loop .inv .4)
+add-trial c = let b = root-small c in omega (arith, b .1, b .2)
 
 mul-root : tie.Need-mul-root Inv-loop μ-loop
-mul-root c =
-    let b = small (c .before .before .args .m) (c .before .loop .bits) (c .before .loop .root) (c .before .loop .rest) (c .before .loop .i) (c .before .loop .inv) (c .loop-test .taken) in
-    omega (arith, c .before .loop .inv .2, c .before .loop .inv .4)
+mul-root c = let b = root-small c in omega (arith, b .1, b .2)
 
 add-root : tie.Need-add-root Inv-loop μ-loop
-add-root c =
-    let b = small (c .before .before .before .args .m) (c .before .before .loop .bits) (c .before .before .loop .root) (c .before .before .loop .rest) (c .before .before .loop .i) (c .before .before .loop .inv) (c .before .loop-test .taken) in
-    omega arith
+add-root c = let b = root-small (c .before) in omega (arith, b .0)
 
 add-i : tie.Need-add-i Inv-loop μ-loop
 add-i c = omega arith
@@ -107,14 +99,18 @@ loop-less c = omega arith
 
 loop-again : tie.Need-loop-again Inv-loop μ-loop
 loop-again c =
+    let b = c .before .before in
+    let m = b .before .args .m in
+    let l = b .loop in
     ⊎-elim
-    (λ w. move _ _ _ (w .1) (w .2) (up (c .before .before .before .args .m) (c .before .before .loop .bits) (c .before .before .loop .root) (c .before .before .loop .rest) (c .before .before .loop .i) (c .before .before .loop .inv) (c .before .loop-test .taken) (omega (arith, w .0 .taken))))
-    (λ w. move _ _ _ (w .1) (w .2) (down (c .before .before .before .args .m) (c .before .before .loop .bits) (c .before .before .loop .root) (c .before .before .loop .rest) (c .before .before .loop .i) (c .before .before .loop .inv) (c .before .loop-test .taken) (w .0 .left)))
+    (λ w. move _ _ _ (w .1) (w .2) (up m (l .bits) (l .root) (l .rest) (l .i) (l .inv) (c .before .loop-test .taken) (omega (arith, w .0 .taken))))
+    (λ w. move _ _ _ (w .1) (w .2) (down m (l .bits) (l .root) (l .rest) (l .i) (l .inv) (c .before .loop-test .taken) (w .0 .left)))
     (c .if1 .came)
 
 returns : tie.Need-returns Inv-loop μ-loop
 returns c =
-    finish (c .before .before .args .m) (c .before .loop .bits) (c .before .loop .root) (c .before .loop .rest) (c .before .loop .i) (c .before .loop .inv) (c .loop-test .left)
+    let l = c .before .loop in
+    finish (c .before .before .args .m) (l .bits) (l .root) (l .rest) (l .i) (l .inv) (c .loop-test .left)
 
 pub floor-by-digits-spec : {M : Type 1} → statement M
 floor-by-digits-spec =

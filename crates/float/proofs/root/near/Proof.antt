@@ -68,7 +68,7 @@ second-test m q over part R hi o over< p part< =
     let y = whole-unwrapped part (a * c) (over * 2 ^ 25) p part< (omega (arith, R .0)) (omega arith) in
     omega (arith, R .0, R .2)
 
--- a difference, by what it is of
+-- the difference of b + r and b is r
 rest-is : (rest b a r : ℕ) → (rest + b) % 2 ^ 64 ≡ a → rest < 2 ^ 64 → a ≡ b + r → a < 2 ^ 64 → rest ≡ r
 rest-is rest b a r e h k l = let z = whole-unwrapped rest b a e h (omega arith) l in omega arith
 
@@ -154,7 +154,7 @@ mul-t23 c = search needs
 add-t24 : tie.Need-add-t24
 add-t24 c = search needs
 
--- which of two whole numbers it is
+-- `up`, by its test
 up-by-test : (c : tie.After-row-known) → (let i = c .before .before in let d = i .before .before .before .before .before .before .before .before .args .q - 1 in
     let t = i .before .before .wrapping-sub-u644 .result in ((t < d) × (c .before .if5 .up ≡ 0)) ⊎ ((d ≤ t) × (c .before .if5 .up ≡ 1)))
 up-by-test c = ⊎-elim (λ w. inl (w .0 .taken, w .1)) (λ w. inr (w .0 .left, w .1)) (c .before .if5 .came)

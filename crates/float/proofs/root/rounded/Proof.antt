@@ -23,13 +23,14 @@ tie-to-even r (suc (suc h)) e = absurd (omega arith)
 digits : (a b : ℕ) → a % 2 * (b % 2) ≤ a % 2
 digits a b = let p = mul-le-mul {n₁ = a % 2} {m₁ = b % 2} {n₂ = a % 2} {m₂ = 1} (omega arith) (omega arith) in omega arith
 
--- so, whichever the second is, a number of 53 digits is left, or the next power of two
+-- so it fits, and is not above the half
 fitting : (a b : ℕ) → Fits w64 (a % 2 * (b % 2))
 fitting a b = omega (arith, digits a b)
 
 below-half : (r b : ℕ) → 2 ^ 53 ≤ r → r % 2 * (b % 2) ≤ (r + 1) / 2
 below-half r b lo = omega (arith, digits r b)
 
+-- and a number of 53 digits is left, or the next power of two, whichever the second digit is
 half-left : (r b k : ℕ) → (2 ^ 53 ≤ r) × (r < 2 ^ 54) × (k < 2000) → (let q = (r + 1) / 2 - r % 2 * (b % 2) in (2 ^ 52 ≤ q) × (q ≤ 2 ^ 53) × (k < 2000))
 half-left r b k p = (omega (arith, digits r b, p .0), omega (arith, p .1), p .2)
 
