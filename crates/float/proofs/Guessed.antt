@@ -44,22 +44,14 @@ found-exact m q d t e u h =
     let v : q * 2 * (q * 2) ≡ m * 2 ^ 54 = omega arith in
     finds m q (q * 2) true (omega arith) (omega (arith, sq-suc (q * 2))) (sym (eq-eqb (q * 2 * (q * 2)) (m * 2 ^ 54) v)) (omega arith)
 
--- it is below that, or above
-found-below : (m q d t : ℕ) → q ≡ d + 1 → m * 2 ^ 52 ≡ d * d + (t + q) → t < d → Finds m q (d * 2 + 1) false
-found-below m q d t e u h =
-    let r = d * 2 + 1 in
-    let s : r * r ≡ 4 * (d * d) + 4 * d + 1 = omega arith in
-    finds m q r false (omega arith) (omega (arith, sq-suc r)) (sym (ne-eqb (r * r) (m * 2 ^ 54) (omega arith))) (omega arith)
+-- it lies between the squares of half an r and of the next half
+inexact : (m q r : ℕ) → r * r < m * 2 ^ 54 → m * 2 ^ 54 < (r + 1) * (r + 1) → (r + 1) / 2 ≡ q → Finds m q r false
+inexact m q r lo hi h = finds m q r false (omega arith) hi (sym (ne-eqb (r * r) (m * 2 ^ 54) (omega arith))) h
 
-found-above : (m q d t : ℕ) → q ≡ d + 1 → m * 2 ^ 52 ≡ d * d + (t + q) → d < t → t ≤ d * 2 + 1 → Finds m q (d * 2 + 2) false
-found-above m q d t e u h k =
-    let r = d * 2 + 2 in
-    let s : r * r ≡ 4 * (d * d) + 8 * d + 4 = omega arith in
-    finds m q r false (omega arith) (omega (arith, sq-suc r)) (sym (ne-eqb (r * r) (m * 2 ^ 54) (omega arith))) (omega arith)
-
+-- so it does where it is not the square of q
 pub found-between : (m q d t up : ℕ) → q ≡ d + 1 → m * 2 ^ 52 ≡ d * d + (t + q) → t ≤ q * 2 - 1 → (t ≡ d → ⊥) → ((t < d) × (up ≡ 0)) ⊎ ((d ≤ t) × (up ≡ 1)) → Finds m q (d * 2 + 1 + up) false
-found-between m q d t up e u k n (inl w) = subst (λ (r : ℕ). Finds m q r false) (omega (arith, w .1)) (found-below m q d t e u (w .0))
-found-between m q d t up e u k n (inr w) = subst (λ (r : ℕ). Finds m q r false) (omega (arith, w .1)) (found-above m q d t e u (omega (arith, w .0)) (omega arith))
+found-between m q d t up e u k n (inl w) = subst (λ (r : ℕ). Finds m q r false) (omega (arith, w .1)) (inexact m q (d * 2 + 1) (omega arith) (omega (arith, w .0)) (omega arith))
+found-between m q d t up e u k n (inr w) = subst (λ (r : ℕ). Finds m q r false) (omega (arith, w .1)) (inexact m q (d * 2 + 2) (omega (arith, w .0)) (omega arith) (omega arith))
 
 -- ---- the square of d by its upper and its lower digits
 
