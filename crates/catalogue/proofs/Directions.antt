@@ -1,5 +1,5 @@
--- Degrees that 16 accepts give directions: each component is within -1 to 1, so 5 never refuses them, and the squared length is within 1e-9 of 1, so `notUnit` does not
--- hold of them (`catalogue-direction`); nor of what an accepted call leaves (`catalogue-directions`). Assumes nothing.
+-- Degrees that 16 accepts give directions: each component is within -1 to 1, so 5 never refuses them, and the squared length is within 1e-9 of 1, so 20 does not either;
+-- nor what an accepted call leaves (`catalogue-accepted`). Assumes nothing.
 use mathlib.Core.Path.{_≡_, refl, ap, ap₂, _∙_, subst}
 use mathlib.Core.Bool.{Bool, true, false, not, _||_, _&&_, false≢true}
 use mathlib.Core.List.{List}
@@ -11,20 +11,20 @@ use lib.IntN.{pos}
 use lib.Dec.{eqb, lit<}
 use lib.ListN.{length, getD, take}
 use lib.Ieee.{Float, nan, inf, fin, up, down, neg, lt, le, eq, ofBits}
-use Rattle.buffers.specs.Ranges.{any, tab}
+use Rattle.buffers.specs.Ranges.{any, anyBelow, tab}
 use Rattle.buffers.specs.Lent.{filled}
 use Rattle.buffers.specs.Refusal.{unlessRefused}
-use Rattle.buffers.proofs.Ranges.{any-getD, any-tab, getD-tab}
+use Rattle.buffers.proofs.Ranges.{any-getD, any-tab, length-tab, getD-tab}
 use Rattle.buffers.proofs.Lent.{take-filled}
 use Rattle.buffers.proofs.Tests.{and-left, and-right}
 use Rattle.float.specs.Arithmetic.{zero·0, one, fullTurn}
 use Rattle.float.specs.Trigonometry.{sineOf, cosineOf, toRadians}
 use Rattle.float.proofs.Order.{at-most, at-least}
 use Rattle.catalogue.proofs.SineCosine.{AtMost, radians, OnCircle, sine-cosine}
-use Rattle.solar_roll.specs.Vectors.{vector, dot3}
-use Rattle.solar_roll.specs.Cell.{tooLarge, badDirection, notUnit}
-use Rattle.solar_roll.specs.Plan.{triple}
-use Rattle.catalogue.specs.Catalogue.{ninety, radecToUnit, outside, badRa, badDec, vectorOf, catalogueNumber, catalogueRefusal, catalogueAfter}
+use Rattle.solar_roll.specs.Vectors.{vector, dot3, triple}
+use Rattle.solar_roll.specs.Cell.{tooLarge, badDirection, notUnit, anyNotUnit, directionRefusal}
+use Rattle.solar_roll.proofs.PlanFacts.{all-unit, direction-passes}
+use Rattle.catalogue.specs.Catalogue.{ninety, radecToUnit, outside, badRa, badDec, vectorOf, catalogueNumber, catalogueRefusal, catalogueAfter, CatalogueAccepted}
 use Rattle.catalogue.proofs.Facts.{CatalogueFacts, catalogue-facts}
 use Rattle.catalogue.proofs.Numbers.{number-at}
 use Rattle.catalogue.proofs.UnitVector.{at-most-one, unit-length}
@@ -76,20 +76,24 @@ of-degrees a w = sine-cosine (toRadians a) (radians a w)
 
 -- ---- one position
 
-pub catalogue-direction : (ra dec : Float) → badRa ra ≡ false → badDec dec ≡ false → (badDirection (radecToUnit ra dec) ≡ false) × (notUnit (radecToUnit ra dec) ≡ false)
+within : (ra dec : Float) → badRa ra ≡ false → badDec dec ≡ false → (badDirection (radecToUnit ra dec) ≡ false) × (notUnit (radecToUnit ra dec) ≡ false)
 unfolding radecToUnit badDirection any tooLarge notUnit dot3
-catalogue-direction ra dec h g =
+within ra dec h g =
     let d = of-degrees dec (good-dec dec g) in
     let r = of-degrees ra (good-ra ra h) in
     let w = at-most-one d r in
     (simp (w .0, w .1, w .2), ap not (unit-length d r))
+
+position-accepted : (ra dec : Float) → badRa ra ≡ false → badDec dec ≡ false → directionRefusal (radecToUnit ra dec) ≡ 0
+unfolding radecToUnit anyNotUnit anyBelow triple
+position-accepted ra dec h g = let w = within ra dec h g in direction-passes (radecToUnit ra dec) (w .0) (w .1)
 
 -- ---- all positions of an accepted call
 
 module _ (ras decs : List Float) (room : ℕ) (f : CatalogueFacts ras decs room) where
   position : (i : ℕ) → i < length ras → (badDirection (vectorOf ras decs i) ≡ false) × (notUnit (vectorOf ras decs i) ≡ false)
   unfolding vectorOf
-  position i h = catalogue-direction _ _ (any-getD badRa ras nan i (f .ras-in) h) (any-getD badDec decs nan i (f .decs-in) (omega (arith, f .same)))
+  position i h = within _ _ (any-getD badRa ras nan i (f .ras-in) h) (any-getD badDec decs nan i (f .decs-in) (omega (arith, f .same)))
 
   numbers : List Float
   numbers = tab (3 * length ras) (catalogueNumber ras decs)
@@ -110,15 +114,20 @@ module _ (ras decs : List Float) (room : ℕ) (f : CatalogueFacts ras decs room)
       ap₂ (λ (p q : Float). vector p q (getD numbers (3 * i + 2) nan)) (ap (λ (k : ℕ). getD numbers k nan) z ∙ number-is i 0 h (lit< tt)) (number-is i 1 h (lit< tt))
       ∙ ap (λ (p : Float). vector (getD (vectorOf ras decs i) 0 nan) (getD (vectorOf ras decs i) 1 nan) p) (number-is i 2 h (lit< tt))
 
--- lent as targets: no component is refused by 5, and each is a unit vector
-pub catalogue-directions : (ras decs out : List Float) → catalogueRefusal ras decs (length out) ≡ 0
-    → (let targets = take (3 * length ras) (catalogueAfter ras decs out) in (badDirection targets ≡ false) × ((i : ℕ) → i < length ras → notUnit (triple targets i) ≡ false))
+  numbers-unit : anyNotUnit numbers ≡ false
+  unfolding numbers
+  numbers-unit = all-unit (length ras) numbers (length-tab (3 * length ras) _) (λ (i : ℕ) (h : i < length ras). ap notUnit (triple-is i h) ∙ position i h .1)
+
+  numbers-accepted : directionRefusal numbers ≡ 0
+  numbers-accepted = direction-passes numbers numbers-small numbers-unit
+
+positions-accepted : (ras decs out : List Float) → catalogueRefusal ras decs (length out) ≡ 0 → directionRefusal (take (3 * length ras) (catalogueAfter ras decs out)) ≡ 0
 unfolding catalogueAfter unlessRefused numbers
-catalogue-directions ras decs out h =
-    let f = catalogue-facts ras decs (length out) h in
+positions-accepted ras decs out h =
     let n = 3 * length ras in
     let g = catalogueNumber ras decs in
-    let e : take n (unlessRefused (catalogueRefusal ras decs (length out)) (filled n g out) out) ≡ tab n g = ap (λ (k : ℕ). take n (unlessRefused k (filled n g out) out)) h ∙ take-filled g n out in (
-      ap badDirection e ∙ numbers-small ras decs (length out) f,
-      λ (i : ℕ) (l : i < length ras). ap (λ (t : List Float). notUnit (triple t i)) e ∙ ap notUnit (triple-is ras decs (length out) f i l) ∙ position ras decs (length out) f i l .1,
-    )
+    let e : take n (unlessRefused (catalogueRefusal ras decs (length out)) (filled n g out) out) ≡ tab n g = ap (λ (k : ℕ). take n (unlessRefused k (filled n g out) out)) h ∙ take-filled g n out in
+    ap directionRefusal e ∙ numbers-accepted ras decs (length out) (catalogue-facts ras decs (length out) h)
+
+pub catalogue-accepted : CatalogueAccepted
+catalogue-accepted = record { position = position-accepted; positions = positions-accepted }

@@ -1,10 +1,11 @@
 -- Document 02's request One: the vectors of catalogue positions, right ascension (RA) and declination (Dec) in degrees, by the steps of `radec_to_unit`.
 -- Definitions only. Assumes nothing.
-use mathlib.Core.Bool.{Bool, not, _||_, _&&_}
+use mathlib.Core.Path.{_≡_}
+use mathlib.Core.Bool.{Bool, false, not, _||_, _&&_}
 use mathlib.Core.List.{List, [], _∷_}
 use Prim.Native.Nat.{ℕ, _*_, _/_, _%_}
 use lib.Dec.{eqb, ltb}
-use lib.ListN.{length, getD}
+use lib.ListN.{length, getD, take}
 use lib.Ieee.{Float, nan, binary64, neg, le, ofBits}
 use Rattle.buffers.specs.Ranges.{any}
 use Rattle.buffers.specs.Lent.{filled}
@@ -12,6 +13,7 @@ use Rattle.buffers.specs.Refusal.{first, Reply, reply, unlessRefused}
 use Rattle.float.specs.Arithmetic.{_⊗_, zero·0, fullTurn}
 use Rattle.float.specs.Trigonometry.{sineOf, cosineOf, toRadians}
 use Rattle.solar_roll.specs.Vectors.{Vector, vector}
+use Rattle.solar_roll.specs.Cell.{directionRefusal}
 
 -- 90
 abbrev pub ninety : Float
@@ -58,3 +60,10 @@ catalogueReply ras decs room = reply (catalogueRefusal ras decs room) 0
 -- what it leaves in the lent list
 unfoldable pub catalogueAfter : List Float → List Float → List Float → List Float
 catalogueAfter ras decs out = unlessRefused (catalogueRefusal ras decs (length out)) (filled (3 * length ras) (catalogueNumber ras decs) out) out
+
+-- "Vectors so made feed every call unchanged" (One): degrees that 16 accepts give a direction that neither 5 nor 20 refuses, and so does the list
+-- that an accepted call leaves, lent as targets (`catalogue-accepted`, proofs/Directions)
+pub record CatalogueAccepted : Type 0 where
+  pub position : (ra dec : Float) → badRa ra ≡ false → badDec dec ≡ false → directionRefusal (radecToUnit ra dec) ≡ 0
+  pub positions : (ras decs out : List Float) → catalogueRefusal ras decs (length out) ≡ 0
+      → directionRefusal (take (3 * length ras) (catalogueAfter ras decs out)) ≡ 0

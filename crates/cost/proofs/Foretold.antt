@@ -9,7 +9,7 @@ use native.Mathlib.Nat.{mul-comm, one-mul, mul-le-mul-right, mod-lt, div-lt-iff-
 use native.Mathlib.Omega.{arith}
 use lib.Dec.{lit<}
 use lib.ListN.{length}
-use lib.Ieee.{Float, neg, le, lt, ofBits}
+use lib.Ieee.{Float, neg, add, sub, mul, le, lt, ofBits}
 use borrow.Author.Tests.{eq-eqb}
 use Rattle.buffers.specs.Ranges.{sum, any}
 use Rattle.buffers.specs.Refusal.{first, carried}
@@ -19,12 +19,12 @@ use Rattle.buffers.proofs.Rows.{some-time}
 use Rattle.buffers.proofs.Lent.{take-over}
 use Rattle.float.specs.Arithmetic.{zero·0, one, absOf}
 use Rattle.float.proofs.Order.{not-above, below-zero}
-use Rattle.solar_roll.specs.Vectors.{vector}
+use Rattle.solar_roll.specs.Vectors.{vector, dot3}
 use Rattle.solar_roll.specs.Roll.{circularDiffDeg}
-use Rattle.solar_roll.specs.Cell.{violates, inForce, tooLarge, LIMIT, badPosition, badDirection, directionRefusal, numbersRefusal}
+use Rattle.solar_roll.specs.Cell.{violates, inForce, tooLarge, LIMIT, badPosition, badDirection, notUnit, directionRefusal, numbersRefusal}
 use Rattle.solar_roll.specs.Plan.{Plan, rowsOf, timesOf, rowDirection, rowPanel, rowConfig, sunAt, cellOf, violatesAt, unlikeLengths, tooMany, sizesRefusal, samplesRefusal, planRefusal}
 use Rattle.solar_roll.specs.declared.cell.CellRoll.the-variants.{At}
-use Rattle.solar_roll.proofs.PlanFacts.{Few, not-too-many, nothing-said}
+use Rattle.solar_roll.proofs.PlanFacts.{Few, not-too-many, all-unit, nothing-said}
 use Rattle.solar_roll.proofs.Examples as roll-examples
 use Rattle.roll_sweep.specs.Sweep.{Sweep, cells, tried, cellProbes, sweepProbes}
 use Rattle.roll_sweep.specs.Rolls.{evenRoll, evenRolls}
@@ -64,6 +64,10 @@ cost-bounds p n h =
 x-small : any (tooLarge one) (vector one zero·0 zero·0) ≡ false
 unfolding any tooLarge absOf le ofBits
 x-small = refl
+
+x-unit : notUnit (vector one zero·0 zero·0) ≡ false
+unfolding notUnit dot3 absOf add sub mul le ofBits
+x-unit = refl
 
 y-small : any (tooLarge LIMIT) (vector zero·0 one zero·0) ≡ false
 unfolding any tooLarge absOf le ofBits
@@ -154,6 +158,7 @@ module _ (targets times : ℕ) (tolerance : Float) where
   unfolding planOfSize numbersRefusal directionRefusal badPosition badDirection first carried
   numbers-pass = simp (
     any-repeated (tooLarge one) (3 * targets) _ (lit< tt) x-small,
+    all-unit targets _ (length-repeated (3 * targets) _) (λ i h. ap notUnit (triple-repeated targets _ _ _ i h) ∙ x-unit),
     any-repeated (tooLarge LIMIT) (3 * times) _ (lit< tt) y-small,
     any-repeated (tooLarge LIMIT) (3 * times) _ (lit< tt) origin-small,
     any-repeated (tooLarge LIMIT) 3 _ (lit< tt) y-small,

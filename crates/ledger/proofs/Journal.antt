@@ -6,7 +6,7 @@ use lib.Count.{ones}
 use lib.IntN.{pos}
 use lib.ListN.{take, replicate}
 use lib.Ieee.{binary64, ofBits, toBits, ofInt, add, sub, mul, div, rem, neg, lt, le, eq}
-use Rattle.buffers.specs.Ranges.{any}
+use Rattle.buffers.specs.Ranges.{any, anyBelow}
 use Rattle.buffers.specs.Refusal.{first, carried, refused, accepted}
 use Rattle.float.specs.Root.{sqrtOf}
 use Rattle.float.specs.Arithmetic.{zero·0, absOf, remEuclid, toDegrees, signBitOf, finite}
@@ -14,7 +14,7 @@ use Rattle.float.specs.Series.{coefficient, horner}
 use Rattle.float.specs.Arctangent.{halved, seriesAngle, ratio, quadrantAngle, turnedAngle, arctangent}
 use Rattle.solar_roll.specs.Vectors.{Vector, vector, dot3, norm3, cross3, over3, normalize3, unwrapOr}
 use Rattle.solar_roll.specs.Roll.{xHat, yHat, zHat, sunUnit, sunAlongBoresight, panelIsFree, panelAngle, rollIsUnconstrained, perpendicular, poleFallback, north, yAxis, bodyAxes, foldedRoll, rollBetween, rollDegIn, solarOptimalRollDeg, circularDiffDeg}
-use Rattle.solar_roll.specs.Cell.{optimalRoll, violates, inForce, badPosition, badDirection, tooLarge, directionRefusal, numbersRefusal}
+use Rattle.solar_roll.specs.Cell.{optimalRoll, violates, inForce, badPosition, badDirection, tooLarge, notUnit, anyNotUnit, directionRefusal, numbersRefusal}
 use Rattle.solar_roll.specs.Plan.{Plan, planOf, planRefusal, sizesRefusal, samplesRefusal, unlikeLengths, tooMany, triple, rowDirection, rowPanel, rowConfig, sunAt, cellOf, violatesAt, headTolerance, headPanel}
 use Rattle.solar_roll.specs.declared.cell.ConfiguredRoll.the-variants.{None}
 use Rattle.journal.specs.Hex.{hexText}
@@ -67,5 +67,5 @@ pub example-trace : trace (evenSweep plan 1) (begin room ∷ work 0 room ∷ cut
     ∷ record { reply = refused 10; bytes = header ++ line }
     ∷ record { reply = accepted (gathered (0 ∷ 1 ∷ []) 2); bytes = header ++ line }
     ∷ []
-unfolding trace hexText ones headerOf headTolerance headPanel toBits planRefusal samplesRefusal unlikeLengths tooMany first carried any badPosition badDirection tooLarge directionRefusal numbersRefusal sizesRefusal sweepOf evenRolls evenRoll triple rowDirection rowPanel rowConfig sunAt cellOf violatesAt violates inForce circularDiffDeg remEuclid absOf add sub mul div rem neg lt le eq ofInt ofBits sqrtOf sunUnit optimalRoll rollIsUnconstrained sunAlongBoresight panelIsFree panelAngle solarOptimalRollDeg rollDegIn rollBetween foldedRoll bodyAxes yAxis north perpendicular poleFallback unwrapOr normalize3 over3 cross3 norm3 dot3 toDegrees arctangent quadrantAngle ratio turnedAngle seriesAngle horner halved coefficient signBitOf finite
+unfolding trace hexText ones headerOf headTolerance headPanel toBits planRefusal samplesRefusal unlikeLengths tooMany first carried any anyBelow badPosition badDirection tooLarge notUnit anyNotUnit directionRefusal numbersRefusal sizesRefusal sweepOf evenRolls evenRoll triple rowDirection rowPanel rowConfig sunAt cellOf violatesAt violates inForce circularDiffDeg remEuclid absOf add sub mul div rem neg lt le eq ofInt ofBits sqrtOf sunUnit optimalRoll rollIsUnconstrained sunAlongBoresight panelIsFree panelAngle solarOptimalRollDeg rollDegIn rollBetween foldedRoll bodyAxes yAxis north perpendicular poleFallback unwrapOr normalize3 over3 cross3 norm3 dot3 toDegrees arctangent quadrantAngle ratio turnedAngle seriesAngle horner halved coefficient signBitOf finite
 example-trace = refl

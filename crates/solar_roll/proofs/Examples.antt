@@ -1,15 +1,19 @@
--- Document 02's request Three by computation: folds at and beside the ends of a turn, document 01's
--- cells, and cells whose roll is folded. Assumes nothing.
+-- By computation. Document 02's request Three: folds at and beside the ends of a turn, document 01's cells, and cells whose roll is folded. Request
+-- Seven: squared lengths at and beside the ends of the band, and what directions are refused by. Assumes nothing.
 use mathlib.Core.Path.{_≡_, refl}
+use mathlib.Core.Bool.{true, false}
+use mathlib.Core.List.{List, [], _∷_, _++_}
 use Prim.Native.Nat.{ℕ}
-use lib.Ieee.{Float, binary64, ofBits, neg, add, sub, mul, div, rem, lt, le, eq, ofInt}
+use lib.Ieee.{Float, nan, binary64, ofBits, neg, add, sub, mul, div, rem, lt, le, eq, ofInt}
 use Rattle.float.specs.Root.{sqrtOf}
-use Rattle.float.specs.Arithmetic.{absOf, remEuclid, toDegrees, signBitOf, finite}
+use Rattle.buffers.specs.Ranges.{any, anyBelow}
+use Rattle.buffers.specs.Refusal.{first, carried}
+use Rattle.float.specs.Arithmetic.{_⊖_, one, absOf, remEuclid, toDegrees, signBitOf, finite}
 use Rattle.float.specs.Series.{coefficient, horner}
 use Rattle.float.specs.Arctangent.{arctangent, quadrantAngle, ratio, turnedAngle, seriesAngle, halved}
-use Rattle.solar_roll.specs.Vectors.{Vector, vector, dot3, norm3, cross3, over3, normalize3, unwrapOr}
+use Rattle.solar_roll.specs.Vectors.{Vector, vector, dot3, norm3, cross3, over3, normalize3, unwrapOr, triple}
 use Rattle.solar_roll.specs.Roll.{xHat, sunUnit, sunAlongBoresight, panelIsFree, rollIsUnconstrained, perpendicular, poleFallback, north, yAxis, panelAngle, foldedRoll, rollBetween, solarOptimalRollDeg}
-use Rattle.solar_roll.specs.Cell.{optimalRoll}
+use Rattle.solar_roll.specs.Cell.{optimalRoll, tooLarge, badPosition, badDirection, UNIT_TOLERANCE, notUnit, anyNotUnit, directionRefusal, numbersRefusal}
 use Rattle.solar_roll.specs.declared.cell.CellRoll.the-variants.{At}
 
 -- the number of a bit pattern
@@ -54,3 +58,49 @@ pub cells :
     cell (vector (f64 0) (f64 0x3ff0_0000_0000_0000) (f64 0xbc9c_d2b2_97d8_89bc)) (vector (f64 0) (f64 0x3ff0_0000_0000_0000) (f64 0)) (f64 0)
 unfolding optimalRoll rollIsUnconstrained sunAlongBoresight panelIsFree sunUnit solarOptimalRollDeg rollBetween foldedRoll panelAngle yAxis north perpendicular poleFallback unwrapOr normalize3 over3 cross3 norm3 dot3 remEuclid toDegrees absOf sqrtOf arctangent quadrantAngle ratio turnedAngle seriesAngle horner halved coefficient signBitOf finite add sub mul div rem neg lt le eq ofInt ofBits
 cells = (refl, refl, refl, refl, refl, refl, refl)
+
+-- ---- directions
+
+-- the squared lengths at both ends of the band, and the floats beyond them
+pub band :
+    (le (absOf (f64 0x3fef_ffff_ff76_8fa1 ⊖ one)) UNIT_TOLERANCE ≡ true) ×
+    (le (absOf (f64 0x3fef_ffff_ff76_8fa0 ⊖ one)) UNIT_TOLERANCE ≡ false) ×
+    (le (absOf (f64 0x3ff0_0000_0044_b82f ⊖ one)) UNIT_TOLERANCE ≡ true) ×
+    (le (absOf (f64 0x3ff0_0000_0044_b830 ⊖ one)) UNIT_TOLERANCE ≡ false)
+unfolding absOf sub le ofBits
+band = (refl, refl, refl, refl)
+
+-- a direction by the bits of its components
+abbrev bits : ℕ → ℕ → ℕ → Vector
+bits a b c = vector (f64 a) (f64 b) (f64 c)
+
+-- [1, 0, 0], and half of it
+abbrev whole : Vector
+whole = bits 0x3ff0_0000_0000_0000 0 0
+
+abbrev half : Vector
+half = bits 0x3fe0_0000_0000_0000 0 0
+
+pub directions :
+    (directionRefusal whole ≡ 0) ×
+    (directionRefusal half ≡ 20) ×
+    -- [1, 1, 0], [0, 0, 0] and [2, 0, 0]
+    (directionRefusal (bits 0x3ff0_0000_0000_0000 0x3ff0_0000_0000_0000 0) ≡ 20) ×
+    (directionRefusal (bits 0 0 0) ≡ 20) ×
+    (directionRefusal (bits 0x4000_0000_0000_0000 0 0) ≡ 5) ×
+    -- the last y beside 1 that is accepted, and the next
+    (directionRefusal (bits 0x3ff0_0000_0000_0000 0x3f00_9456_50ac_edf9 0) ≡ 0) ×
+    (directionRefusal (bits 0x3ff0_0000_0000_0000 0x3f00_9456_50ac_edfa 0) ≡ 20) ×
+    -- the first x alone that is accepted, and the one before
+    (directionRefusal (bits 0x3fef_ffff_ffbb_47d1 0 0) ≡ 0) ×
+    (directionRefusal (bits 0x3fef_ffff_ffbb_47d0 0 0) ≡ 20) ×
+    -- summed from the right it would be 20
+    (directionRefusal (bits 0x3fd8_b064_c87a_740b 0xbfed_58c3_fbb2_f6f8 0x3fb9_c6c7_cf2f_4894) ≡ 0) ×
+    -- of lists: none; the second is no unit vector; 5 of the second before 20 of the first
+    (directionRefusal [] ≡ 0) ×
+    (directionRefusal (whole ++ half) ≡ 20) ×
+    (directionRefusal (half ++ bits 0x4000_0000_0000_0000 0 0) ≡ 5) ×
+    -- before the panel
+    (numbersRefusal half [] [] (nan ∷ []) ≡ 20)
+unfolding numbersRefusal directionRefusal first carried any anyBelow badPosition badDirection tooLarge anyNotUnit notUnit triple dot3 absOf add sub mul le ofBits
+directions = (refl, refl, refl, refl, refl, refl, refl, refl, refl, refl, refl, refl, refl, refl)

@@ -1,5 +1,5 @@
 -- What is known of a size and of a plan that is not refused, and how large the number of one that is can be. Assumes nothing.
-use mathlib.Core.Path.{_≡_}
+use mathlib.Core.Path.{_≡_, _∙_}
 use mathlib.Core.Bool.{Bool, false, not, _||_}
 use mathlib.Core.List.{List}
 use Prim.Native.Nat.{ℕ, _*_, _/_, _%_, _≤_, _<_}
@@ -7,11 +7,13 @@ use native.Mathlib.Omega.{arith}
 use lib.Dec.{eqb, ltb, lit<}
 use lib.Ieee.{Float}
 use lib.ListN.{length}
+use Rattle.buffers.proofs.Ranges.{any-none}
 use borrow.Author.Tests.{not-false, eqb-true, ltb-false, le-ltb}
 use Rattle.buffers.specs.Refusal.{carried}
-use Rattle.buffers.proofs.Refusal.{first-clear, carried-clear, given-below}
+use Rattle.buffers.proofs.Refusal.{first-none, first-skip, first-clear, carried-clear, given-below}
 use Rattle.buffers.proofs.Tests.{or-left, or-right}
-use Rattle.solar_roll.specs.Cell.{badPosition, badDirection, directionRefusal, numbersRefusal}
+use Rattle.solar_roll.specs.Vectors.{triple}
+use Rattle.solar_roll.specs.Cell.{badPosition, badDirection, notUnit, anyNotUnit, directionRefusal, numbersRefusal}
 use Rattle.solar_roll.specs.Plan.{Plan, rowsOf, timesOf, unlikeLengths, mostRows, mostTimes, mostCells, tooMany, sizesRefusal, planRefusal, PlanFacts}
 
 -- ---- not too many rows, times and cells
@@ -63,12 +65,13 @@ sizes targets suns observers beyond h =
       few-of = few _ _ (c2 .0);
     }
 
--- ---- the numbers: none is too large
+-- ---- the numbers: none is too large, and each target is a unit vector
 
 pub record Numbers (targets suns observers panels : List Float) : Type 0 where
   pub suns-small : badPosition suns ≡ false
   pub observers-small : badPosition observers ≡ false
   pub targets-small : badDirection targets ≡ false
+  pub targets-unit : anyNotUnit targets ≡ false
   pub panels-small : badPosition panels ≡ false
 
 pub numbers : (targets suns observers panels : List Float) → numbersRefusal targets suns observers panels ≡ 0 → Numbers targets suns observers panels
@@ -77,18 +80,31 @@ numbers targets suns observers panels h =
     let c1 = first-clear _ _ _ (lit< tt) h in
     let c2 = carried-clear _ _ (c1 .1) in
     let c3 = first-clear _ _ _ (lit< tt) (c2 .1) in
+    let d1 = first-clear _ _ _ (lit< tt) (c2 .0) in
     record {
       suns-small = or-left (badPosition suns) (badPosition observers) (c1 .0);
       observers-small = or-right (badPosition suns) (badPosition observers) (c1 .0);
-      targets-small = first-clear _ _ _ (lit< tt) (c2 .0) .0;
+      targets-small = d1 .0;
+      targets-unit = first-clear _ _ _ (lit< tt) (d1 .1) .0;
       panels-small = c3 .0;
     }
+
+-- ---- directions that neither 5 nor 20 refuses
+
+-- a flat list of n triples, each a unit vector
+pub all-unit : (n : ℕ) (targets : List Float) → length targets ≡ 3 * n → ((i : ℕ) → i < n → notUnit (triple targets i) ≡ false) → anyNotUnit targets ≡ false
+unfolding anyNotUnit
+all-unit n targets l h = any-none (length targets / 3) _ (λ i k. h i (omega arith))
+
+pub direction-passes : (targets : List Float) → badDirection targets ≡ false → anyNotUnit targets ≡ false → directionRefusal targets ≡ 0
+unfolding directionRefusal
+direction-passes targets small unit = first-skip _ _ _ small ∙ first-skip _ _ _ unit ∙ first-none
 
 -- ---- every number that a plan is refused by is below 64, where the one said in the place of 3 is
 
 direction-below : (targets : List Float) → directionRefusal targets < 64
 unfolding directionRefusal
-direction-below targets = given-below 64 _ (lit< tt) (lit< tt, tt)
+direction-below targets = given-below 64 _ (lit< tt) (lit< tt, (lit< tt, tt))
 
 pub numbers-below : (targets suns observers panels : List Float) → numbersRefusal targets suns observers panels < 64
 unfolding numbersRefusal carried
@@ -124,6 +140,7 @@ plan-facts p said beyond h =
       suns-small = n .suns-small;
       observers-small = n .observers-small;
       targets-small = n .targets-small;
+      targets-unit = n .targets-unit;
       panels-small = n .panels-small;
     }
 

@@ -3,10 +3,10 @@ use mathlib.Core.Bool.{Bool, false, cond, not, _||_}
 use mathlib.Core.List.{List, [], _∷_}
 use Prim.Native.Nat.{ℕ}
 use lib.Ieee.{Float, binary64, lt, le, ofBits}
-use Rattle.buffers.specs.Ranges.{any}
+use Rattle.buffers.specs.Ranges.{any, anyBelow}
 use Rattle.buffers.specs.Refusal.{first, carried, Reply, refused, accepted}
 use Rattle.float.specs.Arithmetic.{_⊖_, one, absOf}
-use Rattle.solar_roll.specs.Vectors.{Vector, dot3}
+use Rattle.solar_roll.specs.Vectors.{Vector, dot3, count, triple}
 use Rattle.solar_roll.specs.Roll.{Axes, axis, sunAlongBoresight, rollIsUnconstrained, rollDegIn, solarOptimalRollDeg, circularDiffDeg}
 use Rattle.solar_roll.specs.declared.roll.Panel.{Panel}
 use Rattle.solar_roll.specs.declared.cell.CellRoll.{CellRoll}
@@ -68,16 +68,23 @@ squaredLength v = dot3 v v
 abbrev pub UNIT_TOLERANCE : Float
 UNIT_TOLERANCE = ofBits binary64 0x3e11_2e0b_e826_d695
 
--- the squared length is not within 1e-9 of 1: so for NaN. No call refuses by it; it is false of what catalogue positions give (catalogue: Directions)
+-- the squared length is not within 1e-9 of 1: so for NaN
 unfoldable pub notUnit : Vector → Bool
 notUnit v = not (le (absOf (squaredLength v ⊖ one)) UNIT_TOLERANCE)
 
--- what is refused of directions, a flat list of triples or one triple; 0 for none
-unfoldable pub directionRefusal : List Float → ℕ
-directionRefusal targets = first ((badDirection targets, 5) ∷ [])
+-- 20: a triple of a flat list is not a unit vector
+unfoldable pub anyNotUnit : List Float → Bool
+anyNotUnit targets = anyBelow (count targets) (λ i. notUnit (triple targets i))
 
--- *One cell*, four triples, and a plan's lists, which are flat lists of triples: 4 of the Sun and the observer, 5 of the target, 6 of the panel; 0
--- for none
+-- what is refused of directions, a flat list of triples or one triple: 5 of any before 20 of any; 0 for none
+unfoldable pub directionRefusal : List Float → ℕ
+directionRefusal targets =
+    first ((badDirection targets, 5)
+    ∷ (anyNotUnit targets, 20)
+    ∷ [])
+
+-- *One cell*, four triples, and a plan's lists, which are flat lists of triples: 4 of the Sun and the observer, 5 and 20 of the target, 6 of the
+-- panel; 0 for none
 unfoldable pub numbersRefusal : List Float → List Float → List Float → List Float → ℕ
 numbersRefusal targets suns observers panels =
     first ((badPosition suns || badPosition observers, 4)

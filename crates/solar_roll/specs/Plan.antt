@@ -11,9 +11,10 @@ use lib.ListN.{length, getD}
 use lib.Ieee.{Float, nan}
 use Rattle.buffers.specs.Refusal.{first, carried}
 use Rattle.float.specs.Arithmetic.{zero·0}
-use Rattle.solar_roll.specs.Vectors.{Vector, vector}
+use Rattle.solar_roll.specs.Vectors.{Vector}
+unfoldable pub use Rattle.solar_roll.specs.Vectors.{count, triple}
 use Rattle.solar_roll.specs.Roll.{sunUnit, solarOptimalRollDeg}
-use Rattle.solar_roll.specs.Cell.{optimalRoll, violates, inForce, badPosition, badDirection, numbersRefusal}
+use Rattle.solar_roll.specs.Cell.{optimalRoll, violates, inForce, badPosition, badDirection, anyNotUnit, numbersRefusal}
 use Rattle.solar_roll.specs.declared.cell.CellRoll.{CellRoll}
 use Rattle.solar_roll.specs.declared.cell.ConfiguredRoll.{ConfiguredRoll}
 use Rattle.solar_roll.specs.declared.cell.EvaluationRoll.the-variants.{Sweep}
@@ -33,14 +34,6 @@ pub record Plan : Type 0 where
 abbrev pub planOf : List Float → List Float → List Float → List Float → ConfiguredRoll → List Float → Plan
 planOf targets suns observers tolerances configured panels =
     record { targets = targets; suns = suns; observers = observers; tolerances = tolerances; configured = configured; panels = panels }
-
--- how many triples a flat list holds
-abbrev pub count : List Float → ℕ
-count xs = length xs / 3
-
--- the i-th triple of a flat list, NaN past the end
-unfoldable pub triple : List Float → ℕ → Vector
-triple xs i = vector (getD xs (3 * i) nan) (getD xs (3 * i + 1) nan) (getD xs (3 * i + 2) nan)
 
 -- ---- rows, times and cells: cell number = row · times + time
 
@@ -161,4 +154,5 @@ pub record PlanFacts (p : Plan) : Type 0 where
   pub suns-small : badPosition (p .suns) ≡ false
   pub observers-small : badPosition (p .observers) ≡ false
   pub targets-small : badDirection (p .targets) ≡ false
+  pub targets-unit : anyNotUnit (p .targets) ≡ false
   pub panels-small : badPosition (p .panels) ≡ false

@@ -1,8 +1,9 @@
 -- Vectors of three f64, as `[f64; 3]` holds them: the list of their components. The operations of solar_roll.rs, each step rounded once, in its
--- order. Definitions only. Assumes nothing.
+-- order; and flat lists of triples. Definitions only. Assumes nothing.
 use mathlib.Core.Bool.{true, false, cond}
 use mathlib.Core.List.{List, [], _∷_}
-use lib.ListN.{getD}
+use Prim.Native.Nat.{ℕ, _+_, _*_, _/_}
+use lib.ListN.{length, getD}
 use lib.Ieee.{Float, nan, binary64, le, ofBits}
 use Rattle.float.specs.Root.{sqrtOf}
 use Rattle.float.specs.Arithmetic.{_⊕_, _⊖_, _⊗_, _⊘_, zero·0}
@@ -56,3 +57,13 @@ normalize3 v =
 -- what was normalized, or the other vector where there is nothing
 unfoldable pub unwrapOr : Normalized → Vector → Vector
 unwrapOr v other = cond (v .found) (v .vector) other
+
+-- ---- flat lists of triples: x, y and z of each vector, one after the other
+
+-- how many triples a flat list holds
+abbrev pub count : List Float → ℕ
+count xs = length xs / 3
+
+-- the i-th triple of a flat list, NaN past the end
+unfoldable pub triple : List Float → ℕ → Vector
+triple xs i = vector (getD xs (3 * i) nan) (getD xs (3 * i + 1) nan) (getD xs (3 * i + 2) nan)

@@ -1,4 +1,5 @@
 // One cell: a target at a time.
+use crate::plan::triple;
 use crate::roll::Panel;
 use crate::roll::circular_diff_deg;
 use crate::roll::roll_deg_in;
@@ -8,16 +9,20 @@ use crate::roll::sun_along_boresight;
 use crate::roll::sun_unit;
 use float::abs;
 ghost use mathlib.Core.Path.{_≡_};
+ghost use mathlib.Core.Bool.{not};
 ghost use Rattle.buffers.specs.Ranges.{any};
 ghost use Rattle.buffers.specs.Refusal.{reply};
 ghost use lib.Ieee.{Float};
 ghost use Rattle.solar_roll.specs.Roll.{sunUnit, InTurn};
 ghost use Rattle.solar_roll.specs.Cell.{optimalRoll, freeOrAt, rollIn, cellReply, violates, inForce};
 ghost use Rattle.solar_roll.specs.declared.cell.CellRoll.the-variants.{At};
-ghost use Rattle.solar_roll.specs.Cell.{tooLarge, badPosition, badDirection, directionRefusal, numbersRefusal};
+ghost use Rattle.solar_roll.specs.Cell.{tooLarge, badPosition, badDirection, notUnit, anyNotUnit, directionRefusal, numbersRefusal};
 
 // The largest size of a position's or a panel's number.
 const LIMIT: f64 = 1.0e100;
+
+// How far a direction's squared length may be from 1.
+const UNIT_TOLERANCE: f64 = 1.0e-9;
 
 // A roll that may be configured: the Rust's Option<f64>.
 pub enum ConfiguredRoll {
@@ -123,11 +128,38 @@ fn bad_direction(xs: &[f64]) -> bool
     any_too_large(xs, 1.0)
 }
 
-// 5 of directions, a flat list of triples; 0 for none.
+// Whether the squared length of v is within 1e-9 of 1.
+fn is_unit(v: [f64; 3]) -> bool
+    ensures { λ r. ⌜ not r ≡ notUnit v ⌝ }
+{
+    let squared_length = v[0] * v[0] + v[1] * v[1] + v[2] * v[2];
+    abs(squared_length - 1.0) <= UNIT_TOLERANCE
+}
+
+// Whether each triple of a flat list is a unit vector.
+fn all_unit(targets: &[f64]) -> bool
+    ensures { λ r. ⌜ not r ≡ anyNotUnit (now (targets .entry)) ⌝ }
+{
+    let count = targets.len() / 3;
+    let mut i = 0;
+    while i < count {
+        if is_unit(triple(targets, i)) {
+            i += 1;
+        } else {
+            return false;
+        }
+    }
+    true
+}
+
+// 5 and 20 of directions, a flat list of triples; 0 for none. 5 is tried of them all before 20 of any.
 fn directions_refusal(targets: &[f64]) -> u64
     ensures { λ r. ⌜ r ≡ directionRefusal (now (targets .entry)) ⌝ }
 {
-    if bad_direction(targets) { 5 } else { 0 }
+    if bad_direction(targets) {
+        return 5;
+    }
+    if all_unit(targets) { 0 } else { 20 }
 }
 
 // The number of the refusal of one direction, 0 for none.
@@ -137,7 +169,7 @@ pub fn direction_refusal(target: [f64; 3]) -> u64
     directions_refusal(&target)
 }
 
-// 4, 5 and 6, of flat lists of triples; 0 for none.
+// 4, 5, 20 and 6, of flat lists of triples; 0 for none.
 pub(crate) fn numbers_refusal(
     targets: &[f64],
     suns: &[f64],

@@ -1,0 +1,68 @@
+-- `all_unit`: before triple i, each before it is a unit vector. Assumes nothing.
+use Prim.Native.Nat.{_-_, _≤_}
+use mathlib.Core.Path.{_≡_, refl, sym, ap, _∙_}
+use mathlib.Core.Bool.{false, not}
+use native.Mathlib.Omega.{arith}
+use borrow.Author.Needs.{needs}
+use Rattle.buffers.specs.Ranges.{anyBelow}
+use Rattle.buffers.proofs.Ranges.{any-zero, any-step, any-found, any-none, any-clear}
+use Rattle.buffers.proofs.Tests.{or-none}
+use Rattle.solar_roll.specs.Vectors.{count as countOf, triple}
+use Rattle.solar_roll.specs.Cell.{notUnit, anyNotUnit}
+use Rattle.solar_roll.proofs.cell.all_unit.Statement.{statement}
+use Rattle.solar_roll.proofs.cell.all_unit.Tie as tie
+
+abbrev Inv-loop : tie.InvT-loop
+Inv-loop targets count i₀ i = (count ≡ countOf targets) × (i ≤ count) × (anyBelow i (λ j. notUnit (triple targets j)) ≡ false)
+
+abbrev μ-loop : tie.MeasureT-loop
+μ-loop targets count i₀ i = count - i
+
+loop-holds : tie.Need-loop-holds Inv-loop μ-loop
+loop-holds c = (refl, omega arith, any-zero _)
+
+triple-requires : tie.Need-triple-requires Inv-loop μ-loop
+triple-requires c κs = search needs
+
+is-unit-requires : tie.Need-is-unit-requires Inv-loop μ-loop
+is-unit-requires c κs = search needs
+
+add-i : tie.Need-add-i Inv-loop μ-loop
+add-i c = search needs
+
+loop-less : tie.Need-loop-less Inv-loop μ-loop
+loop-less c = search needs
+
+loop-again : tie.Need-loop-again Inv-loop μ-loop
+loop-again c =
+    let at = c .before .before .before .before .loop in
+    let unit = ap notUnit (sym (c .before .before .triple .ensures)) ∙ sym (c .before .is-unit .ensures) ∙ ap not (c .if1 .taken) in
+    (at .inv .0, omega (arith, c .before .before .before .loop-test .taken), any-step (at .i) _ ∙ or-none _ _ (at .inv .2) unit)
+
+returns : tie.Need-returns Inv-loop μ-loop
+unfolding anyNotUnit
+returns c =
+    let at = c .before .before .before .before .loop in
+    let other = ap notUnit (sym (c .before .before .triple .ensures)) ∙ sym (c .before .is-unit .ensures) ∙ ap not (c .if1 .left) in
+    sym (any-found _ _ (at .i) (omega (arith, at .inv .0, c .before .before .before .loop-test .taken)) other)
+
+returns-2 : tie.Need-returns-2 Inv-loop μ-loop
+unfolding anyNotUnit
+returns-2 c =
+    let at = c .before .loop in
+    sym (any-none _ _ (λ k h. any-clear (at .i) _ (at .inv .2) k (omega (arith, h, at .inv .0, c .loop-test .left))))
+
+pub all-unit-spec : {M : Type 1} → statement M
+all-unit-spec =
+    tie.close
+    (tie.spec
+    Inv-loop
+    μ-loop
+    loop-holds
+    triple-requires
+    is-unit-requires
+    add-i
+    loop-less
+    loop-again
+    returns
+    returns-2)
