@@ -156,7 +156,6 @@ fn main() {
     replay_file(b"section-3", &mut counts);
     replay_file(b"section-5", &mut counts);
     replay_file(b"section-6", &mut counts);
-    replay_file(b"any-targets", &mut counts);
     replay_file(b"catalogue", &mut counts);
     replay_file(b"table", &mut counts);
     show_rolls(&counts);

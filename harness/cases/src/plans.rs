@@ -1,9 +1,9 @@
-//! Plans: poles, zero vectors, the Sun on the boresight and close to it, the Sun at the observer, signed zeros, panels without y-z part,
+//! Plans: poles, the Sun on the boresight and close to it, lengths at the ends of what 20 leaves, the Sun at the observer, signed zeros, panels without y-z part,
 //! tolerances at exact distances, NaN and infinite tolerances and rolls; plans whose rolls are at whole, half, quarter and eighth turns; and tables
 //! of rolls: even steps, close ones, neighbouring floats, of every size, from either zero to the number below 360.
 use crate::catalogue::beside;
 use crate::Seeded;
-use model::plan::{is_unit, Rolls};
+use model::plan::{is_unit, squared_length, Rolls};
 use model::roll::{difference, optimal_roll, sun_unit};
 use model::{arithmetic::remainder, Plan};
 use std::collections::BTreeSet;
@@ -32,10 +32,12 @@ pub const FOLDED: [(f64, f64); 16] = [
     (-1_048_576.0, 104.0),
 ];
 
-/// Whether all targets have length 1, as `is_unit` has it.
+/// What a plan's targets are.
 #[derive(Clone, Copy, PartialEq, Debug)]
 pub enum Targets {
+    /// Unit vectors, as `is_unit` has it: all that is accepted.
     Unit,
+    /// Vectors of any length too, for what is refused.
     Any,
 }
 
@@ -51,7 +53,7 @@ pub enum Entries {
 }
 
 fn length(v: Vector) -> f64 {
-    (v[0] * v[0] + v[1] * v[1] + v[2] * v[2]).sqrt()
+    squared_length(v).sqrt()
 }
 
 fn signed_zero(s: &mut Seeded) -> f64 {
@@ -86,19 +88,38 @@ fn clamped(v: Vector) -> Vector {
     v.map(|x| x.clamp(-1.0, 1.0))
 }
 
-/// A vector close to length 1, made of length 1 where all targets are. What is close enough stays as it is: such vectors meet the thresholds of
+/// A vector close to length 1, made of length 1 where 20 would refuse it. What is close enough stays as it is: such vectors meet the thresholds of
 /// 1e-12 from both sides.
-fn of_claimed_length(targets: Targets, v: Vector) -> Vector {
+fn normalized(v: Vector) -> Vector {
     let n = length(v);
-    if targets == Targets::Any || is_unit(v) {
+    if is_unit(v) {
         v
     } else {
         v.map(|x| x / n)
     }
 }
 
+/// A direction whose squared length lies anywhere in the band that 20 leaves, or within a few floats of one of its ends, on either side.
+/// Now and then it is the Sun's.
+fn near_the_band(s: &mut Seeded, sun: Vector) -> Vector {
+    let end = s.one_of(&[-5e-10, 5e-10]);
+    let by = if s.once_in(2) { end * s.unit() } else { end + s.between(-1e-15, 1e-15) };
+    let v = if s.once_in(4) { sun } else { direction(s) };
+    clamped(v.map(|x| x * (1.0 + by)))
+}
+
+/// The same within it.
+fn in_the_band(s: &mut Seeded, sun: Vector) -> Vector {
+    loop {
+        let v = near_the_band(s, sun);
+        if is_unit(v) {
+            return v;
+        }
+    }
+}
+
 fn target(s: &mut Seeded, targets: Targets, suns: &[Vector], observers: &[Vector]) -> Vector {
-    let kinds = if targets == Targets::Unit { 12 } else { 18 };
+    let kinds = if targets == Targets::Unit { 13 } else { 20 };
     let sun = match suns.len() {
         0 => [1.0, 0.0, 0.0],
         n => {
@@ -113,22 +134,24 @@ fn target(s: &mut Seeded, targets: Targets, suns: &[Vector], observers: &[Vector
         8 => {
             let size = s.one_of(&[1e-13, 1e-12, 2e-12, 1e-7]);
             let pole = [0.0, 0.0, s.one_of(&[1.0, -1.0])];
-            of_claimed_length(targets, clamped(close_to(s, pole, size)))
+            normalized(clamped(close_to(s, pole, size)))
         }
         9 => clamped(sun),
         10 => clamped(sun.map(|x| -x)),
         11 => {
             let size = s.one_of(&[1e-15, 1e-12, 3e-12, 2e-6]);
-            of_claimed_length(targets, clamped(close_to(s, sun, size)))
+            normalized(clamped(close_to(s, sun, size)))
         }
-        12 => [signed_zero(s), signed_zero(s), signed_zero(s)],
-        13 => {
+        12 => in_the_band(s, sun),
+        13 => [signed_zero(s), signed_zero(s), signed_zero(s)],
+        14 => {
             let size = s.unit();
             direction(s).map(|x| x * size)
         }
-        14 => [s.between(-1.0, 1.0), s.between(-1.0, 1.0), s.between(-1.0, 1.0)],
-        15 => [1.0, 1.0, 1.0],
-        16 => direction(s).map(|x| x * 1e-13),
+        15 => [s.between(-1.0, 1.0), s.between(-1.0, 1.0), s.between(-1.0, 1.0)],
+        16 => [1.0, 1.0, 1.0],
+        17 => direction(s).map(|x| x * 1e-13),
+        18 => near_the_band(s, sun),
         _ => [0.0, 0.0, s.one_of(&[0.5, 0.9999999999999, -0.9, 1e-200])],
     }
 }
@@ -533,14 +556,26 @@ mod tests {
         }
     }
 
+    /// Within the band; and within ten floats of either end there are many, on both sides of it where any length is drawn.
     #[test]
-    fn unit_targets_have_length_1() {
-        let mut s = Seeded::new(1);
-        for k in 0..20_000 {
-            let p = plan(&mut s, Targets::Unit, 16, k % 4);
-            for i in 0..p.rows() {
-                assert!(is_unit(p.target(i)), "plan {k}, target {i}: {:?}", p.target(i));
+    fn unit_targets_have_length_1_and_reach_the_ends_of_the_band() {
+        const ENDS: [u64; 2] = [0x3fef_ffff_ff76_8fa1, 0x3ff0_0000_0044_b82f];
+        for targets in [Targets::Unit, Targets::Any] {
+            let (mut s, mut inside, mut outside) = (Seeded::new(1), [0; 2], [0; 2]);
+            for k in 0..20_000 {
+                let p = plan(&mut s, targets, 16, k % 4);
+                for v in (0..p.rows()).map(|i| p.target(i)) {
+                    let unit = is_unit(v);
+                    assert!(unit || targets == Targets::Any, "plan {k}: {v:?}");
+                    let bits = squared_length(v).to_bits();
+                    assert_eq!(unit, (ENDS[0]..=ENDS[1]).contains(&bits), "plan {k}: {v:?}");
+                    for end in (0..2).filter(|&end| bits.abs_diff(ENDS[end]) < 10) {
+                        (if unit { &mut inside } else { &mut outside })[end] += 1;
+                    }
+                }
             }
+            assert!(inside.iter().all(|&found| found > 1000), "{targets:?}: {inside:?} inside");
+            assert!(targets == Targets::Unit || outside.iter().all(|&found| found > 300), "{targets:?}: {outside:?} outside");
         }
     }
 
@@ -557,7 +592,7 @@ mod tests {
     fn even_steps_lent_as_a_table_give_the_same_journal() {
         let mut s = Seeded::new(2);
         for k in 0..300 {
-            let mut p = plan(&mut s, Targets::Any, 3, 30);
+            let mut p = plan(&mut s, Targets::Unit, 3, 30);
             let n = samples(&mut s);
             for_sweep(&mut s, &mut p, n, Entries::Either);
             let even = Sweep::new(p.clone()).expect("accepted");
@@ -575,7 +610,7 @@ mod tests {
         let mut tables = Vec::new();
         for spread in SPREADS {
             for length in [1, 2, 3, 64, 65, 3599, 3600].repeat(if spread == Spread::Even { 1 } else { 40 }) {
-                let mut p = plan(&mut s, Targets::Any, 2, 3);
+                let mut p = plan(&mut s, Targets::Unit, 2, 3);
                 let table = table(&mut s, &p, spread, length);
                 assert_eq!(table.len(), length, "{spread:?}");
                 for_rolls(&mut s, &mut p, Rolls::Table(table.clone()), Entries::Own);
@@ -622,7 +657,7 @@ mod tests {
     fn a_third_of_the_plans_have_equal_tolerances() {
         let (mut s, mut equal) = (Seeded::new(4), 0);
         for _ in 0..3000 {
-            let mut p = plan(&mut s, Targets::Any, 3, 4);
+            let mut p = plan(&mut s, Targets::Unit, 3, 4);
             for_sweep(&mut s, &mut p, 5, Entries::Either);
             equal += p.tolerances.iter().all(|x| bits(*x) == bits(p.tolerance(0))) as u64;
         }

@@ -1,6 +1,6 @@
 //! Document 01's examples: what is asked, and the answer that it prints. Beside its own list, the bits and roots that section 1 names, and
 //! what it rules out. Apart from them what document 02's request One says of sine, cosine and catalogue positions, what request Three says of
-//! rolls, what request Four says of sizes, and what request Five says of tables, worked out by hand.
+//! rolls, what request Four says of sizes, what request Five says of tables, and what request Seven says of directions, worked out by hand.
 use crate::Calls;
 use model::arithmetic::{bits, P};
 use model::cost::{Extreme, Extreme::Cheapest, Extreme::Costliest, Size};
@@ -47,6 +47,8 @@ pub enum Asked {
     SweptOver(&'static [f64], Option<f64>),
     /// That journal over this table.
     TableJournal(&'static [f64]),
+    /// What these targets, with this panel, are refused by, 0 for accepted: as a plan's, and where there is one as a cell's.
+    Directions(&'static [[f64; 3]], [f64; 3]),
 }
 
 /// The example's journal, of n and the line: the header's fields have section 4's widths (the printed header has four zeros more).
@@ -210,6 +212,42 @@ pub const REQUEST_FIVE: [(Asked, &str); 12] = [
 /// The header's n is 2; the first cell is marked.
 const TABLE_JOURNAL: &str = journal!("00000002", "00000000000000000000000100000004");
 
+const UP: [f64; 3] = [0.0, 1.0, 0.0];
+
+pub const REQUEST_SEVEN: [(Asked, &str); 22] = [
+    (Directions(&[[1.0, 0.0, 0.0]], UP), "0"),
+    (Directions(&[[-0.0, -1.0, 0.0]], UP), "0"),
+    (Directions(&[[0.6, 0.0, 0.8]], UP), "0"),
+    (Directions(&[], UP), "0"),
+    (Directions(&[[0.5, 0.0, 0.0]], UP), "20"),
+    (Directions(&[[1.0, 1.0, 0.0]], UP), "20"),
+    (Directions(&[[0.0, 0.0, 0.0]], UP), "20"),
+    (Directions(&[[2.0, 0.0, 0.0]], UP), "5"),
+    (Directions(&[[f64::NAN, 0.0, 1.0]], UP), "5"),
+    // The component that is too large stands in the second.
+    (Directions(&[[0.5, 0.0, 0.0], [2.0, 0.0, 0.0]], UP), "5"),
+    (Directions(&[[1.0, 0.0, 0.0], [0.0, 0.5, 0.0]], UP), "20"),
+    // The last y beside 1 that is near enough to 0, and the next; the first x alone that is near enough to 1, and the one before.
+    (Directions(&[[1.0, f64::from_bits(0x3f00_9456_50ac_edf9), 0.0]], UP), "0"),
+    (Directions(&[[1.0, f64::from_bits(0x3f00_9456_50ac_edfa), 0.0]], UP), "20"),
+    (Directions(&[[f64::from_bits(0x3fef_ffff_ffbb_47d1), 0.0, 0.0]], UP), "0"),
+    (Directions(&[[f64::from_bits(0x3fef_ffff_ffbb_47d0), 0.0, 0.0]], UP), "20"),
+    // Summed from the right it would be 20.
+    (Directions(&[SUMMED_FROM_THE_LEFT], UP), "0"),
+    // 1 less half of 1e-9, which rounds to a number beyond the band; and a little nearer to 1.
+    (Directions(&[[0.9999999995, 0.0, 0.0]], UP), "20"),
+    (Directions(&[[0.99999999951, 0.0, 0.0]], UP), "0"),
+    // Six digits a number are too few.
+    (Directions(&[[0.577350, 0.577350, 0.577350]], UP), "20"),
+    (Directions(&[[0.5773502692, 0.5773502692, 0.5773502692]], UP), "0"),
+    // Before the panel, and the panel after it.
+    (Directions(&[[0.5, 0.0, 0.0]], [0.0, f64::NAN, 0.0]), "20"),
+    (Directions(&[[1.0, 0.0, 0.0]], [0.0, f64::NAN, 0.0]), "6"),
+];
+
+const SUMMED_FROM_THE_LEFT: [f64; 3] =
+    [f64::from_bits(0x3fd8_b064_c87a_740b), f64::from_bits(0xbfed_58c3_fbb2_f6f8), f64::from_bits(0x3fb9_c6c7_cf2f_4894)];
+
 /// The examples' target and panel, with a Sun a time, seen from 0; n is 1.
 pub fn plan(suns: &[[f64; 3]], tolerance_deg: f64) -> Plan {
     Plan {
@@ -315,6 +353,16 @@ pub fn answer(calls: &dyn Calls, asked: Asked) -> Answer<String> {
         Collected => swept(calls, &journal_plan())?,
         SweptOver(table, roll_deg) => swept(calls, &table_plan(table, roll_deg))?,
         TableJournal(table) => String::from_utf8(calls.swept(&table_plan(table, None), &[0])?.0).expect("text"),
+        Directions(targets, panel) => {
+            let tolerances = vec![0.0; targets.len()];
+            let p = Plan { targets: targets.concat(), tolerances, panels: panel.to_vec(), ..plan(&[[0.0, 1.0, 0.0]], 0.0) };
+            let mut numbers = vec![calls.named_values(&p, targets.len()).err().unwrap_or(0)];
+            if let &[target] = targets {
+                numbers.push(calls.cell(target, [0.0, 1.0, 0.0], [0.0; 3], panel).err().unwrap_or(0));
+            }
+            numbers.dedup();
+            numbers.iter().map(u8::to_string).collect::<Vec<_>>().join(" and ")
+        }
         Recovered(used) => calls.recover(&journal_plan(), &JOURNAL.as_bytes()[..used])?.to_string(),
         Cost(targets, times, n) => {
             let cost = calls.cost(size(targets, times, n), 3)?;
@@ -331,12 +379,13 @@ pub fn answer(calls: &dyn Calls, asked: Asked) -> Answer<String> {
     })
 }
 
-const SOURCES: [(&str, &[(Asked, &str)]); 5] = [
+const SOURCES: [(&str, &[(Asked, &str)]); 6] = [
     ("document 01", &EXAMPLES),
     ("request One", &REQUEST_ONE),
     ("request Three", &REQUEST_THREE),
     ("request Four", &REQUEST_FOUR),
     ("request Five", &REQUEST_FIVE),
+    ("request Seven", &REQUEST_SEVEN),
 ];
 
 /// Holds an implementation's answers against the printed ones: how many differ.

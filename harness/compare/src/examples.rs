@@ -1,5 +1,5 @@
-//! The examples of document 01 and of requests One, Three, Four and Five against the customer's Rust. What it does not have, root, arctangent, sine,
-//! cosine, header, recovery and cost, is the plain model's.
+//! The examples of document 01 and of requests One, Three, Four, Five and Seven against the customer's Rust. What it does not have, root, arctangent,
+//! sine, cosine, header, recovery, cost and what is refused, is the plain model's.
 use checks::examples::{
     self, extreme_plan, journal_plan, long_row, marks, plan, roll, rolls, row, table_plan, vector, windows, Asked, Asked::*,
 };
@@ -58,7 +58,7 @@ fn answer(asked: Asked) -> Answer<String> {
             Oracle::new(&p, &vec![0; p.times()]).sweep().1.iter().sum::<u64>().to_string()
         }
         Root(_) | RootBits(_) | ArctangentBits(..) | Sine(_) | SineBits(_) | Cosine(_) | CosineBits(_) | Recovered(_) | Cost(..)
-        | Written(..) => {
+        | Written(..) | Directions(..) => {
             return examples::answer(&Model, asked);
         }
     })

@@ -48,6 +48,14 @@ fn refused(calls: &dyn Calls, t: &mut Tally) {
     let theirs = as_it_is(|| Oracle::new(&p, &[0]).in_constraint_batch_at_roll(Roll::Sweep(0.0)));
     t.known("1: a target of length 2", (ours, theirs), (Err(5), vec![1]));
 
+    // The Sun dead ahead: Free, were the target of length 1; a tolerance of -1 marks what is not Free.
+    for (target, listed) in [([0.5, 0.0, 0.0], (Err(20), vec![1])), ([1.0, 0.0, 0.0], (Ok(vec![0]), vec![0]))] {
+        let p = plan(target, [1.0, 0.0, 0.0], -1.0, None);
+        let ours = calls.in_constraint_batch_at_roll(&p, Roll::Sweep(0.0), 1);
+        let theirs = as_it_is(|| Oracle::new(&p, &[0]).in_constraint_batch_at_roll(Roll::Sweep(0.0)));
+        t.known("1: a target of half length", (ours, theirs), listed);
+    }
+
     let p = Plan { rolls: Rolls::Even(0), ..plan([1.0, 0.0, 0.0], [0.0, 0.0, 1.0], 10.0, None) };
     let ours = calls.swept(&p, &[0]).map(|swept| swept.1);
     let theirs = as_it_is(|| Oracle::new(&p, &[0]).sweep().0);
@@ -71,13 +79,9 @@ fn arctangent(calls: &dyn Calls, t: &mut Tally) {
 
 /// A configured roll: the original works out right ascension and declination, and from them another vector.
 fn field_of_regard(calls: &dyn Calls, t: &mut Tally) {
-    for (what, p) in [
-        ("3: field of regard, unit target", plan([0.0, 0.6, 0.8], [1.0, 2.0, 1.0], 135.0, Some(90.0))),
-        ("3: field of regard, short target", plan([0.5, 0.5, 0.0], [0.0, 0.6, 0.8], 10.0, Some(45.0))),
-    ] {
-        for theirs in original(&patch::VECTORS, || Oracle::new(&p, &[0]).field_of_regard_violated_at_roll(0, 0.0)) {
-            t.known(what, (calls.field_of_regard_violated_at_roll(&p, 0, 0.0, 1), theirs), (Ok(vec![0]), vec![1]));
-        }
+    let p = plan([0.0, 0.6, 0.8], [1.0, 2.0, 1.0], 135.0, Some(90.0));
+    for theirs in original(&patch::VECTORS, || Oracle::new(&p, &[0]).field_of_regard_violated_at_roll(0, 0.0)) {
+        t.known("3: field of regard", (calls.field_of_regard_violated_at_roll(&p, 0, 0.0, 1), theirs), (Ok(vec![0]), vec![1]));
     }
 }
 

@@ -65,22 +65,22 @@ pub fn run(calls: &dyn Calls, t: &mut Tally, factor: u64) {
     // Plans beyond the Rust's own chunks of 65,536 cells, which one evaluator is to go through; the most targets, with a tolerance each; then
     // many small ones.
     t.uncounted = true;
-    random(calls, t, &mut s, (301, 401), 3, Targets::Unit, Entries::Equal);
-    random(calls, t, &mut s, (65_536, 2), 1, Targets::Unit, Entries::Equal);
-    random(calls, t, &mut s, (65_536, 1), 2, Targets::Unit, Entries::Own);
+    random(calls, t, &mut s, (301, 401), 3, Entries::Equal);
+    random(calls, t, &mut s, (65_536, 2), 1, Entries::Equal);
+    random(calls, t, &mut s, (65_536, 1), 2, Entries::Own);
     if factor > 1 {
-        random(calls, t, &mut s, (1024, 1024), 8, Targets::Unit, Entries::Equal);
-        random(calls, t, &mut s, (16, 65_536), 2, Targets::Any, Entries::Own);
+        random(calls, t, &mut s, (1024, 1024), 8, Entries::Equal);
+        random(calls, t, &mut s, (16, 65_536), 2, Entries::Own);
     }
     // Where work over a range changes how it works out the Sun's units: at 8,784 times.
     for (rows, times) in [(1, 8784), (2, 8784), (3, 8784), (1, 8785), (2, 8785), (3, 8785)] {
-        random(calls, t, &mut s, (rows, times), 1 + rows as u64, Targets::Unit, Entries::Own);
+        random(calls, t, &mut s, (rows, times), 1 + rows as u64, Entries::Own);
     }
     t.uncounted = false;
     // Chunks of 64 cells that hold a dozen targets, and of 64 targets.
     for n in [1, 2, 3, 7, 12, 24, 72, 360] {
-        random(calls, t, &mut s, (30, 5), n, Targets::Unit, Entries::Own);
-        random(calls, t, &mut s, (130, 1), n, Targets::Unit, Entries::Own);
+        random(calls, t, &mut s, (30, 5), n, Entries::Own);
+        random(calls, t, &mut s, (130, 1), n, Entries::Own);
     }
     // Rolls at turns: a cell, blocks of 64 in which a row's rolls are worked out, and their ends.
     for k in 0..400 * factor {
@@ -93,8 +93,7 @@ pub fn run(calls: &dyn Calls, t: &mut Tally, factor: u64) {
         let most = (100_000 / n).clamp(20, 3000);
         let rows = s.within(1, 40.min(most)) as usize;
         let times = s.within(1, most / rows as u64 + 1) as usize;
-        let targets = if s.once_in(3) { Targets::Any } else { Targets::Unit };
-        random(calls, t, &mut s, (rows, times), n, targets, Entries::Either);
+        random(calls, t, &mut s, (rows, times), n, Entries::Either);
     }
 }
 
@@ -126,8 +125,8 @@ fn foldings(t: &mut Tally, s: &mut Seeded, count: u64) {
     }
 }
 
-fn random(calls: &dyn Calls, t: &mut Tally, s: &mut Seeded, (rows, times): (usize, usize), n: u64, targets: Targets, entries: Entries) {
-    let p = plan(s, targets, rows, times);
+fn random(calls: &dyn Calls, t: &mut Tally, s: &mut Seeded, (rows, times): (usize, usize), n: u64, entries: Entries) {
+    let p = plan(s, Targets::Unit, rows, times);
     one(calls, t, s, p, n, entries, None);
 }
 

@@ -32,8 +32,7 @@ pub fn run(calls: &dyn Calls, t: &mut Tally, factor: u64) {
         let most = (100_000 / length as u64).clamp(20, 2000);
         let rows = s.within(1, 30.min(most)) as usize;
         let times = s.within(1, most / rows as u64 + 1) as usize;
-        let targets = if s.once_in(3) { Targets::Any } else { Targets::Unit };
-        let p = if s.once_in(8) { at_turns(&mut s, rows, times) } else { plan(&mut s, targets, rows, times) };
+        let p = if s.once_in(8) { at_turns(&mut s, rows, times) } else { plan(&mut s, Targets::Unit, rows, times) };
         one(calls, t, &mut s, p, spread, length, Entries::Either);
         if t.cells > 500_000 * factor && k >= 500 {
             break;

@@ -1,4 +1,4 @@
-//! The plan, its cells, and refusals 1 to 6 and 17 to 19.
+//! The plan, its cells, and refusals 1 to 6 and 17 to 20.
 use crate::{first, Answer};
 use std::fmt;
 
@@ -97,9 +97,20 @@ fn bad_table(table: &[f64]) -> bool {
     !table.iter().all(|roll| (0.0..360.0).contains(roll)) || !table.windows(2).all(|pair| pair[0] < pair[1])
 }
 
-/// Length 1 up to 1e-9 of its square, summed left to right.
+/// A direction's squared length, summed left to right.
+pub fn squared_length(v: [f64; 3]) -> f64 {
+    v[0] * v[0] + v[1] * v[1] + v[2] * v[2]
+}
+
+/// Within 1e-9 of 1 in its squared length.
 pub fn is_unit(v: [f64; 3]) -> bool {
-    (v[0] * v[0] + v[1] * v[1] + v[2] * v[2] - 1.0).abs() <= 1e-9
+    (squared_length(v) - 1.0).abs() <= 1e-9
+}
+
+/// 5 of every direction, then 20 of every direction.
+pub fn direction_refusals(directions: &[f64]) -> [(bool, u8); 2] {
+    let count = directions.len() / 3;
+    [(bad_direction(directions), 5), (!(0..count).all(|k| is_unit(triple(directions, k))), 20)]
 }
 
 impl Plan {
@@ -176,12 +187,9 @@ impl Plan {
             (too_many(self.rows() as u64, self.times() as u64), 2),
         ])?;
         self.third_refusal(third)?;
-        first(&[
-            (bad_position(&self.suns) || bad_position(&self.observers), 4),
-            (bad_direction(&self.targets), 5),
-            (bad_position(&self.panels), 6),
-            (self.tolerances.len() != self.rows(), 17),
-        ])
+        first(&[(bad_position(&self.suns) || bad_position(&self.observers), 4)])?;
+        first(&direction_refusals(&self.targets))?;
+        first(&[(bad_position(&self.panels), 6), (self.tolerances.len() != self.rows(), 17)])
     }
 }
 
@@ -215,6 +223,7 @@ mod tests {
             assert_eq!(said(|_| ()), Err(17), "{length}");
             assert_eq!(said(|p| p.panels[2] = f64::NAN), Err(6), "{length}");
             assert_eq!(said(|p| p.targets[5] = 1.5), Err(5), "{length}");
+            assert_eq!(said(|p| p.targets[3] = 0.5), Err(20), "{length}");
             assert_eq!(said(|p| p.suns[8] = f64::NAN), Err(4), "{length}");
         }
     }
@@ -250,6 +259,22 @@ mod tests {
             let p = Plan { rolls: Rolls::Even(n), ..accepted() };
             assert_eq!(p.refusal(Third::Sweep, false), Err(3), "{n}");
         }
+    }
+
+    #[test]
+    fn all_components_are_looked_at_before_any_length() {
+        for (targets, number) in [
+            (vec![0.5, 0.0, 0.0, 2.0, 0.0, 0.0], 5),
+            (vec![2.0, 0.0, 0.0, 0.5, 0.0, 0.0], 5),
+            (vec![1.0, 0.0, 0.0, 0.5, 0.0, 0.0], 20),
+            (vec![0.5, 0.0, 0.0, 1.0, 0.0, 0.0], 20),
+            (vec![f64::NAN, 0.0, 0.0, 0.5, 0.0, 0.0], 5),
+        ] {
+            let p = Plan { targets, panels: vec![f64::NAN; 3], ..accepted() };
+            assert_eq!(p.refusal(Third::Sweep, false), Err(number), "{:?}", p.targets);
+        }
+        let none = Plan { targets: vec![], tolerances: vec![], ..accepted() };
+        assert_eq!(none.refusal(Third::Sweep, false), Ok(()));
     }
 
     #[test]

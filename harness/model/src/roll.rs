@@ -1,6 +1,6 @@
 //! Sections 2, 3 and 6: the roll of one cell, masks, the sweep, and the other answers.
 use crate::arithmetic::{arctangent, degrees, remainder};
-use crate::plan::{bad_direction, bad_position, Third};
+use crate::plan::{bad_position, direction_refusals, Third};
 use crate::{first, Answer, Plan};
 
 const NEAR_ZERO: f64 = 1e-12;
@@ -83,7 +83,9 @@ pub fn difference(a: f64, b: f64) -> f64 {
 
 /// *One cell*.
 pub fn cell(target: Vector, sun: Vector, observer: Vector, panel: Vector) -> Answer<Optimal> {
-    first(&[(bad_position(&sun) || bad_position(&observer), 4), (bad_direction(&target), 5), (bad_position(&panel), 6)])?;
+    first(&[(bad_position(&sun) || bad_position(&observer), 4)])?;
+    first(&direction_refusals(&target))?;
+    first(&[(bad_position(&panel), 6)])?;
     let sun = sun_unit(sun, observer);
     Ok(if is_free(target, sun, panel) { Optimal::Free } else { Optimal::At(optimal_roll(target, sun, panel)) })
 }

@@ -343,8 +343,7 @@ fn on_damage(s: &mut Seeded, sweep: &Sweep, other: &Sweep, machine: &dyn Machine
 fn sweeps(s: &mut Seeded, sizes: &[(usize, usize)], count: usize) -> Vec<Sweep> {
     let one = |k: usize| {
         let (rows, times) = sizes[k % sizes.len()];
-        let targets = if s.once_in(4) { plans::Targets::Any } else { plans::Targets::Unit };
-        let mut plan = plans::plan(s, targets, rows, times);
+        let mut plan = plans::plan(s, plans::Targets::Unit, rows, times);
         let n = s.one_of(&[1, 1, 2, 3, 5, 8, 12]);
         let rolls = if k / sizes.len() % 2 == 0 {
             Rolls::Even(n)

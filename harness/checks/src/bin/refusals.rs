@@ -3,6 +3,7 @@
 //! `refusals [FACTOR]` multiplies the number of inputs.
 use cases::catalogue::{positions, DEC, RA};
 use cases::{plans, rows, Seeded};
+use checks::examples::{Asked, REQUEST_SEVEN};
 use checks::{lent, rolls, runs, work_range, Calls, Library, Model};
 use model::cost::{Extreme, Size};
 use model::journal::{Sweep, HEADER, LINE};
@@ -51,25 +52,25 @@ const TABLE: Range<usize> = 14..19;
 const PLAN_CALLS: usize = 12;
 
 static LISTED: [Listed; 28] = [
-    ("cell", &[0, 4, 5, 6]),
+    ("cell", &[0, 4, 5, 6, 20]),
     ("catalogue", &[0, 1, 7, 16]),
-    ("named values", &[0, 1, 2, 4, 5, 6, 7, 17]),
-    ("batch", &[0, 1, 2, 4, 5, 6, 7, 17]),
-    ("at a roll", &[0, 1, 2, 4, 5, 6, 7, 17]),
-    ("every roll", &[0, 1, 2, 3, 4, 5, 6, 7, 17]),
-    ("row", &[0, 1, 2, 4, 5, 6, 7, 9, 17]),
-    ("field of regard", &[0, 1, 2, 3, 4, 5, 6, 7, 9, 17]),
-    ("field of regard at a roll", &[0, 1, 2, 4, 5, 6, 7, 9, 17]),
-    ("begin", &[0, 1, 2, 3, 4, 5, 6, 7, 13, 17]),
-    ("work", &[0, 1, 2, 3, 4, 5, 6, 7, 9, 10, 11, 12, 17]),
-    ("work over a range", &[0, 1, 2, 3, 4, 5, 6, 7, 9, 10, 11, 12, 17]),
-    ("recover", &[0, 1, 2, 3, 4, 5, 6, 11, 17]),
-    ("collect", &[0, 1, 2, 3, 4, 5, 6, 7, 11, 12, 15, 17]),
-    ("begin, table", &[0, 1, 2, 4, 5, 6, 7, 13, 17, 18, 19]),
-    ("work, table", &[0, 1, 2, 4, 5, 6, 7, 9, 10, 11, 12, 17, 18, 19]),
-    ("work over a range, table", &[0, 1, 2, 4, 5, 6, 7, 9, 10, 11, 12, 17, 18, 19]),
-    ("recover, table", &[0, 1, 2, 4, 5, 6, 11, 17, 18, 19]),
-    ("collect, table", &[0, 1, 2, 4, 5, 6, 7, 11, 12, 15, 17, 18, 19]),
+    ("named values", &[0, 1, 2, 4, 5, 6, 7, 17, 20]),
+    ("batch", &[0, 1, 2, 4, 5, 6, 7, 17, 20]),
+    ("at a roll", &[0, 1, 2, 4, 5, 6, 7, 17, 20]),
+    ("every roll", &[0, 1, 2, 3, 4, 5, 6, 7, 17, 20]),
+    ("row", &[0, 1, 2, 4, 5, 6, 7, 9, 17, 20]),
+    ("field of regard", &[0, 1, 2, 3, 4, 5, 6, 7, 9, 17, 20]),
+    ("field of regard at a roll", &[0, 1, 2, 4, 5, 6, 7, 9, 17, 20]),
+    ("begin", &[0, 1, 2, 3, 4, 5, 6, 7, 13, 17, 20]),
+    ("work", &[0, 1, 2, 3, 4, 5, 6, 7, 9, 10, 11, 12, 17, 20]),
+    ("work over a range", &[0, 1, 2, 3, 4, 5, 6, 7, 9, 10, 11, 12, 17, 20]),
+    ("recover", &[0, 1, 2, 3, 4, 5, 6, 11, 17, 20]),
+    ("collect", &[0, 1, 2, 3, 4, 5, 6, 7, 11, 12, 15, 17, 20]),
+    ("begin, table", &[0, 1, 2, 4, 5, 6, 7, 13, 17, 18, 19, 20]),
+    ("work, table", &[0, 1, 2, 4, 5, 6, 7, 9, 10, 11, 12, 17, 18, 19, 20]),
+    ("work over a range, table", &[0, 1, 2, 4, 5, 6, 7, 9, 10, 11, 12, 17, 18, 19, 20]),
+    ("recover, table", &[0, 1, 2, 4, 5, 6, 11, 17, 18, 19, 20]),
+    ("collect, table", &[0, 1, 2, 4, 5, 6, 7, 11, 12, 15, 17, 18, 19, 20]),
     ("cost", &[0, 2, 3, 7]),
     ("costliest plan", &[0, 2, 3, 7]),
     ("cheapest plan", &[0, 2, 3, 7]),
@@ -122,10 +123,10 @@ fn bad_rolls(s: &mut Seeded, good: &Rolls) -> Rolls {
     Rolls::Table(table)
 }
 
-/// A small plan, and the same with any of the faults that refusals 1 to 6 and 17 to 19 name.
+/// A small plan, and the same with any of the faults that refusals 1 to 6 and 17 to 20 name.
 fn faulty(s: &mut Seeded) -> (Plan, Plan) {
     let (rows, times) = (s.index(6), s.index(9));
-    let mut good = plans::plan(s, plans::Targets::Any, rows, times);
+    let mut good = plans::plan(s, plans::Targets::Unit, rows, times);
     let n = if s.once_in(20) { 3600 } else { s.one_of(&[1, 1, 2, 3, 7, 20]) };
     let spread = s.one_of(&plans::SPREADS);
     let rolls = if s.once_in(2) { Rolls::Even(n) } else { Rolls::Table(plans::table(s, &good, spread, n as usize)) };
@@ -161,6 +162,9 @@ fn faulty(s: &mut Seeded) -> (Plan, Plan) {
     }
     if s.once_in(10) {
         spoil(s, &mut p.observers, &BAD_POSITION);
+    }
+    if s.once_in(8) {
+        p.targets = plans::plan(s, plans::Targets::Any, p.rows(), 1).targets;
     }
     if s.once_in(8) {
         spoil(s, &mut p.targets, &BAD_DIRECTION);
@@ -400,13 +404,15 @@ fn own_reasons(sweep: &Sweep) -> [Beside; 11] {
 type Fault = (u8, fn(&mut Plan));
 
 /// Faults of a plan for two targets, but for its rolls'.
-const FAULTS: [Fault; 8] = [
+const FAULTS: [Fault; 10] = [
     (1, |p| p.targets.push(0.5)),
     (1, |p| p.suns.truncate(117)),
     (2, |p| p.targets = [1.0, 0.0, 0.0].repeat(65_537)),
     (4, |p| p.suns[119] = f64::NAN),
     (4, |p| p.observers[0] = f64::INFINITY),
     (5, |p| p.targets[5] = 1.5),
+    (20, |p| p.targets[1] = 0.5),
+    (20, |p| p.targets[4] = 0.5),
     (6, |p| p.panels[0] = f64::NAN),
     (17, |p| p.tolerances.push(10.0)),
 ];
@@ -417,15 +423,29 @@ fn spoiled(p: &Plan, spoil: fn(&mut Plan)) -> Plan {
     p
 }
 
+/// The numbers that a plan is refused by, in the order in which they are tried.
+const IN_ORDER: [u8; 10] = [1, 2, 3, 18, 19, 4, 5, 20, 6, 17];
+
+/// What a call with this list of numbers says to two faults of a plan: that of the first, of those that it lists.
+fn first_of((_, listed): &Listed, faults: [u8; 2]) -> u8 {
+    *IN_ORDER.iter().find(|n| faults.contains(n) && listed.contains(n)).expect("a number that the call lists")
+}
+
+/// What the calls with a plan take in the place of 3, and what makes them refuse it.
+fn of_both_rolls() -> [(Rolls, &'static [Fault]); 2] {
+    [
+        (Rolls::Even(3), &[(3, |p| p.rolls = Rolls::Even(3601))]),
+        (
+            Rolls::Table(vec![0.0, 35.0, 200.0]),
+            &[(18, |p| p.rolls = Rolls::Table(vec![])), (19, |p| p.rolls = Rolls::Table(vec![0.0, 35.0, 35.0]))],
+        ),
+    ]
+}
+
 /// By even steps and by a table: with a list of tolerances that is not one a target each call says 17 to all of its own reasons, and what comes
 /// before 17 before it.
 fn of_tolerances(t: &mut Tally) {
-    let even: (Rolls, &[Fault]) = (Rolls::Even(3), &[(3, |p| p.rolls = Rolls::Even(3601))]);
-    let table: (Rolls, &[Fault]) = (
-        Rolls::Table(vec![0.0, 35.0, 200.0]),
-        &[(18, |p| p.rolls = Rolls::Table(vec![])), (19, |p| p.rolls = Rolls::Table(vec![0.0, 35.0, 35.0]))],
-    );
-    for (rolls, faults_of_rolls) in [even, table] {
+    for (rolls, faults_of_rolls) in of_both_rolls() {
         let listed: Vec<&Listed> = LISTED[MASKS].iter().chain(of_journal(&rolls)).collect();
         let good = Plan { rolls, ..two_targets() };
         let sweep = Sweep::new(good.clone()).expect("accepted");
@@ -437,7 +457,7 @@ fn of_tolerances(t: &mut Tally) {
             }
         }
         for ((call, numbers), seen) in listed.iter().zip(&seen) {
-            let own: BTreeSet<u8> = numbers.iter().copied().filter(|n| ![1, 2, 3, 4, 5, 6, 17, 18, 19].contains(n)).collect();
+            let own: BTreeSet<u8> = numbers.iter().copied().filter(|n| !IN_ORDER.contains(n)).collect();
             assert_eq!(*seen, own, "{call}: each of its own answers");
         }
 
@@ -448,7 +468,7 @@ fn of_tolerances(t: &mut Tally) {
             let beside = FAULTS.iter().chain(faults_of_rolls).filter(|fault| fault.0 != 17).chain([&none]);
             for &(number, spoil) in beside {
                 let p = spoiled(&wrong, spoil);
-                let expected: Vec<u8> = listed.iter().map(|(_, numbers)| if numbers.contains(&number) { number } else { 17 }).collect();
+                let expected: Vec<u8> = listed.iter().map(|call| first_of(call, [number, 17])).collect();
                 for b in &own {
                     assert_eq!(with_plan(t, &p, None, b)[..], expected[..], "{length} tolerances for two targets, and {number}");
                 }
@@ -460,6 +480,41 @@ fn of_tolerances(t: &mut Tally) {
         for p in [none, no_times] {
             for b in &own {
                 assert_eq!(with_plan(t, &p, None, b), [17; PLAN_CALLS]);
+            }
+        }
+    }
+}
+
+/// Request Seven's targets, each beside one that is accepted, before it and behind it, in every call that lends targets: by even steps and by a
+/// table, beside all of the call's own reasons and each other fault of the plan.
+fn of_directions(t: &mut Tally) {
+    const GOOD: [f64; 3] = [0.0, 0.6, -0.8];
+    for (rolls, faults_of_rolls) in of_both_rolls() {
+        let listed: Vec<&Listed> = LISTED[MASKS].iter().chain(of_journal(&rolls)).collect();
+        let good = Plan { rolls, ..two_targets() };
+        for (asked, printed) in REQUEST_SEVEN {
+            let Asked::Directions(targets, panel) = asked else { unreachable!("a list of directions") };
+            let number: u8 = printed.parse().expect("a number");
+            let pairs = match *targets {
+                [one] => vec![[one, GOOD], [GOOD, one]],
+                [one, two] => vec![[one, two], [two, one]],
+                _ => vec![],
+            };
+            for pair in pairs {
+                let p = Plan { targets: pair.concat(), panels: panel.to_vec(), ..good.clone() };
+                let sweep = Sweep::new(p.clone());
+                assert_eq!(sweep.as_ref().err().copied().unwrap_or(0), number, "{pair:?}");
+                // A plan that is refused is lent the good plan's journal.
+                let own = own_reasons(sweep.as_ref().unwrap_or(&Sweep::new(good.clone()).expect("accepted")));
+                for b in &own {
+                    let said = with_plan(t, &p, sweep.as_ref().ok(), b);
+                    assert!(number == 0 || said == [number; PLAN_CALLS], "{pair:?}: {said:?}");
+                    for &(other, spoil) in FAULTS.iter().chain(faults_of_rolls).filter(|_| number > 0) {
+                        let said = with_plan(t, &spoiled(&p, spoil), None, b);
+                        let expected: Vec<u8> = listed.iter().map(|call| first_of(call, [number, other])).collect();
+                        assert_eq!(said[..], expected[..], "{pair:?}, and {other}");
+                    }
+                }
             }
         }
     }
@@ -504,7 +559,8 @@ fn of_tables(t: &mut Tally) {
 }
 
 fn of_cells(s: &mut Seeded, t: &mut Tally) {
-    let p = plans::plan(s, plans::Targets::Any, 1, 1);
+    let targets = if s.once_in(4) { plans::Targets::Any } else { plans::Targets::Unit };
+    let p = plans::plan(s, targets, 1, 1);
     let (mut target, mut sun, mut observer, mut panel) = (p.target(0), p.sun(0), p.observer(0), p.panel(0));
     if s.once_in(4) {
         spoil(s, &mut target, &BAD_DIRECTION);
@@ -772,6 +828,7 @@ fn main() {
     let mut t = Tally::default();
     of_ends(&mut t);
     of_tolerances(&mut t);
+    of_directions(&mut t);
     of_tables(&mut t);
     of_sizes(&mut t);
     let (mut of_catalogue, mut of_cost) = (Seeded::new(6), Seeded::new(7));

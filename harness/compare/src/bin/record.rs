@@ -1,6 +1,6 @@
-//! Writes a sample of the customer's Rust's answers for the program `replay`: one file a section of document 01, the answers for targets that
-//! are no unit vectors in a file of their own, catalogue positions in another, and sweeps over tables of rolls in a third. The seeds stand here, so
-//! every run writes the same files. At the repository's root, after `harness/run`, which builds it:
+//! Writes a sample of the customer's Rust's answers for the program `replay`: one file a section of document 01, catalogue positions in a file of
+//! their own, and sweeps over tables of rolls in another. The seeds stand here, so every run writes the same files. At the repository's root, after
+//! `harness/run`, which builds it:
 //!
 //!     target/cargo/release/record crates/replay/data
 //!
@@ -23,7 +23,7 @@ use cases::catalogue::{beside, positions};
 use cases::plans::{self, for_roll, for_rolls, for_sweep, plan, roll, samples, Entries, Targets, SPREADS};
 use cases::{rows, Seeded};
 use model::arithmetic::bits;
-use model::plan::{is_unit, Rolls};
+use model::plan::{direction_refusals, Rolls};
 use model::windows::Window;
 use model::{Plan, Roll};
 use oracle::patch::{self, without};
@@ -92,11 +92,9 @@ fn windows(list: &[Window]) -> Vec<u64> {
     std::iter::once(list.len() as u64).chain(list.iter().flat_map(window)).collect()
 }
 
-fn small(s: &mut Seeded, targets: Targets) -> Plan {
+fn small(s: &mut Seeded) -> Plan {
     let (rows, times) = s.one_of(&[(1, 1), (1, 5), (3, 4), (2, 7), (5, 3), (4, 20)]);
-    let p = plan(s, targets, rows, times);
-    assert!(targets == Targets::Any || (0..rows).all(|i| is_unit(p.target(i))), "targets of length 1");
-    p
+    plan(s, Targets::Unit, rows, times)
 }
 
 fn oracle(p: &Plan) -> Oracle {
@@ -105,6 +103,7 @@ fn oracle(p: &Plan) -> Oracle {
 
 fn given(f: &mut File, p: &Plan) -> Oracle {
     assert!(p.rows() <= 8 && p.times() <= 24 && p.tolerances.len() == p.rows(), "the program has room for it");
+    assert!(direction_refusals(&p.targets).iter().all(|(holds, _)| !holds), "targets that are accepted");
     let (t, s) = (p.targets.len() as u64, p.suns.len() as u64);
     let roll = [p.roll_deg.is_some() as u64, bits(p.roll_deg.unwrap_or(0.0))];
     let lists = floats(&[&p.head_panel()[..], &p.targets, &p.suns, &p.observers, &p.tolerances].concat());
@@ -199,11 +198,11 @@ fn others(f: &mut File, s: &mut Seeded, mut p: Plan) {
 }
 
 /// Records of one kind of plan, each by its own seed.
-fn many(seed: u64, count: u64, targets: Targets, mut record: impl FnMut(&mut File, &mut Seeded, Plan)) -> File {
+fn many(seed: u64, count: u64, mut record: impl FnMut(&mut File, &mut Seeded, Plan)) -> File {
     let mut f = File::default();
     for k in 0..count {
         let mut s = Seeded::new(seed * 1000 + k);
-        let p = small(&mut s, targets);
+        let p = small(&mut s);
         record(&mut f, &mut s, p);
     }
     f
@@ -212,7 +211,7 @@ fn many(seed: u64, count: u64, targets: Targets, mut record: impl FnMut(&mut Fil
 fn section_2() -> File {
     let mut turns = TURNS.into_iter();
     // Seed 12 makes more than the 65,535 bytes for which the program has room.
-    let mut f = many(42, 30, Targets::Unit, |f, s, mut p| {
+    let mut f = many(42, 30, |f, s, mut p| {
         if p.times() == 20 {
             turns.next().into_iter().for_each(|turn| turned(&mut p, turn));
         }
@@ -256,11 +255,6 @@ fn section_5() -> File {
     f
 }
 
-fn any_targets() -> File {
-    let [a, b, c] = [many(22, 15, Targets::Any, rolls), many(23, 20, Targets::Any, sweeps), many(26, 15, Targets::Any, others)];
-    File(a.0 + &b.0 + &c.0)
-}
-
 /// How many of the lines of `table` are of a plan with a configured roll, and how many of the others have another answer by as many even steps;
 /// marked cells, and clear ones.
 #[derive(Debug, Default)]
@@ -277,7 +271,7 @@ fn table() -> File {
     let mut kinds = SPREADS.into_iter().cycle().zip([1, 2, 5, 24, 3, 1, 2, 5, 64, 24, 2, 156].into_iter().cycle());
     let mut told = Told::default();
     // Seed 19 makes too few plans with equal tolerances.
-    let f = many(69, 30, Targets::Unit, |f, s, mut p| {
+    let f = many(69, 30, |f, s, mut p| {
         let tables = [0, 1].map(|_| {
             let (spread, length) = kinds.next().expect("without end");
             plans::table(s, &p, spread, length)
@@ -340,9 +334,8 @@ fn main() {
     let plans = [
         ("section-2", section_2()),
         // Seed 13 makes too many bytes too.
-        ("section-3", many(43, 80, Targets::Unit, sweeps)),
-        ("section-6", many(16, 50, Targets::Unit, others)),
-        ("any-targets", any_targets()),
+        ("section-3", many(43, 80, sweeps)),
+        ("section-6", many(16, 50, others)),
         ("table", table()),
     ];
     for (name, file) in &plans {
