@@ -39,6 +39,8 @@
  *   -17  Not one tolerance a target: tolerances_len is not targets_len / 3.
  *   -18  A table of rolls is empty or has more than 3,600.
  *   -19  A roll of a table is not within 0 to below 360, so NaN too, or not above the roll before it.
+ *   -20  A target is no unit vector: its squared length, x * x + y * y + z * z from left to right, is not within 1e-9 of 1. Tried straight
+ *        after -5, which is tried for all targets first.
  *
  * Numbers of 64 bits are looked at whole: a chunk of 2^40 or an n of 2^32 is refused, not cut down.
  *
@@ -54,8 +56,8 @@
  *
  * Calls about a plan begin with the same parameters, in the same order:
  *
- *    targets        directions from the satellite, three numbers each: unit vectors, in the frame of the positions. From right ascension and
- *                   declination wilfnusk_radec_to_unit_vectors_batch makes them
+ *    targets        directions from the satellite, three numbers each: unit vectors, in the frame of the positions, each number to about ten
+ *                   digits. From right ascension and declination wilfnusk_radec_to_unit_vectors_batch makes them
  *    suns           the Sun's position at each time, three numbers each
  *    observers      the satellite's position at each time, three numbers each, in the unit and from the origin of suns
  *    tolerances     one a target: how far, in degrees, a roll may be from the optimal one; any double. NaN: none of the target's cells is
@@ -70,6 +72,11 @@
  * Up to version 0.2.0, before request Three (rolls between 0 and 360), optimal rolls lay from -360 to 360. By rounding, a few marks and counts of
  * tried rolls differ, and a journal's header does not tell: a journal begun then is swept anew, not resumed.
  *
+ * Up to version 0.5.0, before request Seven (directions must be directions), targets of any length with numbers within -1 to 1 were taken. A
+ * caller whose vectors were shorter, or had few digits, now gets -20, also for a journal that was begun with them: give the vectors more
+ * digits, divide each by its length, or make them of right ascension and declination. With other numbers it is another plan, and the journal
+ * is swept anew.
+ *
  * A cell is a target i and a time j; its number is i * times + j. A mask has one byte a cell, in this order: 1 marked (violated), 0 clear.
  * A cell is Free if no roll is better than another: the Sun is on the boresight's line, ahead or behind, or the panel's normal has no part
  * across it (both to about 1e-12).
@@ -78,8 +85,7 @@
  * FRAME
  *
  * targets, suns and observers are in one equatorial frame, such as GCRS: X toward the equinox, Z toward celestial north. suns and observers
- * have one origin, such as the Earth's centre; the Sun's direction is that of sun - observer. Of a target only that each number is within
- * -1 to 1 is checked: another length than 1 can give another roll.
+ * have one origin, such as the Earth's centre; the Sun's direction is that of sun - observer.
  *
  * The body's x is the boresight, the target. At roll 0 its z is celestial north, as far as that lies across x, and its y = z cross x, which
  * is east. (Where x is a pole, and north has no part across it, the frame's Y takes north's place.) A positive roll turns the body about +x
@@ -133,7 +139,7 @@ double wilfnusk_circular_diff_deg(double a, double b);
 /* ---- Catalogue positions --------------------------------------------------------------------------------------------------------- */
 
 /* Writes the unit vector of each position, from its right ascension and declination in degrees: x, y, z one position after the other, as a
- * plan's targets. Answers 0. No vector that it writes is refused as a target: each number is within -1 to 1, the length 1 but for rounding.
+ * plan's targets. Answers 0. No vector that it writes is refused as a target, by -5 or by -20.
  * Refuses: -1 if ra and dec are not equally long; -16; -7 if out_len is below 3 a position. */
 int64_t wilfnusk_radec_to_unit_vectors_batch(const double *ra, size_t ra_len, const double *dec, size_t dec_len, double *out,
                                              size_t out_len);
@@ -142,13 +148,13 @@ int64_t wilfnusk_radec_to_unit_vectors_batch(const double *ra, size_t ra_len, co
 /* ---- Rolls ----------------------------------------------------------------------------------------------------------------------- */
 
 /* The optimal roll of one cell, in degrees. 0: the cell is Free, and *roll is not written. 1: *roll is the optimal roll, from 0 up to but
- * not at 360; it may be -0. Refuses: -4, -5, -6. */
+ * not at 360; it may be -0. Refuses: -4, -5, -20, -6. */
 int64_t wilfnusk_cell(double target_x, double target_y, double target_z, double sun_x, double sun_y, double sun_z, double observer_x,
                       double observer_y, double observer_z, double panel_x, double panel_y, double panel_z, double *roll);
 
 /* Writes the optimal roll of each cell, in degrees, Free cells too: each from 0 up to but not at 360, and it may be -0. Answers 0. The
  * numbers in tolerances, and roll_deg, do not matter.
- * Refuses: -1, -2, -4, -5, -6, -17; -7 if out_len is below the number of cells. */
+ * Refuses: -1, -2, -4, -5, -20, -6, -17; -7 if out_len is below the number of cells. */
 int64_t wilfnusk_named_values(WILFNUSK_PLAN, double *out, size_t out_len);
 
 
@@ -158,29 +164,29 @@ int64_t wilfnusk_named_values(WILFNUSK_PLAN, double *out, size_t out_len);
  * the tolerance exactly is not violated. */
 
 /* Marks the cells that are violated at the configured roll; without one, none. Answers 0.
- * Refuses: -1, -2, -4, -5, -6, -17; -7 if mask_len is below the number of cells. */
+ * Refuses: -1, -2, -4, -5, -20, -6, -17; -7 if mask_len is below the number of cells. */
 int64_t wilfnusk_in_constraint_batch(WILFNUSK_PLAN, uint8_t *mask, size_t mask_len);
 
 /* Marks the cells that are violated at the roll roll_at_deg. fixed 0: a configured roll stands in its place. fixed not 0: it does not.
- * Answers 0. Refuses: -1, -2, -4, -5, -6, -17; -7 if mask_len is below the number of cells. */
+ * Answers 0. Refuses: -1, -2, -4, -5, -20, -6, -17; -7 if mask_len is below the number of cells. */
 int64_t wilfnusk_in_constraint_batch_at_roll(WILFNUSK_PLAN, uint64_t fixed, double roll_at_deg, uint8_t *mask, size_t mask_len);
 
 /* Marks the cells that are not Free and whose optimal roll is further than the tolerance from the nearest multiple of 360 / n; n = 0
  * marks none. With a configured roll, whatever n is, the cells that are violated at it. Answers 0. Where rounding decides, this is not
  * always the mask of the journal's sweep, which tries each roll.
- * Refuses: -1, -2, -3 if n is over 3,600, -4, -5, -6, -17; -7 if mask_len is below the number of cells. */
+ * Refuses: -1, -2, -3 if n is over 3,600, -4, -5, -20, -6, -17; -7 if mask_len is below the number of cells. */
 int64_t wilfnusk_constrained_at_every_roll(WILFNUSK_PLAN, uint64_t n, uint8_t *mask, size_t mask_len);
 
 /* One target's row at the configured roll: its mask, and for each marked time by how many degrees the distance is beyond the tolerance
  * (for a clear one 0). Without a configured roll all zeros. Answers 0.
- * Refuses: -1, -2, -4, -5, -6, -17; -9 if target is not below the number of targets; -7 if mask_len or severities_len is below the number
- * of times. */
+ * Refuses: -1, -2, -4, -5, -20, -6, -17; -9 if target is not below the number of targets; -7 if mask_len or severities_len is below the
+ * number of times. */
 int64_t wilfnusk_evaluate(WILFNUSK_PLAN, uint64_t target, uint8_t *mask, size_t mask_len, double *severities, size_t severities_len);
 
 /* Field of regard: one byte a target, at one time. The first marks as wilfnusk_constrained_at_every_roll does; the second those that are
  * violated at the configured roll, or without one at roll_at_deg. Both answer 0.
- * Refuse: -1, -2, -3 if n is over 3,600 (the first), -4, -5, -6, -17; -9 if time is not below the number of times; -7 if mask_len is below
- * the number of targets. */
+ * Refuse: -1, -2, -3 if n is over 3,600 (the first), -4, -5, -20, -6, -17; -9 if time is not below the number of times; -7 if mask_len is
+ * below the number of targets. */
 int64_t wilfnusk_field_of_regard_violated_batch(WILFNUSK_PLAN, uint64_t time, uint64_t n, uint8_t *mask, size_t mask_len);
 int64_t wilfnusk_field_of_regard_violated_at_roll(WILFNUSK_PLAN, uint64_t time, double roll_at_deg, uint8_t *mask, size_t mask_len);
 
@@ -224,27 +230,27 @@ int64_t wilfnusk_field_of_regard_violated_at_roll(WILFNUSK_PLAN, uint64_t time, 
  */
 
 /* Writes the header into an empty journal. Answers the used length after it, 107.
- * Refuses: -1, -2, -3, -4, -5, -6, -17; -13 if used is not 0; -7 if journal_len is below 107. */
+ * Refuses: -1, -2, -3, -4, -5, -20, -6, -17; -13 if used is not 0; -7 if journal_len is below 107. */
 int64_t wilfnusk_begin(WILFNUSK_PLAN, uint64_t n, uint8_t *journal, size_t journal_len, uint64_t used);
 
 /* Sweeps a chunk and appends its line. Answers the used length after it: used + 33.
- * Refuses: -1, -2, -3, -4, -5, -6, -17; -9 if there is no such chunk; -11; -12; -10; -7 if journal_len is below used + 33. */
+ * Refuses: -1, -2, -3, -4, -5, -20, -6, -17; -9 if there is no such chunk; -11; -12; -10; -7 if journal_len is below used + 33. */
 int64_t wilfnusk_work(WILFNUSK_PLAN, uint64_t n, uint64_t chunk, uint8_t *journal, size_t journal_len, uint64_t used);
 
 /* Sweeps the chunks from, from + 1, .. and appends a line for each, as wilfnusk_work of each on what the one before left would, but checks
  * the journal once: so the time of a sweep grows with its chunks. Stops before `to`, or before the first chunk that wilfnusk_work would
  * refuse, and writes to *stopped the chunk at which it stopped. Answers the used length after it: used + 33 for each line. A write of the
  * added bytes that was cut short leaves the lines that it has whole, and a part of the next.
- * Refuses: -1, -2, -3, -4, -5, -6, -17; -9 if from is not below to; then as wilfnusk_work of the chunk from: -9; -11; -12; -10; -7. */
+ * Refuses: -1, -2, -3, -4, -5, -20, -6, -17; -9 if from is not below to; then as wilfnusk_work of the chunk from: -9; -11; -12; -10; -7. */
 int64_t wilfnusk_work_range(WILFNUSK_PLAN, uint64_t n, uint64_t from, uint64_t to, uint8_t *journal, size_t journal_len, uint64_t used,
                             uint64_t *stopped);
 
 /* Answers the used length without an incomplete header or line at the end: 0 if the header is incomplete, else the header and the whole
- * lines. Writes nothing. Refuses: -1, -2, -3, -4, -5, -6, -17; -11. */
+ * lines. Writes nothing. Refuses: -1, -2, -3, -4, -5, -20, -6, -17; -11. */
 int64_t wilfnusk_recover(WILFNUSK_PLAN, uint64_t n, const uint8_t *journal, size_t journal_len, uint64_t used);
 
 /* Writes the mask that the journal's lines hold. Answers how many rolls were tried, summed over all cells.
- * Refuses: -1, -2, -3, -4, -5, -6, -17; -11; -12; -15; -7 if mask_len is below the number of cells. */
+ * Refuses: -1, -2, -3, -4, -5, -20, -6, -17; -11; -12; -15; -7 if mask_len is below the number of cells. */
 int64_t wilfnusk_collect(WILFNUSK_PLAN, uint64_t n, const uint8_t *journal, size_t journal_len, uint64_t used, uint8_t *mask,
                          size_t mask_len);
 

@@ -1,5 +1,6 @@
-/* Uses include/wilfnusk.h as a program in C or C++ does: the examples of document 01, and of document 02's requests One to Five. Prints document
- * 01's journal. */
+/* Uses include/wilfnusk.h as a program in C or C++ does: the examples of document 01, and of document 02's requests One to Five and Seven. Prints
+ * document 01's journal. */
+#include <math.h>
 #include <stdio.h>
 #include <string.h>
 
@@ -235,6 +236,59 @@ static void rolls(void)
     expect(memcmp(bytes, same, sizeof bytes) == 0 && memcmp(zeros, same_zeros, sizeof zeros) == 0, "refused, and every byte as it was");
 }
 
+/* Two targets of which the second has half the length, to the cell and to every call with a plan: -20, after -5 and before -6, and every byte
+ * as it was. Then the vectors of a catalogue, and vectors of ten digits. */
+static void directions(void)
+{
+    const double half[6] = {1, 0, 0, 0.5, 0, 0}, longer[6] = {0.5, 0, 0, 2, 0, 0};
+    const double ten[6] = {0.5773502692, 0.5773502692, 0.5773502692, 0.2672612419, -0.5345224838, 0.8017837257};
+    const double six[3] = {0.577350, 0.577350, 0.577350};
+    const double ra[2] = {279.234735, 83.633}, dec[2] = {38.783689, 22.0145};
+    const double suns[6] = {0, 1, 0, 0, 0, 1};
+    const double observers[6] = {0, 0, 0, 0, 0, 0};
+    const double list[2] = {10, 90}, table[2] = {15, 80};
+    uint8_t bytes[256], same[256], mask[1];
+    double values[4], same_values[4], roll = -1, vectors[6];
+    uint64_t stopped = 7;
+
+    memset(bytes, 0xa5, sizeof bytes);
+    memcpy(same, bytes, sizeof bytes);
+    memcpy(values, bytes, sizeof values);
+    memcpy(same_values, values, sizeof values);
+    expect(wilfnusk_cell(0.5, 0, 0, 1, 0, 0, 0, 0, 0, 0, 1, 0, &roll) == -20, "cell: a target of half length, the Sun dead ahead");
+    expect(wilfnusk_cell(six[0], six[1], six[2], 1, 0, 0, 0, 0, 0, 0, 1, 0, &roll) == -20, "cell: six digits are too few");
+    expect(wilfnusk_cell(0, 0, 0, 1, 0, 0, 0, 0, 0, 0, INFINITY, 0, &roll) == -20 && roll == -1, "cell: 20 before 6, roll unwritten");
+    expect(wilfnusk_cell(2, 0, 0, 1, 0, 0, 0, 0, 0, 0, 1, 0, &roll) == -5 && roll == -1, "cell: 5 before 20");
+    expect(wilfnusk_cell(ten[0], ten[1], ten[2], 1, 0, 0, 0, 0, 0, 0, 1, 0, &roll) == 1, "cell: ten digits");
+    expect(wilfnusk_cell(0.9999999996, 0, 0, 1, 0, 0, 0, 0, 0, 0, 1, 0, &roll) == 1, "cell: accepted, and by its length not Free with the Sun dead ahead");
+
+#define LENT_TARGETS(targets, panel_y) targets, 6, suns, 6, observers, 6, list, 2, 1, 0.0, 0.0, panel_y, 0.0
+#define HALF LENT_TARGETS(half, INFINITY)
+    expect(wilfnusk_named_values(HALF, values, 4) == -20, "named values: a target of half length, before the panel");
+    expect(wilfnusk_in_constraint_batch(HALF, bytes, 4) == -20, "batch: a target of half length");
+    expect(wilfnusk_in_constraint_batch_at_roll(HALF, 1, 0.0, bytes, 4) == -20, "at a roll: a target of half length");
+    expect(wilfnusk_constrained_at_every_roll(HALF, 1, bytes, 4) == -20, "every roll: a target of half length");
+    expect(wilfnusk_evaluate(HALF, 0, bytes, 2, values, 2) == -20, "row of the first: the second has half length");
+    expect(wilfnusk_field_of_regard_violated_batch(HALF, 0, 1, bytes, 2) == -20, "field of regard: a target of half length");
+    expect(wilfnusk_field_of_regard_violated_at_roll(HALF, 0, 0.0, bytes, 2) == -20, "field at a roll: a target of half length");
+    expect(wilfnusk_begin(HALF, 1, bytes, sizeof bytes, 0) == -20, "begin: a target of half length");
+    expect(wilfnusk_work(HALF, 1, 0, bytes, sizeof bytes, 107) == -20, "work: 20 before 11");
+    expect(wilfnusk_work_range(HALF, 1, 0, 1, bytes, sizeof bytes, 107, &stopped) == -20 && stopped == 7, "work over a range: 20 before 11");
+    expect(wilfnusk_recover(HALF, 1, bytes, sizeof bytes, 140) == -20, "recover: 20 before 11");
+    expect(wilfnusk_collect(HALF, 1, bytes, sizeof bytes, 140, mask, 0) == -20, "collect: 20 before 11");
+    expect(wilfnusk_begin_rolls(HALF, table, 2, bytes, sizeof bytes, 0) == -20, "begin over a table: a target of half length");
+    expect(wilfnusk_work_rolls(HALF, table, 2, 0, bytes, sizeof bytes, 107) == -20, "work over a table: 20 before 11");
+    expect(wilfnusk_work_range_rolls(HALF, table, 2, 0, 1, bytes, sizeof bytes, 107, &stopped) == -20 && stopped == 7, "range over a table: 20 before 11");
+    expect(wilfnusk_recover_rolls(HALF, table, 2, bytes, sizeof bytes, 140) == -20, "recover over a table: 20 before 11");
+    expect(wilfnusk_collect_rolls(HALF, table, 2, bytes, sizeof bytes, 140, mask, 0) == -20, "collect over a table: 20 before 11");
+    expect(wilfnusk_named_values(LENT_TARGETS(longer, 1.0), values, 4) == -5, "5 of the second target before 20 of the first");
+    expect(memcmp(bytes, same, sizeof bytes) == 0 && memcmp(values, same_values, sizeof values) == 0, "20, and every byte as it was");
+
+    expect(wilfnusk_named_values(LENT_TARGETS(ten, 1.0), values, 4) == 0, "ten digits a number");
+    expect(wilfnusk_radec_to_unit_vectors_batch(ra, 2, dec, 2, vectors, 6) == 0 && wilfnusk_named_values(LENT_TARGETS(vectors, 1.0), values, 4) == 0,
+           "the vectors of a catalogue");
+}
+
 int main(void)
 {
     const double target[3] = {1, 0, 0};
@@ -260,6 +314,7 @@ int main(void)
     tolerances();
     costs();
     rolls();
+    directions();
 
     expect(wilfnusk_cell(1, 0, 0, 1, 0, 0, 0, 0, 0, 0, 1, 0, &roll) == 0 && roll == -1, "Sun on the boresight: Free, roll unwritten");
     expect(wilfnusk_cell(1, 0, 0, 0, 0, -1, 0, 0, 0, 0, 1, 0, &roll) == 1 && roll == 270, "Sun [0,0,-1]: At 270, not -90");

@@ -39,11 +39,12 @@ pub fn plan(plan: &Plan, refusal: Refusal) -> Fault {
         )),
         3 => Some(format!("{}: rolls reads {}; allowed: {}", plan.at("rolls"), plan.rolls.count(), tried::ALLOWED)),
         4 => position(plan),
-        // The vectors that the library makes of positions are never refused with 5.
+        // The vectors that the library makes of positions are never refused with 5 or 20.
         5 if plan.targets_sheet.form() == VECTOR_COLUMNS => {
             let wrong = plan.targets.iter().position(|x| !(-1.0..=1.0).contains(x));
             wrong.map(|i| target(&plan.targets_sheet, i / 3, 1 + i % 3, "-1 to 1"))
         }
+        20 if plan.targets_sheet.form() == VECTOR_COLUMNS => not_unit(plan),
         6 => Some(format!("{}: panel reads {:?}; allowed: three finite numbers of at most 1e100 in size", plan.at("panel"), plan.panel)),
         8 => {
             let most = 4_000_000_000_000_000_000;
@@ -135,6 +136,20 @@ pub fn catalogue(targets: &Sheet, refusal: Refusal) -> Fault {
 fn target(targets: &Sheet, row: usize, column: usize, allowed: &str) -> String {
     let (field, name) = (targets.field(row, column), targets.field(row, 0).shown());
     format!("{}: {} of target `{}` reads `{}`; allowed: {}", field.at(), field.name(), name, field.shown(), allowed)
+}
+
+/// The first target that is no unit vector, and the squared length that it has.
+fn not_unit(plan: &Plan) -> Option<String> {
+    let squared = |v: &[f64]| v[0] * v[0] + v[1] * v[1] + v[2] * v[2];
+    let wrong = |v: &[f64]| !((squared(v) - 1.0).abs() <= 1e-9);
+    let (row, vector) = plan.targets.chunks_exact(3).enumerate().find(|(_, v)| wrong(v))?;
+    Some(format!(
+        "{}: x, y, z of target `{}` have the squared length {}; allowed: 1, within 1e-9, so a unit vector of about ten digits a number; \
+         or ra, dec in degrees",
+        plan.targets_sheet.field(row, 1).at(),
+        plan.targets_sheet.field(row, 0).shown(),
+        number(squared(vector))
+    ))
 }
 
 /// The first roll of a table that is refused.

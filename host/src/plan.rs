@@ -630,7 +630,7 @@ pub mod tests {
             assert_eq!(rolls_fault(rolls, "tolerance = 1", TARGETS), says);
         }
     }
-    /// 18, then 19, in the place of 3: after 2, before 4, 5, 6 and 17.
+    /// 18, then 19, in the place of 3: after 2, before 4, 5, 20, 6 and 17.
     #[test]
     fn a_table_is_asked_for_in_the_place_of_3() {
         let said = |rolls: &str, more: &str, targets: &str| -> String { rolls_fault(rolls, more, targets)[13..15].to_owned() };
@@ -640,6 +640,7 @@ pub mod tests {
             ("tolerance = 1\npanel = [0, inf, 0]", TARGETS, "6:"),
             ("tolerance = [1, 2]", TARGETS, "17"),
             ("tolerance = [1, 2]\npanel = [0, inf, 0]", "name,x,y,z\nA,1.5,0,0\n", "5:"),
+            ("tolerance = [1, 2]\npanel = [0, inf, 0]", "name,x,y,z\nA,0.5,0,0\n", "20"),
         ] {
             assert_eq!(said("[]", more, targets), "18");
             assert_eq!(said("[0, 90, 90]", more, targets), "19");

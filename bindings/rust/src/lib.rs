@@ -35,6 +35,7 @@ pub const CHUNK_CELLS: u64 = 64;
 /// A plan, borrowed. Three numbers a direction or position, flat.
 #[derive(Clone, Copy, Debug)]
 pub struct Plan<'a> {
+    /// Unit vectors: the squared length of each is within 1e-9 of 1.
     pub targets: &'a [f64],
     pub suns: &'a [f64],
     pub observers: &'a [f64],

@@ -59,6 +59,7 @@ impl Refusal {
             (3, _) => "the number of rolls is not within 1 to 3,600",
             (4, _) => "a Sun or observer number is not finite or over 1e100 in size",
             (5, _) => "a target component is not within -1 to 1",
+            (20, _) => "the squared length of a target is not within 1e-9 of 1",
             (6, _) => "a component of the panel normal is not finite or over 1e100 in size",
             (7, Call::Begin | Call::Work | Call::WorkRange) => "the journal's buffer has no room for the bytes to add",
             (7, Call::Windows) => "more windows than places",
