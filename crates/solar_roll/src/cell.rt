@@ -1,5 +1,4 @@
 // One cell: a target at a time.
-use crate::plan::triple;
 use crate::roll::Panel;
 use crate::roll::circular_diff_deg;
 use crate::roll::roll_deg_in;
@@ -143,7 +142,11 @@ fn all_unit(targets: &[f64]) -> bool
     let count = targets.len() / 3;
     let mut i = 0;
     while i < count {
-        if is_unit(triple(targets, i)) {
+        let k = 3 * i;
+        let x = targets[k];
+        let y = targets[k + 1];
+        let z = targets[k + 2];
+        if is_unit([x, y, z]) {
             i += 1;
         } else {
             return false;

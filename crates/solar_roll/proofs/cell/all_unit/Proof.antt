@@ -21,8 +21,32 @@ abbrev μ-loop : tie.MeasureT-loop
 loop-holds : tie.Need-loop-holds Inv-loop μ-loop
 loop-holds c = (refl, omega arith, any-zero _)
 
-triple-requires : tie.Need-triple-requires Inv-loop μ-loop
-triple-requires c κs = search needs
+mul-k : tie.Need-mul-k Inv-loop μ-loop
+mul-k c = search needs
+
+mul-x : tie.Need-mul-x Inv-loop μ-loop
+mul-x c = search needs
+
+shared-slice-read-x : tie.Need-shared-slice-read-x Inv-loop μ-loop
+shared-slice-read-x c = omega (arith, c .before .before .loop .inv .0, c .before .loop-test .taken)
+
+add-y : tie.Need-add-y Inv-loop μ-loop
+add-y c = search needs
+
+mul-y : tie.Need-mul-y Inv-loop μ-loop
+mul-y c = search needs
+
+shared-slice-read-y : tie.Need-shared-slice-read-y Inv-loop μ-loop
+shared-slice-read-y c = omega (arith, c .before .before .before .loop .inv .0, c .before .before .loop-test .taken)
+
+add-z : tie.Need-add-z Inv-loop μ-loop
+add-z c = search needs
+
+mul-z : tie.Need-mul-z Inv-loop μ-loop
+mul-z c = search needs
+
+shared-slice-read-z : tie.Need-shared-slice-read-z Inv-loop μ-loop
+shared-slice-read-z c = omega (arith, c .before .before .before .before .loop .inv .0, c .before .before .before .loop-test .taken)
 
 is-unit-requires : tie.Need-is-unit-requires Inv-loop μ-loop
 is-unit-requires c κs = search needs
@@ -34,17 +58,18 @@ loop-less : tie.Need-loop-less Inv-loop μ-loop
 loop-less c = search needs
 
 loop-again : tie.Need-loop-again Inv-loop μ-loop
+unfolding triple
 loop-again c =
-    let at = c .before .before .before .before .loop in
-    let unit = ap notUnit (sym (c .before .before .triple .ensures)) ∙ sym (c .before .is-unit .ensures) ∙ ap not (c .if1 .taken) in
-    (at .inv .0, omega (arith, c .before .before .before .loop-test .taken), any-step (at .i) _ ∙ or-none _ _ (at .inv .2) unit)
+    let test = c .before .before .before .before .before in
+    let at = test .before .loop in
+    (at .inv .0, omega (arith, test .loop-test .taken), any-step (at .i) _ ∙ or-none _ _ (at .inv .2) (sym (c .before .is-unit .ensures) ∙ ap not (c .if1 .taken)))
 
 returns : tie.Need-returns Inv-loop μ-loop
-unfolding anyNotUnit
+unfolding anyNotUnit triple
 returns c =
-    let at = c .before .before .before .before .loop in
-    let other = ap notUnit (sym (c .before .before .triple .ensures)) ∙ sym (c .before .is-unit .ensures) ∙ ap not (c .if1 .left) in
-    sym (any-found _ _ (at .i) (omega (arith, at .inv .0, c .before .before .before .loop-test .taken)) other)
+    let test = c .before .before .before .before .before in
+    let at = test .before .loop in
+    sym (any-found _ _ (at .i) (omega (arith, at .inv .0, test .loop-test .taken)) (sym (c .before .is-unit .ensures) ∙ ap not (c .if1 .left)))
 
 returns-2 : tie.Need-returns-2 Inv-loop μ-loop
 unfolding anyNotUnit
@@ -59,7 +84,15 @@ all-unit-spec =
     Inv-loop
     μ-loop
     loop-holds
-    triple-requires
+    mul-k
+    mul-x
+    shared-slice-read-x
+    add-y
+    mul-y
+    shared-slice-read-y
+    add-z
+    mul-z
+    shared-slice-read-z
     is-unit-requires
     add-i
     loop-less
