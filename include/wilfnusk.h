@@ -56,8 +56,9 @@
  *
  * Calls about a plan begin with the same parameters, in the same order:
  *
- *    targets        directions from the satellite, three numbers each: unit vectors, in the frame of the positions, each number to about ten
- *                   digits. From right ascension and declination wilfnusk_radec_to_unit_vectors_batch makes them
+ *    targets        directions from the satellite, three numbers each: unit vectors, in the frame of the positions. Ten digits a number are
+ *                   enough to be accepted, see -20; give all there are. From right ascension and declination
+ *                   wilfnusk_radec_to_unit_vectors_batch makes them
  *    suns           the Sun's position at each time, three numbers each
  *    observers      the satellite's position at each time, three numbers each, in the unit and from the origin of suns
  *    tolerances     one a target: how far, in degrees, a roll may be from the optimal one; any double. NaN: none of the target's cells is
@@ -79,7 +80,8 @@
  *
  * A cell is a target i and a time j; its number is i * times + j. A mask has one byte a cell, in this order: 1 marked (violated), 0 clear.
  * A cell is Free if no roll is better than another: the Sun is on the boresight's line, ahead or behind, or the panel's normal has no part
- * across it (both to about 1e-12).
+ * across it (both to about 1e-12; so a target whose length is less than 1 by more than that is not Free with the Sun on its line, and one
+ * that is longer is Free close to it too).
  *
  *
  * FRAME

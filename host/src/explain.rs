@@ -144,8 +144,8 @@ fn not_unit(plan: &Plan) -> Option<String> {
     let wrong = |v: &[f64]| !((squared(v) - 1.0).abs() <= 1e-9);
     let (row, vector) = plan.targets.chunks_exact(3).enumerate().find(|(_, v)| wrong(v))?;
     Some(format!(
-        "{}: x, y, z of target `{}` have the squared length {}; allowed: 1, within 1e-9, so a unit vector of about ten digits a number; \
-         or ra, dec in degrees",
+        "{}: x, y, z of target `{}` have the squared length {}; allowed: less than 1e-9 away from 1, so a unit vector of about ten digits \
+         a number; or ra, dec in degrees",
         plan.targets_sheet.field(row, 1).at(),
         plan.targets_sheet.field(row, 0).shown(),
         number(squared(vector))

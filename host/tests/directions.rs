@@ -3,7 +3,7 @@ mod common;
 
 use common::{document, done, ephemeris, run, told_by_every_command, Folder};
 
-const ALLOWED: &str = "; allowed: 1, within 1e-9, so a unit vector of about ten digits a number; or ra, dec in degrees";
+const ALLOWED: &str = "; allowed: less than 1e-9 away from 1, so a unit vector of about ten digits a number; or ra, dec in degrees";
 
 /// A plan of these targets, of one form or the other, at 50 times.
 fn folder(targets: &str, more: &str) -> Folder {
@@ -86,9 +86,6 @@ fn a_journal_begun_before_is_refused_with_20() {
     std::fs::remove_file(f.path("plan.journal.plan")).unwrap();
     told_by_every_command(&f, 1, &says);
     assert_eq!(f.read("plan.journal"), journal);
-    // The vector of length 1 is another plan: into a journal of its own.
-    f.write("t.csv", "name,x,y,z\nA,1,0,0\n");
-    done(&f, "sweep plan.toml -q --journal anew.journal");
 }
 
 /// docs/HOST.md shows what is said.

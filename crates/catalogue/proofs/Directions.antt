@@ -1,5 +1,5 @@
 -- Degrees that 16 accepts give directions: each component is within -1 to 1, so 5 never refuses them, and the squared length is within 1e-9 of 1, so 20 does not either;
--- nor what an accepted call leaves (`catalogue-accepted`). Assumes nothing.
+-- nor do they refuse what an accepted call leaves (`catalogue-accepted`). Assumes nothing.
 use mathlib.Core.Path.{_≡_, refl, ap, ap₂, _∙_, subst}
 use mathlib.Core.Bool.{Bool, true, false, not, _||_, _&&_, false≢true}
 use mathlib.Core.List.{List}

@@ -61,8 +61,8 @@ catalogueReply ras decs room = reply (catalogueRefusal ras decs room) 0
 unfoldable pub catalogueAfter : List Float → List Float → List Float → List Float
 catalogueAfter ras decs out = unlessRefused (catalogueRefusal ras decs (length out)) (filled (3 * length ras) (catalogueNumber ras decs) out) out
 
--- "Vectors so made feed every call unchanged" (One): degrees that 16 accepts give a direction that neither 5 nor 20 refuses, and so does the list
--- that an accepted call leaves, lent as targets (`catalogue-accepted`, proofs/Directions)
+-- "Vectors so made feed every call unchanged" (One): degrees that 16 accepts give a direction that neither 5 nor 20 refuses, nor do they refuse the
+-- list that an accepted call leaves, lent as targets (`catalogue-accepted`, proofs/Directions)
 pub record CatalogueAccepted : Type 0 where
   pub position : (ra dec : Float) → badRa ra ≡ false → badDec dec ≡ false → directionRefusal (radecToUnit ra dec) ≡ 0
   pub positions : (ras decs out : List Float) → catalogueRefusal ras decs (length out) ≡ 0

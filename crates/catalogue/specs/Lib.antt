@@ -1,2 +1,2 @@
--- The definitions that the contracts of `catalogue` cite: document 02's request One.
+-- The definitions that the contracts of `catalogue` cite, and what the vectors promise: document 02's request One.
 pub mod Catalogue

@@ -60,7 +60,7 @@ cost-bounds p n h =
 
 -- ---- the plan of a size
 
--- what is written is within the limits
+-- what is written is within the limits, and the target is a unit vector
 x-small : any (tooLarge one) (vector one zero·0 zero·0) ≡ false
 unfolding any tooLarge absOf le ofBits
 x-small = refl

@@ -26,7 +26,7 @@ pub record EqualTolerances (p : Plan) (t : Float) : Type 0 where
       → configOf p r ≡ record { «tolerance_deg» = t; «roll_deg» = p .configured; «panel_normal» = rowPanel (p .panels) r }
   -- with a target the header is that plan's
   pub header : 0 < rowsOf p → (n : ℕ) → headerOf p n ≡ settingsHeader (rowsOf p) (timesOf p) n t (p .configured) (headPanel p)
-  -- so are the refusals: 17 is none of them
+  -- so are the refusals, with document 02's other numbers where it puts them: 17 is none of them
   pub refusals : (said : ℕ) (beyond : Bool)
       → planRefusal p said beyond
       ≡ first (carried (sizesRefusal (length (p .targets)) (length (p .suns)) (length (p .observers)) beyond)

@@ -2,7 +2,7 @@
 -- Seven: squared lengths at and beside the ends of the band, and what directions are refused by. Assumes nothing.
 use mathlib.Core.Path.{_≡_, refl}
 use mathlib.Core.Bool.{true, false}
-use mathlib.Core.List.{List, [], _∷_, _++_}
+use mathlib.Core.List.{[], _∷_, _++_}
 use Prim.Native.Nat.{ℕ}
 use lib.Ieee.{Float, nan, binary64, ofBits, neg, add, sub, mul, div, rem, lt, le, eq, ofInt}
 use Rattle.float.specs.Root.{sqrtOf}
@@ -74,15 +74,12 @@ band = (refl, refl, refl, refl)
 abbrev bits : ℕ → ℕ → ℕ → Vector
 bits a b c = vector (f64 a) (f64 b) (f64 c)
 
--- [1, 0, 0], and half of it
-abbrev whole : Vector
-whole = bits 0x3ff0_0000_0000_0000 0 0
-
+-- half of [1, 0, 0]
 abbrev half : Vector
 half = bits 0x3fe0_0000_0000_0000 0 0
 
 pub directions :
-    (directionRefusal whole ≡ 0) ×
+    (directionRefusal xHat ≡ 0) ×
     (directionRefusal half ≡ 20) ×
     -- [1, 1, 0], [0, 0, 0] and [2, 0, 0]
     (directionRefusal (bits 0x3ff0_0000_0000_0000 0x3ff0_0000_0000_0000 0) ≡ 20) ×
@@ -98,7 +95,7 @@ pub directions :
     (directionRefusal (bits 0x3fd8_b064_c87a_740b 0xbfed_58c3_fbb2_f6f8 0x3fb9_c6c7_cf2f_4894) ≡ 0) ×
     -- of lists: none; the second is no unit vector; 5 of the second before 20 of the first
     (directionRefusal [] ≡ 0) ×
-    (directionRefusal (whole ++ half) ≡ 20) ×
+    (directionRefusal (xHat ++ half) ≡ 20) ×
     (directionRefusal (half ++ bits 0x4000_0000_0000_0000 0 0) ≡ 5) ×
     -- before the panel
     (numbersRefusal half [] [] (nan ∷ []) ≡ 20)

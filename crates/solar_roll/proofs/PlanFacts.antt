@@ -1,5 +1,7 @@
--- What is known of a size and of a plan that is not refused, and how large the number of one that is can be. Assumes nothing.
+-- What is known of a size and of a plan that is not refused, which directions pass, and how large the number of one that is refused can be. Assumes
+-- nothing.
 use mathlib.Core.Path.{_≡_, _∙_}
+use mathlib.Core.Logic.{_↔_}
 use mathlib.Core.Bool.{Bool, false, not, _||_}
 use mathlib.Core.List.{List}
 use Prim.Native.Nat.{ℕ, _*_, _/_, _%_, _≤_, _<_}
@@ -7,12 +9,12 @@ use native.Mathlib.Omega.{arith}
 use lib.Dec.{eqb, ltb, lit<}
 use lib.Ieee.{Float}
 use lib.ListN.{length}
-use Rattle.buffers.proofs.Ranges.{any-none}
+use Rattle.buffers.proofs.Ranges.{any-none, any-clear}
 use borrow.Author.Tests.{not-false, eqb-true, ltb-false, le-ltb}
 use Rattle.buffers.specs.Refusal.{carried}
 use Rattle.buffers.proofs.Refusal.{first-none, first-skip, first-clear, carried-clear, given-below}
 use Rattle.buffers.proofs.Tests.{or-left, or-right}
-use Rattle.solar_roll.specs.Vectors.{triple}
+use Rattle.solar_roll.specs.Vectors.{count, triple}
 use Rattle.solar_roll.specs.Cell.{badPosition, badDirection, notUnit, anyNotUnit, directionRefusal, numbersRefusal}
 use Rattle.solar_roll.specs.Plan.{Plan, rowsOf, timesOf, unlikeLengths, mostRows, mostTimes, mostCells, tooMany, sizesRefusal, planRefusal, PlanFacts}
 
@@ -99,6 +101,15 @@ all-unit n targets l h = any-none (length targets / 3) _ (λ i k. h i (omega ari
 pub direction-passes : (targets : List Float) → badDirection targets ≡ false → anyNotUnit targets ≡ false → directionRefusal targets ≡ 0
 unfolding directionRefusal
 direction-passes targets small unit = first-skip _ _ _ small ∙ first-skip _ _ _ unit ∙ first-none
+
+-- exactly those whose components are within -1 to 1 and of which each is a unit vector, of a list as of a single triple
+pub direction-accepted : (targets : List Float)
+    → (directionRefusal targets ≡ 0) ↔ ((badDirection targets ≡ false) × ((i : ℕ) → i < count targets → notUnit (triple targets i) ≡ false))
+unfolding directionRefusal anyNotUnit
+direction-accepted targets = (
+  λ e. let small = first-clear _ _ _ (lit< tt) e in (small .0, any-clear _ _ (first-clear _ _ _ (lit< tt) (small .1) .0)),
+  λ w. direction-passes targets (w .0) (any-none _ _ (w .1)),
+)
 
 -- ---- every number that a plan is refused by is below 64, where the one said in the place of 3 is
 

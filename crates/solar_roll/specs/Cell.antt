@@ -1,4 +1,5 @@
--- Section 2: the answer of one cell, when a roll violates it, and what the call on four triples refuses. Definitions only. Assumes nothing.
+-- Section 2: the answer of one cell, when a roll violates it, and what is refused of numbers: of four triples, or of a plan's flat lists. 20 is document
+-- 02's (Seven). Definitions only. Assumes nothing.
 use mathlib.Core.Bool.{Bool, false, cond, not, _||_}
 use mathlib.Core.List.{List, [], _∷_}
 use Prim.Native.Nat.{ℕ}
@@ -78,10 +79,7 @@ anyNotUnit targets = anyBelow (count targets) (λ i. notUnit (triple targets i))
 
 -- what is refused of directions, a flat list of triples or one triple: 5 of any before 20 of any; 0 for none
 unfoldable pub directionRefusal : List Float → ℕ
-directionRefusal targets =
-    first ((badDirection targets, 5)
-    ∷ (anyNotUnit targets, 20)
-    ∷ [])
+directionRefusal targets = first ((badDirection targets, 5) ∷ (anyNotUnit targets, 20) ∷ [])
 
 -- *One cell*, four triples, and a plan's lists, which are flat lists of triples: 4 of the Sun and the observer, 5 and 20 of the target, 6 of the
 -- panel; 0 for none

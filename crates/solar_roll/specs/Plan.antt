@@ -5,13 +5,14 @@
 use mathlib.Core.Path.{_≡_}
 use mathlib.Core.Bool.{Bool, false, cond, not, _||_, _&&_}
 use mathlib.Core.List.{List, [], _∷_}
-use Prim.Native.Nat.{ℕ, _+_, _*_, _/_, _%_, _≤_}
+use Prim.Native.Nat.{ℕ, _*_, _/_, _%_, _≤_}
 use lib.Dec.{eqb, leb, ltb}
 use lib.ListN.{length, getD}
 use lib.Ieee.{Float, nan}
 use Rattle.buffers.specs.Refusal.{first, carried}
 use Rattle.float.specs.Arithmetic.{zero·0}
 use Rattle.solar_roll.specs.Vectors.{Vector}
+-- a plan's lists are flat lists of triples
 unfoldable pub use Rattle.solar_roll.specs.Vectors.{count, triple}
 use Rattle.solar_roll.specs.Roll.{sunUnit, solarOptimalRollDeg}
 use Rattle.solar_roll.specs.Cell.{optimalRoll, violates, inForce, badPosition, badDirection, anyNotUnit, numbersRefusal}

@@ -1,4 +1,4 @@
-//! Reading a whole journal: 1,024 targets and times, 16,384 lines, 540,779 bytes.
+//! Beginning a journal; and reading a whole one, of 1,024 targets and times, 16,384 lines, 540,779 bytes.
 use crate::case::{side, Case, Limit, Side};
 use crate::inputs;
 use crate::sweeps::{empty_journal, sweep};
@@ -26,6 +26,22 @@ fn shuffled(journal: &[u8]) -> Vec<u8> {
         lines.swap(k, s.index(k + 1));
     }
     [header, &lines.concat()].concat()
+}
+
+/// `begin` of the most targets, at one time: what a call takes to look at a plan. A unit is a target.
+pub fn begin_case(name: &'static str, limit: Limit) -> Case {
+    const TARGETS: usize = 65_536;
+    let plan = inputs::plan(TARGETS, 1, N, 90.0);
+    let run = move |journal: &mut Vec<u8>| assert_eq!(lent(&plan).begin(N, journal, 0), Ok(HEADER_BYTES));
+    Case {
+        name,
+        title: "begin of 65,536 targets".to_string(),
+        unit: "target",
+        limit,
+        mask: false,
+        port: side(vec![0; HEADER_BYTES as usize], run, |_| TARGETS as u64, |journal| journal.clone()),
+        other: None,
+    }
 }
 
 /// `recover` looks at the whole journal and writes nothing. A unit is a byte.

@@ -53,6 +53,7 @@ const ENTRIES: &[Entry] = &[
     ("catalogue", |name, _| catalogue::vectors_case(name, Batch, Limit::Ratio(1.0))),
     ("catalogue-single", |name, _| catalogue::vectors_case(name, Single, Limit::None)),
     ("catalogue-libm", |name, _| catalogue::vectors_case(name, Libm, Limit::None)),
+    ("begin", |name, _| journals::begin_case(name, Limit::None)),
     ("right-check", |name, _| journals::right_check_case(name, true, Limit::Rate(1.0))),
     ("right-check-shuffled", |name, _| journals::right_check_case(name, false, Limit::Rate(1.0))),
     ("collect", |name, _| journals::collect_case(name, false, Limit::Ratio(3.0))),

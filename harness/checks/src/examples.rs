@@ -212,34 +212,32 @@ pub const REQUEST_FIVE: [(Asked, &str); 12] = [
 /// The header's n is 2; the first cell is marked.
 const TABLE_JOURNAL: &str = journal!("00000002", "00000000000000000000000100000004");
 
-const UP: [f64; 3] = [0.0, 1.0, 0.0];
+const PANEL: [f64; 3] = [0.0, 1.0, 0.0];
 
-pub const REQUEST_SEVEN: [(Asked, &str); 22] = [
-    (Directions(&[[1.0, 0.0, 0.0]], UP), "0"),
-    (Directions(&[[-0.0, -1.0, 0.0]], UP), "0"),
-    (Directions(&[[0.6, 0.0, 0.8]], UP), "0"),
-    (Directions(&[], UP), "0"),
-    (Directions(&[[0.5, 0.0, 0.0]], UP), "20"),
-    (Directions(&[[1.0, 1.0, 0.0]], UP), "20"),
-    (Directions(&[[0.0, 0.0, 0.0]], UP), "20"),
-    (Directions(&[[2.0, 0.0, 0.0]], UP), "5"),
-    (Directions(&[[f64::NAN, 0.0, 1.0]], UP), "5"),
+pub const REQUEST_SEVEN: [(Asked, &str); 20] = [
+    (Directions(&[[1.0, 0.0, 0.0]], PANEL), "0"),
+    (Directions(&[[-0.0, -1.0, 0.0]], PANEL), "0"),
+    (Directions(&[[0.6, 0.0, 0.8]], PANEL), "0"),
+    (Directions(&[], PANEL), "0"),
+    (Directions(&[[0.5, 0.0, 0.0]], PANEL), "20"),
+    (Directions(&[[1.0, 1.0, 0.0]], PANEL), "20"),
+    (Directions(&[[0.0, 0.0, 0.0]], PANEL), "20"),
+    (Directions(&[[2.0, 0.0, 0.0]], PANEL), "5"),
+    (Directions(&[[f64::NAN, 0.0, 1.0]], PANEL), "5"),
     // The component that is too large stands in the second.
-    (Directions(&[[0.5, 0.0, 0.0], [2.0, 0.0, 0.0]], UP), "5"),
-    (Directions(&[[1.0, 0.0, 0.0], [0.0, 0.5, 0.0]], UP), "20"),
-    // The last y beside 1 that is near enough to 0, and the next; the first x alone that is near enough to 1, and the one before.
-    (Directions(&[[1.0, f64::from_bits(0x3f00_9456_50ac_edf9), 0.0]], UP), "0"),
-    (Directions(&[[1.0, f64::from_bits(0x3f00_9456_50ac_edfa), 0.0]], UP), "20"),
-    (Directions(&[[f64::from_bits(0x3fef_ffff_ffbb_47d1), 0.0, 0.0]], UP), "0"),
-    (Directions(&[[f64::from_bits(0x3fef_ffff_ffbb_47d0), 0.0, 0.0]], UP), "20"),
+    (Directions(&[[0.5, 0.0, 0.0], [2.0, 0.0, 0.0]], PANEL), "5"),
+    (Directions(&[[1.0, 0.0, 0.0], [0.0, 0.5, 0.0]], PANEL), "20"),
+    // The last y beside 1 that is near enough to 0, and the next; the first x alone that is near enough to 1, and the one before,
+    // which is 0.9999999995 as it is read.
+    (Directions(&[[1.0, f64::from_bits(0x3f00_9456_50ac_edf9), 0.0]], PANEL), "0"),
+    (Directions(&[[1.0, f64::from_bits(0x3f00_9456_50ac_edfa), 0.0]], PANEL), "20"),
+    (Directions(&[[f64::from_bits(0x3fef_ffff_ffbb_47d1), 0.0, 0.0]], PANEL), "0"),
+    (Directions(&[[f64::from_bits(0x3fef_ffff_ffbb_47d0), 0.0, 0.0]], PANEL), "20"),
     // Summed from the right it would be 20.
-    (Directions(&[SUMMED_FROM_THE_LEFT], UP), "0"),
-    // 1 less half of 1e-9, which rounds to a number beyond the band; and a little nearer to 1.
-    (Directions(&[[0.9999999995, 0.0, 0.0]], UP), "20"),
-    (Directions(&[[0.99999999951, 0.0, 0.0]], UP), "0"),
+    (Directions(&[SUMMED_FROM_THE_LEFT], PANEL), "0"),
     // Six digits a number are too few.
-    (Directions(&[[0.577350, 0.577350, 0.577350]], UP), "20"),
-    (Directions(&[[0.5773502692, 0.5773502692, 0.5773502692]], UP), "0"),
+    (Directions(&[[0.577350, 0.577350, 0.577350]], PANEL), "20"),
+    (Directions(&[[0.5773502692, 0.5773502692, 0.5773502692]], PANEL), "0"),
     // Before the panel, and the panel after it.
     (Directions(&[[0.5, 0.0, 0.0]], [0.0, f64::NAN, 0.0]), "20"),
     (Directions(&[[1.0, 0.0, 0.0]], [0.0, f64::NAN, 0.0]), "6"),

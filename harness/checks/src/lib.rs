@@ -1,5 +1,5 @@
 //! The calls as one trait, so that the library and the plain model can be asked the same: `Library` calls the C names, `Model` is
-//! document 01, and document 02's requests One to Five, in plain Rust.
+//! document 01, and document 02's requests One to Five and Seven, in plain Rust.
 pub mod examples;
 mod library;
 

@@ -1,5 +1,5 @@
-//! Document 01, and document 02's requests One to Five, in plain Rust: a second implementation, written from their text for comparing, not for
-//! speed.
+//! Document 01, and document 02's requests One to Five and Seven, in plain Rust: a second implementation, written from their text for comparing,
+//! not for speed.
 //!
 //! A refusal is its number; `Answer` is what a call says.
 pub mod arithmetic;

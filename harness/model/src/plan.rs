@@ -262,22 +262,6 @@ mod tests {
     }
 
     #[test]
-    fn all_components_are_looked_at_before_any_length() {
-        for (targets, number) in [
-            (vec![0.5, 0.0, 0.0, 2.0, 0.0, 0.0], 5),
-            (vec![2.0, 0.0, 0.0, 0.5, 0.0, 0.0], 5),
-            (vec![1.0, 0.0, 0.0, 0.5, 0.0, 0.0], 20),
-            (vec![0.5, 0.0, 0.0, 1.0, 0.0, 0.0], 20),
-            (vec![f64::NAN, 0.0, 0.0, 0.5, 0.0, 0.0], 5),
-        ] {
-            let p = Plan { targets, panels: vec![f64::NAN; 3], ..accepted() };
-            assert_eq!(p.refusal(Third::Sweep, false), Err(number), "{:?}", p.targets);
-        }
-        let none = Plan { targets: vec![], tolerances: vec![], ..accepted() };
-        assert_eq!(none.refusal(Third::Sweep, false), Ok(()));
-    }
-
-    #[test]
     fn even_steps_are_an_accepted_table() {
         for n in 1..=3600 {
             let even = Plan { rolls: Rolls::Even(n), ..accepted() };

@@ -1,4 +1,4 @@
-//! The examples of document 01 and of requests One, Three, Four and Five, answer by answer, against the library and against the plain model.
+//! The examples of document 01 and of requests One, Three, Four, Five and Seven, answer by answer, against the library and against the plain model.
 use checks::{examples, Library, Model};
 use std::process::exit;
 

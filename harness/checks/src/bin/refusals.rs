@@ -520,6 +520,24 @@ fn of_directions(t: &mut Tally) {
     }
 }
 
+/// One target among as many as a plan can have is looked at like any other, wherever it stands: 5 and 20.
+fn of_many_directions(t: &mut Tally) {
+    const ROWS: usize = 65_536;
+    for (rolls, _) in of_both_rolls() {
+        let good = Plan { rolls, ..two_targets() };
+        let own = own_reasons(&Sweep::new(good.clone()).expect("accepted"));
+        let (suns, observers) = (good.suns[..3].to_vec(), good.observers[..3].to_vec());
+        let many = Plan { targets: [0.6, 0.0, 0.8].repeat(ROWS), suns, observers, tolerances: vec![10.0; ROWS], ..good };
+        for row in [0, 1, 7, 63, 64, 300, ROWS - 1] {
+            for (x, number) in [(0.5, 20), (1.5, 5)] {
+                let mut p = many.clone();
+                p.targets[3 * row] = x;
+                assert_eq!(with_plan(t, &p, None, &own[0]), [number; PLAN_CALLS], "target {row} begins with {x}");
+            }
+        }
+    }
+}
+
 /// The five calls of a journal with each listed table, beside all of their own reasons and each fault of the plan: 18 and 19 follow 1 and 2, and
 /// come before all else. A number of even steps is refused there by 3.
 fn of_tables(t: &mut Tally) {
@@ -829,6 +847,7 @@ fn main() {
     of_ends(&mut t);
     of_tolerances(&mut t);
     of_directions(&mut t);
+    of_many_directions(&mut t);
     of_tables(&mut t);
     of_sizes(&mut t);
     let (mut of_catalogue, mut of_cost) = (Seeded::new(6), Seeded::new(7));

@@ -1,6 +1,6 @@
 use Rattle.buffers.specs.Refusal.{first}
 use Rattle.solar_roll.specs.Cell.{directionRefusal}
-use mathlib.Core.Bool.{Bool, not}
+use mathlib.Core.Bool.{not}
 use mathlib.Core.Path.{sym, ap, _∙_}
 use borrow.Author.Needs.{needs}
 use Rattle.solar_roll.proofs.cell.directions_refusal.Statement.{statement}
