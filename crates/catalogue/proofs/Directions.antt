@@ -76,9 +76,10 @@ of-degrees a w = sine-cosine (toRadians a) (radians a w)
 
 -- ---- one position
 
-within : (ra dec : Float) → badRa ra ≡ false → badDec dec ≡ false → (badDirection (radecToUnit ra dec) ≡ false) × (notUnit (radecToUnit ra dec) ≡ false)
+-- neither test holds of its vector
+small-and-unit : (ra dec : Float) → badRa ra ≡ false → badDec dec ≡ false → (badDirection (radecToUnit ra dec) ≡ false) × (notUnit (radecToUnit ra dec) ≡ false)
 unfolding radecToUnit badDirection any tooLarge notUnit dot3
-within ra dec h g =
+small-and-unit ra dec h g =
     let d = of-degrees dec (good-dec dec g) in
     let r = of-degrees ra (good-ra ra h) in
     let w = at-most-one d r in
@@ -86,14 +87,14 @@ within ra dec h g =
 
 position-accepted : (ra dec : Float) → badRa ra ≡ false → badDec dec ≡ false → directionRefusal (radecToUnit ra dec) ≡ 0
 unfolding radecToUnit anyNotUnit anyBelow triple
-position-accepted ra dec h g = let w = within ra dec h g in direction-passes (radecToUnit ra dec) (w .0) (w .1)
+position-accepted ra dec h g = let w = small-and-unit ra dec h g in direction-passes (radecToUnit ra dec) (w .0) (w .1)
 
 -- ---- all positions of an accepted call
 
 module _ (ras decs : List Float) (room : ℕ) (f : CatalogueFacts ras decs room) where
   position : (i : ℕ) → i < length ras → (badDirection (vectorOf ras decs i) ≡ false) × (notUnit (vectorOf ras decs i) ≡ false)
   unfolding vectorOf
-  position i h = within _ _ (any-getD badRa ras nan i (f .ras-in) h) (any-getD badDec decs nan i (f .decs-in) (omega (arith, f .same)))
+  position i h = small-and-unit _ _ (any-getD badRa ras nan i (f .ras-in) h) (any-getD badDec decs nan i (f .decs-in) (omega (arith, f .same)))
 
   numbers : List Float
   numbers = tab (3 * length ras) (catalogueNumber ras decs)

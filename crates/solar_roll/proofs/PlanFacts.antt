@@ -98,6 +98,7 @@ pub all-unit : (n : ℕ) (targets : List Float) → length targets ≡ 3 * n →
 unfolding anyNotUnit
 all-unit n targets l h = any-none (length targets / 3) _ (λ i k. h i (omega arith))
 
+-- the two tests
 pub direction-passes : (targets : List Float) → badDirection targets ≡ false → anyNotUnit targets ≡ false → directionRefusal targets ≡ 0
 unfolding directionRefusal
 direction-passes targets small unit = first-skip _ _ _ small ∙ first-skip _ _ _ unit ∙ first-none

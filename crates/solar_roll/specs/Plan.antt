@@ -12,7 +12,7 @@ use lib.Ieee.{Float, nan}
 use Rattle.buffers.specs.Refusal.{first, carried}
 use Rattle.float.specs.Arithmetic.{zero·0}
 use Rattle.solar_roll.specs.Vectors.{Vector}
--- a plan's lists are flat lists of triples
+-- passed on: what reads a plan's lists, which are flat lists of triples, reads them by these
 unfoldable pub use Rattle.solar_roll.specs.Vectors.{count, triple}
 use Rattle.solar_roll.specs.Roll.{sunUnit, solarOptimalRollDeg}
 use Rattle.solar_roll.specs.Cell.{optimalRoll, violates, inForce, badPosition, badDirection, anyNotUnit, numbersRefusal}

@@ -1,6 +1,7 @@
-//! Plans: poles, the Sun on the boresight and close to it, lengths at the ends of what 20 leaves, the Sun at the observer, signed zeros, panels
-//! without y-z part, tolerances at exact distances, NaN and infinite tolerances and rolls; plans whose rolls are at whole, half, quarter and eighth
-//! turns; and tables of rolls: even steps, close ones, neighbouring floats, of every size, from either zero to the number below 360.
+//! Plans: poles, the Sun on the boresight and close to it, lengths at the ends of what 20 leaves, for refusals zero vectors and other lengths,
+//! the Sun at the observer, signed zeros, panels without y-z part, tolerances at exact distances, NaN and infinite tolerances and rolls; plans
+//! whose rolls are at whole, half, quarter and eighth turns; and tables of rolls: even steps, close ones, neighbouring floats, of every size,
+//! from either zero to the number below 360.
 use crate::catalogue::beside;
 use crate::Seeded;
 use model::plan::{is_unit, squared_length, Rolls};

@@ -1,5 +1,5 @@
 //! The examples of document 01 and of requests One, Three, Four and Five against the customer's Rust. What it does not have, root, arctangent, sine,
-//! cosine, header, recovery and cost, is the plain model's, and so is all of request Seven, as it refuses nothing.
+//! cosine, header, recovery and cost, is the plain model's, and so is all of request Seven, as the Rust refuses nothing.
 use checks::examples::{
     self, extreme_plan, journal_plan, long_row, marks, plan, roll, rolls, row, table_plan, vector, windows, Asked, Asked::*,
 };

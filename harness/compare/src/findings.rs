@@ -49,11 +49,14 @@ fn refused(calls: &dyn Calls, t: &mut Tally) {
     t.known("1: a target of length 2", (ours, theirs), (Err(5), vec![1]));
 
     // The Sun dead ahead: Free, were the target of length 1; a tolerance of -1 marks what is not Free.
-    for (target, listed) in [([0.5, 0.0, 0.0], (Err(20), vec![1])), ([1.0, 0.0, 0.0], (Ok(vec![0]), vec![0]))] {
+    for (what, target, listed) in [
+        ("1: a target of half length", [0.5, 0.0, 0.0], (Err(20), vec![1])),
+        ("1: the same of length 1", [1.0, 0.0, 0.0], (Ok(vec![0]), vec![0])),
+    ] {
         let p = plan(target, [1.0, 0.0, 0.0], -1.0, None);
         let ours = calls.in_constraint_batch_at_roll(&p, Roll::Sweep(0.0), 1);
         let theirs = as_it_is(|| Oracle::new(&p, &[0]).in_constraint_batch_at_roll(Roll::Sweep(0.0)));
-        t.known("1: a target of half length", (ours, theirs), listed);
+        t.known(what, (ours, theirs), listed);
     }
 
     let p = Plan { rolls: Rolls::Even(0), ..plan([1.0, 0.0, 0.0], [0.0, 0.0, 1.0], 10.0, None) };

@@ -485,7 +485,7 @@ fn of_tolerances(t: &mut Tally) {
     }
 }
 
-/// Request Seven's targets, each beside one that is accepted, before it and behind it, in every call that lends targets: by even steps and by a
+/// Request Seven's targets, each beside one that is accepted, before it and behind it, in every call that is lent targets: by even steps and by a
 /// table, beside all of the call's own reasons and each other fault of the plan.
 fn of_directions(t: &mut Tally) {
     const GOOD: [f64; 3] = [0.0, 0.6, -0.8];
