@@ -1,9 +1,9 @@
 -- What is known of a size and of a plan that is not refused, which directions pass, and how large the number of one that is refused can be. Assumes
 -- nothing.
-use mathlib.Core.Path.{_≡_, _∙_}
+use mathlib.Core.Path.{_≡_, refl, _∙_}
 use mathlib.Core.Logic.{_↔_}
 use mathlib.Core.Bool.{Bool, false, not, _||_}
-use mathlib.Core.List.{List}
+use mathlib.Core.List.{List, [], _∷_}
 use Prim.Native.Nat.{ℕ, _*_, _/_, _%_, _≤_, _<_}
 use native.Mathlib.Omega.{arith}
 use lib.Dec.{eqb, ltb, lit<}
@@ -11,10 +11,11 @@ use lib.Ieee.{Float}
 use lib.ListN.{length}
 use Rattle.buffers.proofs.Ranges.{any-none, any-clear}
 use borrow.Author.Tests.{not-false, eqb-true, ltb-false, le-ltb}
-use Rattle.buffers.specs.Refusal.{carried}
+use Rattle.buffers.specs.Ranges.{anyBelow}
+use Rattle.buffers.specs.Refusal.{first, carried}
 use Rattle.buffers.proofs.Refusal.{first-none, first-skip, first-clear, carried-clear, given-below}
 use Rattle.buffers.proofs.Tests.{or-left, or-right}
-use Rattle.solar_roll.specs.Vectors.{count, triple}
+use Rattle.solar_roll.specs.Vectors.{vector, count, triple}
 use Rattle.solar_roll.specs.Cell.{badPosition, badDirection, notUnit, anyNotUnit, directionRefusal, numbersRefusal}
 use Rattle.solar_roll.specs.Plan.{Plan, rowsOf, timesOf, unlikeLengths, mostRows, mostTimes, mostCells, tooMany, sizesRefusal, planRefusal, PlanFacts}
 
@@ -103,7 +104,12 @@ pub direction-passes : (targets : List Float) → badDirection targets ≡ false
 unfolding directionRefusal
 direction-passes targets small unit = first-skip _ _ _ small ∙ first-skip _ _ _ unit ∙ first-none
 
--- exactly those whose components are within -1 to 1 and of which each is a unit vector, of a list as of a single triple
+-- of one direction: 5 by its components, then 20 by its length
+pub one-direction : (a b c : Float) → directionRefusal (vector a b c) ≡ first ((badDirection (vector a b c), 5) ∷ (notUnit (vector a b c), 20) ∷ [])
+unfolding directionRefusal anyNotUnit anyBelow triple
+one-direction a b c = refl
+
+-- of a list exactly those whose components are within -1 to 1 and of which each is a unit vector
 pub direction-accepted : (targets : List Float)
     → (directionRefusal targets ≡ 0) ↔ ((badDirection targets ≡ false) × ((i : ℕ) → i < count targets → notUnit (triple targets i) ≡ false))
 unfolding directionRefusal anyNotUnit
