@@ -44,7 +44,6 @@ pub fn plan(plan: &Plan, refusal: Refusal) -> Fault {
             let wrong = plan.targets.iter().position(|x| !(-1.0..=1.0).contains(x));
             wrong.map(|i| target(&plan.targets_sheet, i / 3, 1 + i % 3, "-1 to 1"))
         }
-        20 if plan.targets_sheet.form() == VECTOR_COLUMNS => not_unit(plan),
         6 => Some(format!("{}: panel reads {:?}; allowed: three finite numbers of at most 1e100 in size", plan.at("panel"), plan.panel)),
         8 => {
             let most = 4_000_000_000_000_000_000;
@@ -68,6 +67,7 @@ pub fn plan(plan: &Plan, refusal: Refusal) -> Fault {
             Some(format!("{}: rolls lists {}; allowed: {}", plan.at("rolls"), count, tried::ALLOWED))
         }
         19 => plan.rolls.table().and_then(|table| roll(plan, table)),
+        20 if plan.targets_sheet.form() == VECTOR_COLUMNS => not_unit(plan),
         _ => None,
     };
     Fault::Refused(refusal.number(), found.unwrap_or_else(|| refusal.sentence().to_owned()))

@@ -59,7 +59,6 @@ impl Refusal {
             (3, _) => "the number of rolls is not within 1 to 3,600",
             (4, _) => "a Sun or observer number is not finite or over 1e100 in size",
             (5, _) => "a target component is not within -1 to 1",
-            (20, _) => "the squared length of a target is not within 1e-9 of 1",
             (6, _) => "a component of the panel normal is not finite or over 1e100 in size",
             (7, Call::Begin | Call::Work | Call::WorkRange) => "the journal's buffer has no room for the bytes to add",
             (7, Call::Windows) => "more windows than places",
@@ -79,6 +78,7 @@ impl Refusal {
             (17, _) => "the number of tolerances is not the number of targets",
             (18, _) => "the table of rolls is empty or has more than 3,600",
             (19, _) => "a roll of the table is not within 0 to below 360, or not above the one before it",
+            (20, _) => "the squared length of a target is not within 1e-9 of 1",
             _ => "a number that this version does not know",
         }
     }
