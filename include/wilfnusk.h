@@ -74,9 +74,9 @@
  * tried rolls differ, and a journal's header does not tell: a journal begun then is swept anew, not resumed.
  *
  * Up to version 0.5.0, before request Seven (directions must be directions), targets of any length with numbers within -1 to 1 were taken. A
- * caller whose vectors were shorter or longer than 1, or had few digits, now gets -20, also for a journal that was begun with them: give the vectors more
- * digits, divide each by its length, or make them of right ascension and declination. With other numbers it is another plan, and the journal
- * is swept anew.
+ * caller whose vectors were shorter or longer than 1, or had few digits, now gets -20, also for a journal that was begun with them: give the
+ * vectors more digits, divide each by its length, or make them of right ascension and declination. With other numbers it is another plan, and
+ * the journal is swept anew.
  *
  * A cell is a target i and a time j; its number is i * times + j. A mask has one byte a cell, in this order: 1 marked (violated), 0 clear.
  * A cell is Free if no roll is better than another: the Sun is on the boresight's line, ahead or behind, or the panel's normal has no part
