@@ -70,6 +70,13 @@ sizes targets suns observers beyond h =
 
 -- ---- the numbers: none is too large, and each target is a unit vector
 
+-- directions that are not refused pass both tests
+direction-clear : (targets : List Float) → directionRefusal targets ≡ 0 → (badDirection targets ≡ false) × (anyNotUnit targets ≡ false)
+unfolding directionRefusal
+direction-clear targets h =
+    let small = first-clear _ _ _ (lit< tt) h in
+    (small .0, first-clear _ _ _ (lit< tt) (small .1) .0)
+
 pub record Numbers (targets suns observers panels : List Float) : Type 0 where
   pub suns-small : badPosition suns ≡ false
   pub observers-small : badPosition observers ≡ false
@@ -78,17 +85,17 @@ pub record Numbers (targets suns observers panels : List Float) : Type 0 where
   pub panels-small : badPosition panels ≡ false
 
 pub numbers : (targets suns observers panels : List Float) → numbersRefusal targets suns observers panels ≡ 0 → Numbers targets suns observers panels
-unfolding numbersRefusal directionRefusal
+unfolding numbersRefusal
 numbers targets suns observers panels h =
     let c1 = first-clear _ _ _ (lit< tt) h in
     let c2 = carried-clear _ _ (c1 .1) in
     let c3 = first-clear _ _ _ (lit< tt) (c2 .1) in
-    let d1 = first-clear _ _ _ (lit< tt) (c2 .0) in
+    let d = direction-clear targets (c2 .0) in
     record {
       suns-small = or-left (badPosition suns) (badPosition observers) (c1 .0);
       observers-small = or-right (badPosition suns) (badPosition observers) (c1 .0);
-      targets-small = d1 .0;
-      targets-unit = first-clear _ _ _ (lit< tt) (d1 .1) .0;
+      targets-small = d .0;
+      targets-unit = d .1;
       panels-small = c3 .0;
     }
 
@@ -112,9 +119,9 @@ one-direction a b c = refl
 -- of a list exactly those whose components are within -1 to 1 and of which each is a unit vector
 pub direction-accepted : (targets : List Float)
     → (directionRefusal targets ≡ 0) ↔ ((badDirection targets ≡ false) × ((i : ℕ) → i < count targets → notUnit (triple targets i) ≡ false))
-unfolding directionRefusal anyNotUnit
+unfolding anyNotUnit
 direction-accepted targets = (
-  λ e. let small = first-clear _ _ _ (lit< tt) e in (small .0, any-clear _ _ (first-clear _ _ _ (lit< tt) (small .1) .0)),
+  λ e. let d = direction-clear targets e in (d .0, any-clear _ _ (d .1)),
   λ w. direction-passes targets (w .0) (any-none _ _ (w .1)),
 )
 
