@@ -99,7 +99,7 @@
  * so z's position angle, from north through east, is -R. The panel's normal is given in these axes and turns with them. The optimal roll is
  * the Sun's angle in the y-z plane at roll 0, from y toward z, less the normal's, as a remainder by 360: it lies from 0 up to but not at
  * 360. At it the normal, across the boresight, points where the Sun is. A configured roll is such a roll, any number of degrees, and the tolerance an
- * arc between two of them. docs/HOST.md has a drawing.
+ * arc between two of them. docs/PLAN_FILE.md has a drawing.
  *
  * For the target 1, 0, 0 and the normal 0, 1, 0: a Sun at 0, 1, 0 (east) has the optimal roll 0; at 0, 0, 1 (north) 90; at 0, -1, 0
  * (west) 180; at 0, 0, -1 (south) 270.

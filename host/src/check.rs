@@ -166,7 +166,7 @@ fn worked_out(plan: &Plan, chunks: &[u64]) -> Result<Vec<u8>, engine::Refusal> {
 #[cfg(test)]
 mod tests {
     use super::*;
-    use crate::plan::tests::small;
+    use crate::testing::small;
     use proptest::prelude::*;
 
     fn again(sample: Option<usize>, seed: Option<u32>) -> Again {

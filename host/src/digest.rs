@@ -216,7 +216,7 @@ fn hash(words: impl IntoIterator<Item = u64>) -> String {
 #[cfg(test)]
 mod tests {
     use super::*;
-    use crate::plan::tests::plan;
+    use crate::testing::plan;
 
     const TOML: &str = "targets = \"t.csv\"\nephemeris = \"e.csv\"\nrolls = 1\ntolerance = 10\n";
     const TARGETS: &str = "name,x,y,z\nA,1,0,0\nB,0,1,0\n";

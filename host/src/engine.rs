@@ -227,7 +227,7 @@ pub fn seconds(windows: &[Window]) -> Result<f64, Refusal> {
 #[cfg(test)]
 mod tests {
     use super::*;
-    use crate::plan::tests::plan;
+    use crate::testing::plan;
 
     #[test]
     fn the_journal_of_document_01() {

@@ -156,7 +156,9 @@ fn not_unit(plan: &Plan) -> Option<String> {
 fn roll(plan: &Plan, table: &[f64]) -> Option<String> {
     // A text of 16 digits or with an exponent may be another number than it seems to be.
     let reads = |i: usize| match plan.entry("rolls", i).1 {
-        text if (text.len() > 16 || text.contains(['e', 'E'])) && text != number(table[i]) => format!("{} ({})", excerpt(text), number(table[i])),
+        text if (text.len() > 16 || text.contains(['e', 'E'])) && text != number(table[i]) => {
+            format!("{} ({})", excerpt(text), number(table[i]))
+        }
         text => text.to_owned(),
     };
     let told = |i: usize, before: &str| {
@@ -351,7 +353,7 @@ fn line_fault(plan: &Plan, line: &[u8], number: usize, seen: &mut [Option<usize>
 #[cfg(test)]
 mod tests {
     use super::*;
-    use crate::plan::tests::small;
+    use crate::testing::small;
 
     /// What is said of the plan's whole journal after this change.
     fn said(change: impl Fn(&mut Vec<u8>)) -> String {

@@ -227,7 +227,7 @@ pub fn done(journal: &[u8], chunks: usize) -> Vec<bool> {
 #[cfg(test)]
 mod tests {
     use super::*;
-    use crate::{engine, plan::tests::small};
+    use crate::{engine, testing::small};
 
     fn begun(folder: &Path) -> Journal {
         let plan = small();

@@ -487,7 +487,7 @@ impl JsonWindow {
 #[cfg(test)]
 mod tests {
     use super::*;
-    use crate::plan::tests::plan;
+    use crate::testing::plan;
     use proptest::prelude::*;
 
     /// A plan of one target, and of a time every half second.

@@ -339,7 +339,7 @@ fn sample_at(plan: &Plan, text: &str) -> Result<usize, Fault> {
 #[cfg(test)]
 mod tests {
     use super::*;
-    use crate::plan::tests::{plan, small};
+    use crate::testing::{plan, small};
 
     fn state(journal_bytes: Option<usize>, tail_bytes: usize, running: bool) -> State {
         State {

@@ -24,13 +24,17 @@ mod plan;
 mod progress;
 mod rolls;
 mod selection;
+mod settings;
 mod sheet;
 mod source;
 mod stop;
 mod svg;
 mod sweep;
+#[cfg(test)]
+mod testing;
 mod tolerance;
 mod tried;
+mod workers;
 
 use clap::{Args, CommandFactory, Parser, Subcommand};
 use fault::Fault;

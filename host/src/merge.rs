@@ -118,7 +118,7 @@ fn united(plan: &Plan, parts: &[(&Path, Vec<u8>)], told: &mut Vec<String>) -> Re
 #[cfg(test)]
 mod tests {
     use super::*;
-    use crate::{engine::LINE_BYTES, plan::tests::small};
+    use crate::{engine::LINE_BYTES, testing::small};
 
     fn journal(chunks: &[u64]) -> Vec<u8> {
         let plan = small();

@@ -130,7 +130,7 @@ pub fn can_be_written<'a>(outputs: impl Iterator<Item = (&'static str, &'a Path)
 #[cfg(test)]
 mod tests {
     use super::*;
-    use crate::plan::tests::small;
+    use crate::testing::small;
 
     fn outputs(csv: &str, json: &str) -> Outputs {
         let path = |text: &str| if text.is_empty() { None } else { Some(PathBuf::from(text)) };

@@ -3,19 +3,18 @@ use crate::{
     engine, explain,
     fault::Fault,
     files,
+    settings::{entry, Read, Values},
     sheet::{Form, Sheet},
     source::{shown, Source},
     text::{excerpt, grouped},
     tolerance::{self, Told},
-    tried::{self, Rolls},
+    tried::Rolls,
 };
-use serde::de::{Deserialize, Deserializer, MapAccess, Visitor};
 use std::{
     collections::{BTreeMap, HashMap},
-    fmt, fs, io,
+    fs, io,
     path::{Path, PathBuf},
 };
-use toml::{value::Value, Spanned};
 
 /// A target is a catalogue position in degrees, or a direction as a unit vector.
 pub const CATALOGUE_COLUMNS: Form = &["name", "ra", "dec"];
@@ -23,11 +22,8 @@ pub const VECTOR_COLUMNS: Form = &["name", "x", "y", "z"];
 pub const EPHEMERIS_COLUMNS: Form = &["time", "sun_x", "sun_y", "sun_z", "observer_x", "observer_y", "observer_z"];
 /// A target's tolerance may stand beside its position.
 pub const TOLERANCE_COLUMN: &str = "tolerance";
-const KEYS: &[&str] = &["targets", "ephemeris", "rolls", "tolerance", "panel", "configured_roll"];
 /// Lists of 65,536 tolerances and 3,600 rolls, each number with all its digits, and far more than the other keys and their comments take.
 const MOST_BYTES: u64 = 1 << 21;
-/// How deep a value may stand in others: the TOML reader calls itself for each.
-const MOST_DEPTH: usize = 16;
 
 #[derive(Debug)]
 pub struct Plan {
@@ -224,285 +220,17 @@ fn told(source: &Source, key: Option<(Read, Told, Vec<f64>)>, targets: &Sheet) -
     }
 }
 
-/// The keys and values of a TOML file in its order, a repeated key too.
-struct Pairs(Vec<(Spanned<String>, Spanned<Value>)>);
-
-impl<'de> Deserialize<'de> for Pairs {
-    fn deserialize<D: Deserializer<'de>>(deserializer: D) -> Result<Pairs, D::Error> {
-        struct Visit;
-        impl<'de> Visitor<'de> for Visit {
-            type Value = Pairs;
-            fn expecting(&self, f: &mut fmt::Formatter) -> fmt::Result {
-                f.write_str("keys and values")
-            }
-            fn visit_map<M: MapAccess<'de>>(self, mut map: M) -> Result<Pairs, M::Error> {
-                let mut pairs = Vec::new();
-                while let Some(pair) = map.next_entry()? {
-                    pairs.push(pair);
-                }
-                Ok(Pairs(pairs))
-            }
-        }
-        deserializer.deserialize_map(Visit)
-    }
-}
-
-/// The values of the TOML file, each with the place where it stands.
-struct Values<'a> {
-    source: &'a Source,
-    values: BTreeMap<String, Read>,
-    places: BTreeMap<&'static str, usize>,
-}
-
-/// A value, its first byte in the file, and its text.
-struct Read {
-    at: usize,
-    value: Value,
-    text: String,
-}
-
-impl<'a> Values<'a> {
-    fn of(source: &'a Source) -> Result<Values<'a>, Fault> {
-        shallow(source)?;
-        let no_toml = |e: toml::de::Error| {
-            let (line, column) = e.line_col().unwrap_or((0, 0));
-            let text = e.to_string();
-            // The message ends with the place, which we say first.
-            let text = text.rsplit_once(" at line ").map_or(text.as_str(), |(what, _)| what);
-            let path = shown(&source.path);
-            Fault::Files(format!("{}, line {}, column {}: {}; allowed: TOML", path, line + 1, column + 1, excerpt(text)))
-        };
-        let Pairs(read) = toml::from_str(&source.text).map_err(no_toml)?;
-        let mut values = BTreeMap::new();
-        for (key, value) in read {
-            let name = excerpt(key.get_ref());
-            if !KEYS.contains(&key.get_ref().as_str()) {
-                return Err(source.fault(key.start(), format!("`{}` is no key of a plan", name), &KEYS.join(", ")));
-            }
-            if values.contains_key(key.get_ref()) {
-                return Err(source.fault(key.start(), format!("`{}` is given twice", name), "each key once"));
-            }
-            // The reader's own start of a number is after its decimal point, and a table of dotted keys has no end.
-            let at = value_start(&source.text, key.end());
-            let text = source.text.get(at..value.end()).map_or("a table".into(), excerpt);
-            values.insert(key.into_inner(), Read { at, value: value.into_inner(), text });
-        }
-        Ok(Values { source, values, places: BTreeMap::new() })
-    }
-    fn optional(&mut self, key: &'static str) -> Option<Read> {
-        let read = self.values.remove(key)?;
-        self.places.insert(key, read.at);
-        Some(read)
-    }
-    fn needed(&mut self, key: &'static str, allowed: &str) -> Result<Read, Fault> {
-        let fault = self.source.fault(0, format!("`{}` is missing", key), allowed);
-        self.optional(key).ok_or(fault)
-    }
-    fn wrong(&self, key: &str, read: &Read, allowed: &str) -> Fault {
-        self.source.fault(read.at, format!("{} reads {}", key, read.text), allowed)
-    }
-    fn file(&mut self, key: &'static str) -> Result<String, Fault> {
-        let allowed = format!("{} = \"{}.csv\", a file named from the plan's folder", key, key);
-        match self.needed(key, &allowed)? {
-            Read { value: Value::String(file), .. } => Ok(file),
-            read => Err(self.wrong(key, &read, &allowed)),
-        }
-    }
-    fn rolls(&mut self) -> Result<Rolls, Fault> {
-        let read = self.needed("rolls", tried::ALLOWED)?;
-        match read.value {
-            Value::Integer(n) => u64::try_from(n).map(Rolls::Even).map_err(|_| self.wrong("rolls", &read, tried::ALLOWED)),
-            _ => self.list("rolls", &read, tried::ALLOWED).map(Rolls::Table),
-        }
-    }
-    fn list(&self, key: &str, read: &Read, allowed: &str) -> Result<Vec<f64>, Fault> {
-        let items = read.value.as_array().ok_or_else(|| self.wrong(key, read, allowed))?;
-        let numbers: Vec<_> = items.iter().map_while(number).collect();
-        if numbers.len() < items.len() {
-            let wrong = format!("{} reads {}, and its entry {} is no number", key, read.text, grouped(numbers.len() + 1));
-            return Err(self.source.fault(read.at, wrong, allowed));
-        }
-        Ok(numbers)
-    }
-    /// One number or a list of them, and what stands there.
-    fn tolerance(&mut self) -> Result<Option<(Read, Told, Vec<f64>)>, Fault> {
-        let read = match self.optional("tolerance") {
-            None => return Ok(None),
-            Some(read) => read,
-        };
-        if let Some(x) = number(&read.value) {
-            return Ok(Some((read, Told::Number, vec![x])));
-        }
-        let numbers = self.list("tolerance", &read, tolerance::ALLOWED)?;
-        Ok(Some((read, Told::List, numbers)))
-    }
-    fn panel(&mut self) -> Result<[f64; 3], Fault> {
-        const ALLOWED: &str = "one panel normal of three numbers, such as [0, 1, 0]";
-        let read = match self.optional("panel") {
-            None => return Ok([0.0, 1.0, 0.0]),
-            Some(read) => read,
-        };
-        let panel = match read.value.as_array().map(Vec::as_slice) {
-            Some([Value::Array(panel)]) => Some(panel.as_slice()),
-            Some(items) if items.iter().any(Value::is_array) => {
-                return Err(self.source.fault(read.at, format!("panel reads {}: several panels cannot be swept yet", read.text), ALLOWED))
-            }
-            items => items,
-        };
-        let numbers: Option<Vec<f64>> = panel.and_then(|items| items.iter().map(number).collect());
-        numbers.and_then(|v| <[f64; 3]>::try_from(v).ok()).ok_or_else(|| self.wrong("panel", &read, ALLOWED))
-    }
-    fn number(&mut self, key: &'static str) -> Result<Option<f64>, Fault> {
-        match self.optional(key) {
-            None => Ok(None),
-            Some(read) => number(&read.value).map(Some).ok_or_else(|| self.wrong(key, &read, "a number of degrees")),
-        }
-    }
-}
-
-/// Refuses what no plan has and the TOML reader would follow as deep as it goes: tables, and brackets or dots inside each other.
-/// Where a string or a bracket is wrong the TOML reader stops, so what follows need not be read as it would.
-fn shallow(source: &Source) -> Result<(), Fault> {
-    let text = source.text.as_bytes();
-    let (mut at, mut depth, mut dots, mut line_starts) = (0, 0usize, 0, true);
-    while let Some(&byte) = text.get(at) {
-        match byte {
-            b'[' if line_starts && depth == 0 => {
-                return Err(source.fault(at, "a table starts here", &format!("keys and their values: {}", KEYS.join(", "))));
-            }
-            b'[' | b'{' => depth += 1,
-            b']' | b'}' => depth = depth.saturating_sub(1),
-            b'.' => dots += 1,
-            b',' | b'=' | b'\n' => dots = 0,
-            _ => {}
-        }
-        if depth + dots > MOST_DEPTH {
-            let read = format!("values inside values, {} deep", depth + dots);
-            return Err(source.fault(at, read, &format!("at most {}", MOST_DEPTH)));
-        }
-        line_starts = byte == b'\n' || line_starts && matches!(byte, b' ' | b'\t');
-        at = match byte {
-            b'"' | b'\'' => string_end(text, at),
-            b'#' => text[at..].iter().position(|&b| b == b'\n').map_or(text.len(), |end| at + end),
-            _ => at + 1,
-        };
-    }
-    Ok(())
-}
-
-/// The byte after a string that starts here: one of three quotes ends with three, and with up to two more that are its own.
-fn string_end(text: &[u8], start: usize) -> usize {
-    let quote = text[start];
-    let quotes = |at: usize| text[at..].iter().take(5).take_while(|&&b| b == quote).count();
-    let needed = match quotes(start) {
-        1 => 1,
-        2 => return start + 2,
-        _ => 3,
-    };
-    let mut at = start + needed;
-    while at < text.len() {
-        let found = quotes(at);
-        match text[at] {
-            b'\\' if quote == b'"' => at += 2,
-            // The reader stops here.
-            b'\n' if needed == 1 => return text.len(),
-            _ if needed == 1 && found > 0 => return at + 1,
-            _ if found >= needed => return at + found,
-            _ => at += found.max(1),
-        }
-    }
-    text.len()
-}
-
-/// Where the value of a key stands: after the `=` that follows it, if one does on that line.
-fn value_start(text: &str, key_end: usize) -> usize {
-    let line = text.get(key_end..).and_then(|rest| rest.split('\n').next()).unwrap_or("");
-    match line.split_once('=') {
-        Some((before, after)) => key_end + before.len() + 1 + after.len() - after.trim_start().len(),
-        None => key_end,
-    }
-}
-
-/// The byte and the text of an entry, from 0, of the list that starts here, up to which there are numbers alone. The reader's own place of a number
-/// is after its decimal point.
-fn entry(text: &str, list: usize, number: usize) -> Option<(usize, &str)> {
-    let (mut at, mut before) = (list + 1, 0);
-    loop {
-        let rest = text.get(at..)?;
-        at += match rest.bytes().next()? {
-            b'#' => rest.find('\n')?,
-            b',' => {
-                before += 1;
-                1
-            }
-            b' ' | b'\t' | b'\r' | b'\n' => 1,
-            b']' => return None,
-            _ => {
-                let length = rest.find(|c: char| ",]#".contains(c) || c.is_whitespace()).unwrap_or(rest.len());
-                if before == number {
-                    return Some((at, &rest[..length]));
-                }
-                length
-            }
-        };
-    }
-}
-
-/// A TOML number, whole or not.
-fn number(value: &Value) -> Option<f64> {
-    match value {
-        Value::Float(x) => Some(*x),
-        Value::Integer(n) => Some(*n as f64),
-        _ => None,
-    }
-}
-
 #[cfg(test)]
-pub mod tests {
+mod tests {
     use super::*;
-    use crate::{digest::Digest, engine, explain, text::excerpt};
-    use proptest::prelude::*;
-    use std::{
-        fs,
-        time::{Duration, Instant},
+    use crate::{
+        digest::Digest,
+        engine, explain,
+        testing::{plan, with, CATALOGUE, COLUMN, EPHEMERIS, OUTSIDE, PIECES, TARGETS, TOML},
+        text::excerpt,
     };
-
-    const TARGETS: &str = "name,x,y,z\nA,1,0,0\n";
-    const CATALOGUE: &str = "name,ra,dec\nA,10,-20.5\n";
-    const OUTSIDE: &str = "name,ra,dec\nA,360,-20.5\n\"B\",360,95\n";
-    const COLUMN: &str = "name,ra,dec,tolerance\nA,360,-20.5,5\n\"B\",360,9,nan\n";
-    const EPHEMERIS: &str = "time,sun_x,sun_y,sun_z,observer_x,observer_y,observer_z\n\
-        2026-03-20T00:00:00Z,0,1,0,0,0,0\n2026-03-20T00:01:00Z,0,0,1,0,0,0\n";
-    const TOML: &str = "targets = \"t.csv\"\nephemeris = \"e.csv\"\nrolls = 1\ntolerance = 1\n";
-
-    /// A plan made of these three texts.
-    pub fn plan(toml: impl AsRef<[u8]>, targets: impl AsRef<[u8]>, ephemeris: impl AsRef<[u8]>) -> Result<Plan, Fault> {
-        let folder = tempfile::tempdir().unwrap();
-        fs::write(folder.path().join("t.csv"), targets).unwrap();
-        fs::write(folder.path().join("e.csv"), ephemeris).unwrap();
-        let path = folder.path().join("plan.toml");
-        fs::write(&path, toml).unwrap();
-        Plan::read(&path)
-    }
-    /// A plan of 5 chunks, 300 cells, whose masks have both kinds.
-    pub fn small() -> Plan {
-        let mut ephemeris = String::from("time,sun_x,sun_y,sun_z,observer_x,observer_y,observer_z\n");
-        for j in 0..100 {
-            let ((s, c), z) = ((j as f64 * 0.3).sin_cos(), (j as f64 * 0.7).cos());
-            ephemeris += &format!("2026-03-20T{:02}:{:02}:00Z,{},{},{},0,0,0\n", j / 60, j % 60, c, s, 0.4 * z);
-        }
-        let settings = "targets = \"t.csv\"\nephemeris = \"e.csv\"\nrolls = 8\ntolerance = 15\n";
-        plan(settings, "name,x,y,z\nA,1,0,0\nB,0,0.6,0.8\nC,0,-1,0\n", &ephemeris).unwrap()
-    }
-    fn with(settings: &str) -> Result<Plan, Fault> {
-        plan(&format!("targets = \"t.csv\"\nephemeris = \"e.csv\"\n{}", settings), TARGETS, EPHEMERIS)
-    }
-    fn fault(settings: &str) -> String {
-        let e = with(settings).unwrap_err();
-        assert_eq!(e.status(), 3);
-        let text = e.to_string();
-        text[text.find("plan.toml").unwrap()..].to_owned()
-    }
+    use proptest::prelude::*;
+    use std::fs;
 
     #[test]
     fn a_plan() {
@@ -526,40 +254,6 @@ pub mod tests {
             fs::write(folder.path().join(file), text).unwrap();
         }
         assert!(Plan::read(&path).unwrap().journal().ends_with("day.journal.journal"));
-    }
-    #[test]
-    fn forms_that_come_later_are_told_apart() {
-        assert!(fault("rolls = 1\ntolerance = 1\npanel = [[0, 1, 0], [0, 0, 1]]").contains("several panels cannot be swept yet"));
-    }
-    #[test]
-    fn wrong_settings() {
-        for (settings, says) in [
-            (
-                "tolerance = 1",
-                "plan.toml, line 1, column 1: `rolls` is missing; allowed: a whole number of rolls, 1 to 3600, or a list of 1 to 3600 rolls in degrees",
-            ),
-            ("rolls = 1", "plan.toml, line 1, column 1: `tolerance` is missing; allowed: one number of degrees for all targets, or a list"),
-            ("rolls = -1\ntolerance = 1", "plan.toml, line 3, column 9: rolls reads -1; allowed: a whole number"),
-            ("rolls = 1.5\ntolerance = 1", "plan.toml, line 3, column 9: rolls reads 1.5; allowed: a whole number"),
-            ("rolls = true\ntolerance = 1", "plan.toml, line 3, column 9: rolls reads true; allowed: a whole number"),
-            (
-                "rolls = [0, \"90\"]\ntolerance = 1",
-                "plan.toml, line 3, column 9: rolls reads [0, \"90\"], and its entry 2 is no number; allowed: a whole number",
-            ),
-            (
-                "rolls = [[0, 90]]\ntolerance = 1",
-                "plan.toml, line 3, column 9: rolls reads [[0, 90]], and its entry 1 is no number; allowed: a whole number",
-            ),
-            ("rolls = 1\ntolerance = \"2\"", "plan.toml, line 4, column 13: tolerance reads \"2\"; allowed: one number"),
-            ("rolls = 1\ntolerance = 1\npanel = [0, 1]", "plan.toml, line 5, column 9: panel reads [0, 1]; allowed: one panel normal"),
-            ("rolls = 1\ntolerance = 1\npanel = [0, \"y\", 0]", "plan.toml, line 5, column 9: panel reads"),
-            ("rolls = 1\ntolerence = 1", "plan.toml, line 4, column 1: `tolerence` is no key of a plan; allowed: targets, "),
-            ("rolls = 1\ntolerance = 1\nrolls = 2", "plan.toml, line 5, column 1: `rolls` is given twice; allowed: each key once"),
-            ("rolls = \ntolerance = 1", "plan.toml, line 3, column 9: "),
-        ] {
-            let text = fault(settings);
-            assert!(text.starts_with(says), "{}", text);
-        }
     }
     /// The entries of `rolls`, each with what is written after it.
     fn list(entries: &[(String, &str)]) -> String {
@@ -861,56 +555,6 @@ pub mod tests {
         assert!(text.contains("t.csv, line 1, column 1: no column `ra` in `name,right,dec`; allowed: "), "{}", text);
     }
     #[test]
-    fn deep_plans_are_refused_before_they_are_read() {
-        for (deep, at) in [
-            ("panel = ".to_owned() + &"[".repeat(100_000), "line 5, column 25"),
-            ("panel = ".to_owned() + &"{a=".repeat(100_000), "line 5, column 57"),
-            ("panel = [ # ]\n".to_owned() + &"[\n".repeat(100_000), "line 21, column 1"),
-            ("panel".to_owned() + &".a".repeat(20_000) + " = 1", "line 5, column 38"),
-            ("panel".to_owned() + &" . \"]\"".repeat(20_000) + "]", "line 5, column 103"),
-        ] {
-            let text = fault(&format!("rolls = 1\ntolerance = 1\n{}", deep));
-            assert!(text.starts_with("plan.toml, "), "{}", text);
-            assert!(text.contains("values inside values, 17 deep; allowed: at most 16"), "{}", text);
-            assert!(text.contains(at), "{}, not {}", text, at);
-        }
-        let text = fault(&format!("rolls = 1\ntolerance = 1\n \t[panel{}]", ".a".repeat(20_000)));
-        assert!(
-            text.starts_with("plan.toml, line 5, column 3: a table starts here; allowed: keys and their values: targets, "),
-            "{}",
-            text
-        );
-        // Each quote is looked at a few times, not each with all that follow.
-        let begun = Instant::now();
-        assert!(fault(&"\"".repeat(1_000_000)).starts_with("plan.toml, line 3, column "));
-        assert!(begun.elapsed() < Duration::from_secs(10));
-        // Brackets and dots that nest nothing.
-        let many = "[".repeat(100);
-        let dots = "1.5, ".repeat(100);
-        for text in [format!("# {}", many), format!("panel = [1.0, 1.0, \"{}\"]", many), format!("panel = [{}'{}']", dots, many)] {
-            let told = match with(&format!("rolls = 1\ntolerance = 1\n{}", text)) {
-                Ok(_) => String::new(),
-                Err(e) => e.to_string(),
-            };
-            assert!(!told.contains("values inside values"), "{}", told);
-        }
-    }
-    #[test]
-    fn a_message_shows_what_the_plan_reads() {
-        for (value, shown) in [
-            ("{ a = { b = 1 }, c = 2 }", "rolls reads { a = { b = 1 }, c = 2 }; allowed"),
-            ("[{a = 1}, 2]", "rolls reads [{a = 1}, 2], and its entry 1 is no number"),
-            ("\"\\u001b[2J\"", "rolls reads \"\\u001b[2J\"; allowed"),
-            ("[1,\n '2']", "rolls reads [1,\\n '2'], and its entry 2 is no number"),
-        ] {
-            let text = fault(&format!("tolerance = 1\nrolls = {}", value));
-            assert!(text.starts_with("plan.toml, line 4, column 9: ") && text.contains(shown), "{}", text);
-        }
-        let text = fault(&format!("tolerance = 1\nrolls = [{}true]", "1, ".repeat(10_000)));
-        assert!(text.len() < 300 && text.contains(" .., and its entry 10,001 is no number; "), "{}", text);
-        assert!(fault("tolerance = 1\n\"\\u001b[2J\" = 1").contains("`\\u{1b}[2J` is no key"));
-    }
-    #[test]
     fn two_targets_of_one_name_are_told() {
         let toml = "targets = \"t.csv\"\nephemeris = \"e.csv\"\nrolls = 1\ntolerance = 1\n";
         let warnings = |targets: &str| plan(toml, targets, EPHEMERIS).unwrap().warnings();
@@ -967,14 +611,6 @@ pub mod tests {
         );
     }
 
-    /// What a reader may trip over, beside bytes that are no text.
-    #[rustfmt::skip]
-    const PIECES: &[&str] = &[
-        "[", "[[", "]", "{", "}", "=", ".", ",", "\"", "\"\"\"", "'", "'''", "\\", "\\u0000", "#", "\n", "\r", "\r\n", " ", "\t", "\0",
-        "\u{1b}", "\u{a0}", "\u{3000}", "\u{feff}", "é", "targets", "rolls", "panel", "rolls=", "a.b", "0", "-1", "1.5", "1e999", "0x1f",
-        "1_000", "nan", "-inf", "true", "A,1,0,0", "9e99", ";", "00:00Z", "99:99", "ra", "dec", ",x", "ra_deg", "A,1,0", "360", "-90",
-        "5h", "5:34:31", "°", "tolerance", ",tolerance", "tolerance=", "[5, 6]", "[]", "rolls=[0, 90.5]", "[0, 359.5,\n90 # ]\n]", "360,",
-    ];
     /// An angle within a range, at its ends, just beyond them, or any number.
     fn angle(least: f64, most: f64) -> impl Strategy<Value = f64> {
         let beyond = |x: f64| if x == 0.0 { -5e-324 } else { f64::from_bits(x.to_bits() + 1) };
@@ -1003,27 +639,6 @@ pub mod tests {
         }
         bytes
     }
-    /// Reads the value of every key.
-    fn read_all(source: &Source) -> Result<(), Fault> {
-        let mut values = Values::of(source)?;
-        let faults = [
-            values.file("targets").err(),
-            values.file("ephemeris").err(),
-            values.rolls().err(),
-            values.tolerance().err(),
-            values.panel().err(),
-            values.number("configured_roll").err(),
-        ];
-        faults.into_iter().flatten().next().map_or(Ok(()), Err)
-    }
-    fn depth(value: &Value) -> usize {
-        match value {
-            Value::Array(items) => 1 + items.iter().map(depth).max().unwrap_or(0),
-            Value::Table(items) => 1 + items.values().map(depth).max().unwrap_or(0),
-            _ => 0,
-        }
-    }
-
     proptest! {
         #[test]
         fn a_changed_plan_is_read_or_refused(targets in prop::sample::select(&[TARGETS, CATALOGUE, OUTSIDE, COLUMN][..]),
@@ -1102,40 +717,6 @@ pub mod tests {
                     prop_assert!(said.starts_with(&format!("refused with 19: {}", place)), "{} {}", said, place);
                 }
                 (Some(_), Ok(())) => prop_assert!(false, "{:?}", rolls),
-            }
-        }
-        #[test]
-        fn any_toml_is_read_or_refused(pieces in prop::collection::vec(prop::sample::select(PIECES), 0..40)) {
-            let source = Source::of(Path::new("p"), pieces.concat().into()).unwrap();
-            if let Err(fault) = read_all(&source) {
-                prop_assert!(!fault.to_string().contains(|c: char| c.is_control()), "{}", fault);
-            }
-        }
-        #[test]
-        fn what_the_toml_reader_follows_is_shallow(wraps in prop::collection::vec(0usize..10, 0..24)) {
-            const WRAPS: [(&str, &str); 10] = [
-                ("[", "]"),
-                ("[\n#]\n", ",]"),
-                ("{a=", "}"),
-                ("{ a.\"b]\".c = ", "}"),
-                ("[\"]\\\"]\", ", "]"),
-                ("['\\', ", "]"),
-                ("['''\n]'']''', ", ", 1.5]"),
-                ("[\"\"\"]\\\"\"\"]\"\"\"\"\", ", "]"),
-                ("['''[''''', \"\"\"]\"\"\"\", ", "]"),
-                ("[\"\", '', ", "]"),
-            ];
-            let mut text = "1".to_owned();
-            for (before, after) in wraps.iter().map(|&i| WRAPS[i]) {
-                text = before.to_owned() + &text + after;
-            }
-            let source = Source::of(Path::new("p"), format!("panel = {}", text).into()).unwrap();
-            let read: Value = toml::from_str(&source.text).unwrap();
-            // The dots of a key are counted only until its value starts.
-            let brackets = wraps.len();
-            match shallow(&source) {
-                Ok(()) => prop_assert!(brackets <= MOST_DEPTH, "{}", depth(&read)),
-                Err(_) => prop_assert!(brackets + 2 > MOST_DEPTH),
             }
         }
     }

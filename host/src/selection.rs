@@ -97,7 +97,7 @@ fn time(text: &str) -> Result<i64, String> {
 #[cfg(test)]
 mod tests {
     use super::*;
-    use crate::plan::tests::plan;
+    use crate::testing::plan;
 
     fn of(names: &[&str]) -> Result<Vec<usize>, String> {
         let toml = "targets = \"t.csv\"\nephemeris = \"e.csv\"\nrolls = 1\ntolerance = 10\n";

@@ -110,7 +110,7 @@ pub fn nothing_violated(plan: &Plan) -> Option<String> {
 #[cfg(test)]
 mod tests {
     use super::*;
-    use crate::{engine, plan::tests::plan, tried::Rolls};
+    use crate::{engine, testing::plan, tried::Rolls};
     use proptest::prelude::*;
 
     /// A plan of one target along x, with these settings and the Sun here.

@@ -404,7 +404,7 @@ fn check_ends_with_the_cost() {
     ends("", 3, settings, &["plan.journal: this is a pipe"]);
 }
 
-/// The lines that docs/HOST.md shows are those of the example.
+/// The lines that docs/GUIDE.md shows are those of the example.
 #[test]
 fn the_document_s_example() {
     let (document, unwrapped) = document();

@@ -88,7 +88,7 @@ fn a_journal_begun_before_is_refused_with_20() {
     assert_eq!(f.read("plan.journal"), journal);
 }
 
-/// docs/HOST.md shows what is said.
+/// docs/PLAN_FILE.md shows what is said.
 #[test]
 fn the_document_has_the_message() {
     let f = folder("name,x,y,z\nAltair,1,0,0\nVega,0.122,-0.770,0.626\n", "tolerance = 15\n");

@@ -1,4 +1,4 @@
-//! Where roll 0 is and which way a roll turns, as docs/HOST.md and include/wilfnusk.h say it: by right ascension and declination, not by the
+//! Where roll 0 is and which way a roll turns, as docs/PLAN_FILE.md and include/wilfnusk.h say it: by right ascension and declination, not by the
 //! library's own axes.
 use proptest::prelude::*;
 use std::{fs, path::Path, process::Command};

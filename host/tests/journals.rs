@@ -83,7 +83,7 @@ impl Folder {
         let line = |line: &str| line.split(',').skip(columns.start).take(columns.len()).map(|x| bits(x.parse().unwrap())).collect();
         text.lines().skip(1).flat_map(|l| -> Vec<u64> { line(l) }).collect()
     }
-    /// J.plan of plan.toml with this tolerance and these targets, put together here by the rules that docs/HOST.md has.
+    /// J.plan of plan.toml with this tolerance and these targets, put together here by the rules that docs/JOURNAL.md has.
     fn digest(&self, tolerance: f64, targets: &str) -> String {
         const START: u64 = 1_773_964_800;
         // Three words; the tolerances, the panels and the rolls, each after its length.

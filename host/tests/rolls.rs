@@ -1,7 +1,7 @@
 //! `wilfnusk rolls`: the library's optimal rolls, each within 0 to 360, and which cells are Free.
 mod common;
 
-use common::Folder;
+use common::{document, Folder};
 use std::{
     fs,
     os::{
@@ -182,10 +182,10 @@ fn a_plan_without_targets_or_times_has_no_cell() {
     }
 }
 
-/// The lines that docs/HOST.md shows are those of the example.
+/// The lines that docs/GUIDE.md shows are those of the example.
 #[test]
 fn the_document_s_example() {
-    let document = fs::read_to_string(concat!(env!("CARGO_MANIFEST_DIR"), "/../docs/HOST.md")).unwrap();
+    let (document, _) = document();
     let f = small();
     f.run(&["example", "season"]).says(0, &[]);
     let told = f.run(&["rolls", "season/plan.toml"]).stdout;

@@ -363,7 +363,7 @@ fn the_longest_table() {
     told_of_another_plan(&f, "`rolls` or `tolerance` in plan.toml");
 }
 
-/// The table and the sentences that docs/HOST.md shows.
+/// The table and the sentences that docs/PLAN_FILE.md shows.
 #[test]
 fn the_document_s_examples() {
     let (document, shown) = document();
@@ -376,6 +376,6 @@ fn the_document_s_examples() {
         said.push(run(&f, "check plan.toml").stderr);
     }
     for said in said {
-        assert!(said.starts_with("wilfnusk: ") && shown.contains(said.trim_end()), "not in docs/HOST.md: {}", said);
+        assert!(said.starts_with("wilfnusk: ") && shown.contains(said.trim_end()), "not in docs/PLAN_FILE.md: {}", said);
     }
 }

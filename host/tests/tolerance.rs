@@ -239,7 +239,7 @@ fn what_is_wrong_is_told_by_every_command() {
     }
 }
 
-/// The ways and the sentences that docs/HOST.md shows.
+/// The ways and the sentences that docs/PLAN_FILE.md shows.
 #[test]
 fn the_document_s_examples() {
     let (document, shown) = document();
@@ -265,7 +265,7 @@ fn the_document_s_examples() {
         ("", &column.replace("0.5", "")),
     ] {
         let said = check(key, targets).stderr;
-        assert!(said.starts_with("wilfnusk: ") && shown.contains(said.trim_end()), "not in docs/HOST.md: {}", said);
+        assert!(said.starts_with("wilfnusk: ") && shown.contains(said.trim_end()), "not in docs/PLAN_FILE.md: {}", said);
     }
 }
 

@@ -133,9 +133,10 @@ pub fn ephemeris(times: usize) -> String {
     }
     text
 }
-/// docs/HOST.md, and the same with each run of spaces and line ends as one space.
+/// The documents on the program, one after the other, and the same with each run of spaces and line ends as one space.
 pub fn document() -> (String, String) {
-    let text = fs::read_to_string(concat!(env!("CARGO_MANIFEST_DIR"), "/../docs/HOST.md")).unwrap();
+    let read = |name| fs::read_to_string(format!("{}/../docs/{}.md", env!("CARGO_MANIFEST_DIR"), name)).unwrap();
+    let text = ["GUIDE", "PLAN_FILE", "JOURNAL", "INSTALL"].map(read).concat();
     let unwrapped = text.split_whitespace().collect::<Vec<_>>().join(" ");
     (text, unwrapped)
 }

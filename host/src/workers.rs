@@ -1,0 +1,204 @@
+//! Chunks worked out on several threads, and handed over in the order in which they were asked for.
+//!
+//! Each thread takes the next run of chunks from the list and has the library work it out into a journal of its own, which has this plan's header
+//! and nothing else: so the check of the journal before each call stays short. A run grows until it takes about `RUN`, so that what the library
+//! and the caller do once a run, a look at the plan and a write that is synced, costs little beside it.
+use crate::{
+    engine::{self, Refusal, LINE_BYTES},
+    explain,
+    fault::Fault,
+    plan::Plan,
+};
+use std::{
+    collections::BTreeMap,
+    num::NonZeroUsize,
+    ops::Range,
+    sync::{mpsc, Mutex},
+    thread,
+    time::{Duration, Instant},
+};
+
+/// About how long a run takes to work out.
+const RUN: Duration = Duration::from_millis(100);
+/// The first run, before it is known how long a chunk takes.
+const FIRST: usize = 64;
+
+/// The cores there are.
+pub fn cores() -> NonZeroUsize {
+    thread::available_parallelism().unwrap_or(NonZeroUsize::MIN)
+}
+
+/// How chunks are worked out.
+pub struct Workers {
+    pub jobs: NonZeroUsize,
+    /// The most chunks of a run; as many as take about `RUN` if there is none.
+    pub most: Option<NonZeroUsize>,
+}
+
+/// What is left to be taken, and how many chunks the next run has.
+struct Left {
+    /// The place in the list of the first chunk that no thread has taken.
+    at: usize,
+    /// The number of the next run.
+    number: usize,
+    length: usize,
+}
+
+impl Workers {
+    /// Works out the lines of these chunks. `take` is handed each run of them with its lines, in the order of the list, on the caller's thread; the first
+    /// fault that it returns ends the work, and so does `stop`, which is asked before each run: runs that were begun are then still handed over.
+    pub fn work(
+        &self,
+        plan: &Plan,
+        chunks: &[u64],
+        stop: impl Fn() -> bool + Sync,
+        mut take: impl FnMut(&[u64], &[u8]) -> Result<(), Fault>,
+    ) -> Result<(), Fault> {
+        let refused = |refusal| explain::plan(plan, refusal);
+        let header = engine::header(plan).map_err(refused)?;
+        let most = self.most.map_or(usize::MAX, NonZeroUsize::get);
+        let left = Mutex::new(Left { at: 0, number: 0, length: FIRST.min(most) });
+        let jobs = self.jobs.get().min(chunks.len()).max(1);
+        // A thread whose lines the caller does not take yet waits, so that a stop loses little.
+        let (sender, receiver) = mpsc::sync_channel(jobs);
+        let next = || {
+            let mut left = left.lock().expect("no thread panics with it");
+            if left.at == chunks.len() || stop() {
+                return None;
+            }
+            // The last runs are shared among all threads.
+            let length = left.length.min((chunks.len() - left.at + jobs - 1) / jobs);
+            let run = left.at..left.at + length;
+            left.at = run.end;
+            left.number += 1;
+            Some((left.number - 1, run))
+        };
+        let took = |length: usize, time: Duration| {
+            let fitting = (length as f64 * RUN.as_secs_f64() / time.as_secs_f64().max(1e-6)) as usize;
+            let mut left = left.lock().expect("no thread panics with it");
+            left.length = fitting.clamp(1, 4 * length).min(most);
+        };
+        thread::scope(|scope| {
+            for _ in 0..jobs {
+                let (sender, header, next, took) = (sender.clone(), &header, &next, &took);
+                scope.spawn(move || {
+                    while let Some((number, run)) = next() {
+                        let begun = Instant::now();
+                        let lines = lines_of(plan, header, &chunks[run.clone()]);
+                        took(run.len(), begun.elapsed());
+                        // The caller has ended with a fault.
+                        if sender.send((number, run, lines)).is_err() {
+                            return;
+                        }
+                    }
+                });
+            }
+            drop(sender);
+            // Dropped where a fault ends this, so that no thread waits for it to be read.
+            let receiver = receiver;
+            let mut early = BTreeMap::new();
+            let mut number = 0;
+            while let Ok((n, run, lines)) = receiver.recv() {
+                early.insert(n, (run, lines));
+                while let Some((run, lines)) = early.remove(&number) {
+                    take(&chunks[run], &lines.map_err(refused)?)?;
+                    number += 1;
+                }
+            }
+            Ok(())
+        })
+    }
+}
+
+/// The lines of these chunks, in their order.
+fn lines_of(plan: &Plan, header: &[u8], chunks: &[u64]) -> Result<Vec<u8>, Refusal> {
+    let mut lines = Vec::with_capacity(chunks.len() * LINE_BYTES as usize);
+    let mut left = chunks;
+    while !left.is_empty() {
+        let run = first_run(left);
+        let mut journal = header.to_vec();
+        journal.resize(header.len() + LINE_BYTES as usize * (run.end - run.start) as usize, 0);
+        let upto = engine::work(plan, run, &mut journal, header.len())?;
+        lines.extend_from_slice(&journal[header.len()..upto]);
+        left = &left[(upto - header.len()) / LINE_BYTES as usize..];
+    }
+    Ok(lines)
+}
+
+/// The chunks at the front of the list, as far as each follows the one before.
+fn first_run(chunks: &[u64]) -> Range<u64> {
+    let from = chunks[0];
+    let run = (from..).zip(chunks).take_while(|(next, chunk)| next == *chunk);
+    from..from + run.count() as u64
+}
+
+#[cfg(test)]
+mod tests {
+    use super::*;
+    use crate::testing::small;
+    use proptest::prelude::*;
+
+    fn runs() -> impl Strategy<Value = (Vec<u64>, usize, Option<usize>)> {
+        (Just((0..5u64).collect::<Vec<_>>()).prop_shuffle(), 1usize..7, prop_oneof![Just(None), (1usize..4).prop_map(Some)])
+    }
+
+    #[test]
+    fn a_run_ends_where_a_chunk_does_not_follow_the_one_before() {
+        assert_eq!(first_run(&[7]), 7..8);
+        assert_eq!(first_run(&[3, 4, 5, 7, 8]), 3..6);
+        assert_eq!(first_run(&[5, 4, 3]), 5..6);
+        assert_eq!(first_run(&(0..1000).collect::<Vec<_>>()), 0..1000);
+    }
+    proptest! {
+        #![proptest_config(ProptestConfig::with_cases(64))]
+        #[test]
+        fn lines_come_in_the_order_of_the_list_whatever_the_threads((order, jobs, most) in runs(), count in 0usize..=5) {
+            let plan = small();
+            let workers = Workers { jobs: NonZeroUsize::new(jobs).unwrap(), most: most.and_then(NonZeroUsize::new) };
+            let (mut chunks, mut lines) = (Vec::new(), Vec::new());
+            let done = workers.work(&plan, &order[..count], || false, |run, bytes| {
+                assert_eq!(run.len() * LINE_BYTES as usize, bytes.len());
+                chunks.extend_from_slice(run);
+                lines.extend_from_slice(bytes);
+                Ok(())
+            });
+            prop_assert!(done.is_ok());
+            prop_assert_eq!(&chunks, &order[..count]);
+            let mut journal = engine::header(&plan).unwrap();
+            for &chunk in &order[..count] {
+                let used = journal.len();
+                journal.resize(used + LINE_BYTES as usize, 0);
+                engine::work(&plan, chunk..chunk + 1, &mut journal, used).unwrap();
+            }
+            prop_assert_eq!(&journal[engine::HEADER_BYTES as usize..], &lines[..]);
+        }
+    }
+    #[test]
+    fn a_fault_ends_the_work() {
+        let workers = Workers { jobs: NonZeroUsize::new(3).unwrap(), most: NonZeroUsize::new(1) };
+        let mut taken = 0;
+        let done = workers.work(
+            &small(),
+            &[0, 1, 2, 3, 4],
+            || false,
+            |_, _| {
+                taken += 1;
+                if taken == 2 {
+                    Err(Fault::Files("no".into()))
+                } else {
+                    Ok(())
+                }
+            },
+        );
+        assert_eq!((done.unwrap_err().to_string(), taken), ("no".into(), 2));
+    }
+    #[test]
+    fn a_stop_is_asked_before_each_run() {
+        let workers = Workers { jobs: NonZeroUsize::MIN, most: NonZeroUsize::new(2) };
+        let (asked, mut taken) = (std::sync::atomic::AtomicUsize::new(0), Vec::new());
+        let stop = || asked.fetch_add(1, std::sync::atomic::Ordering::Relaxed) == 1;
+        let done = workers.work(&small(), &[4, 3, 2, 1, 0], stop, |run, _| Ok(taken.extend_from_slice(run)));
+        assert!(done.is_ok());
+        assert_eq!(taken, [4, 3]);
+    }
+}
