@@ -4,3 +4,4 @@ pub mod Calls
 pub mod NamedValues
 pub mod Shared
 pub mod Tiles
+pub mod Tolerances
