@@ -167,7 +167,7 @@ fn main() {
     if let (Some(name), Some(port)) = (&name, port) {
         return once(name, port, targets);
     }
-    println!("| | marked | a | this library | compared with | ratio | limit | met |");
+    println!("| | marked | per | this library | compared with | ratio | limit | met |");
     println!("|---|---|---|---|---|---|---|---|");
     let mut before = HashMap::new();
     let mut met = true;
