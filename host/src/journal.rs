@@ -5,6 +5,7 @@ use crate::{
     files::{fault, reason, sync_folder},
     plan::Plan,
     stop,
+    text::{counted, grouped},
 };
 use fs2::FileExt;
 use std::{
@@ -78,11 +79,11 @@ impl Journal {
         }
         if now.len() != self.used as u64 {
             return Err(Fault::Files(format!(
-                "{}: the file has {} bytes and had {} after this sweep's last write, so another program writes it; \
+                "{}: the file has {} and had {} after this sweep's last write, so another program writes it; \
                  nothing was overwritten. Find that program, then sweep again",
                 path,
-                now.len(),
-                self.used
+                counted(now.len(), "byte"),
+                grouped(self.used)
             )));
         }
         Ok(())

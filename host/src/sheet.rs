@@ -25,6 +25,8 @@ pub struct Sheet {
     names: Vec<&'static str>,
     /// For each wanted column, its number in the file.
     columns: Vec<usize>,
+    /// The columns that are not used and yet resemble a known one: the number in the file, the column's text, and the known one.
+    lookalikes: Vec<(usize, String, &'static str)>,
     /// The byte where the record starts that names the columns.
     header: usize,
     /// The wanted columns of the first rows: one row more than is allowed, so that the library sees it and refuses.
@@ -60,6 +62,7 @@ impl Sheet {
         }
         let header = start(&source, record.position());
         let (form, names, columns) = find(&source, &record, forms, beside)?;
+        let lookalikes = lookalikes(&record, forms, beside, &columns);
         let (mut records, mut rows) = (Vec::new(), 0);
         let mut last = record.position().cloned();
         while next(&mut record)? {
@@ -74,7 +77,7 @@ impl Sheet {
         if let Some(fault) = open_quote(&source, start(&source, last.as_ref())) {
             return Err(fault);
         }
-        Ok(Sheet { source, form, names, columns, header, records, rows })
+        Ok(Sheet { source, form, names, columns, lookalikes, header, records, rows })
     }
     pub fn form(&self) -> Form {
         self.form
@@ -86,6 +89,24 @@ impl Sheet {
     /// Where a wanted column is named.
     pub fn column_at(&self, column: usize) -> String {
         self.source.at(place(&self.source.text, self.header, self.columns[column], 0))
+    }
+    /// A warning for each of the first columns that are not used and yet resemble a known one.
+    pub fn warnings(&self) -> Vec<String> {
+        const NAMED: usize = 5;
+        let place = |column: usize| self.source.at(place(&self.source.text, self.header, column, 0));
+        let warning = |(column, text, known): &(usize, String, &'static str)| {
+            let instead = if self.column(known).is_some() { format!("`{}` is", known) } else { format!("did you mean `{}`?", known) };
+            format!("{}: column `{}` is not used; {}", place(*column), excerpt(text), instead)
+        };
+        let mut warnings: Vec<_> = self.lookalikes.iter().take(NAMED).map(warning).collect();
+        if self.lookalikes.len() > NAMED {
+            let (count, path) = (self.lookalikes.len() - NAMED, shown(&self.source.path));
+            warnings.push(match count {
+                1 => format!("{}: 1 more column is not used and resembles a known one", path),
+                _ => format!("{}: {} more columns are not used and resemble known ones", path, grouped(count)),
+            });
+        }
+        warnings
     }
     /// How many rows the file has.
     pub fn len(&self) -> usize {
@@ -210,6 +231,27 @@ fn rename(header: &StringRecord, wanted: &[&str]) -> String {
         }
     }
     text
+}
+
+/// Words that say in which unit or scale a column is.
+const UNITS: [&str; 16] =
+    ["deg", "degs", "degree", "degrees", "h", "hr", "hrs", "hour", "hours", "rad", "radians", "km", "m", "au", "utc", "iso"];
+
+/// The columns that are not used and resemble a known one: it is left of the name without capitals, spaces, signs and units.
+fn lookalikes(header: &StringRecord, forms: &[Form], beside: &[&'static str], used: &[usize]) -> Vec<(usize, String, &'static str)> {
+    let plain = |name: &str| name.chars().filter(char::is_ascii_alphanumeric).collect::<String>().to_ascii_lowercase();
+    let known: Vec<_> = forms.iter().copied().flatten().chain(beside).copied().collect();
+    let resembled = |column: &str| {
+        let column = column.to_ascii_lowercase();
+        let words: Vec<_> = column.split(|c: char| !c.is_ascii_alphanumeric()).filter(|word| !word.is_empty()).collect();
+        let units = words.iter().rev().take_while(|word| UNITS.contains(word)).count();
+        let text = words[..words.len() - units].concat();
+        let text = text.strip_suffix("degrees").or(text.strip_suffix("deg")).unwrap_or(&text);
+        let other = |name: &str| OTHER_NAMES.iter().any(|(known, others)| *known == name && others.contains(&text));
+        known.iter().copied().find(|name| plain(name) == text || other(name))
+    };
+    let unused = header.iter().enumerate().filter(|(i, _)| !used.contains(i));
+    unused.filter_map(|(i, column)| Some((i, column.to_owned(), resembled(column)?))).collect()
 }
 
 /// Where a record starts: after the line ends and the comments that the position still has before it.
