@@ -8,6 +8,7 @@ use crate::{
     files, instant,
     plan::{CATALOGUE_COLUMNS, EPHEMERIS_COLUMNS, TOLERANCE_COLUMN, VECTOR_COLUMNS},
     say,
+    source::shown,
     text::{counted, number, quoted},
 };
 use clap::{Arg, ArgAction, Args};
@@ -102,7 +103,7 @@ impl Example {
         };
         write(&self.folder, &texts)?;
         let plan = self.folder.join("plan.toml");
-        say(format_args!("wrote {}, targets.csv and ephemeris.csv\nnext: wilfnusk sweep {}", plan.display(), quoted(&plan)))
+        say(format_args!("wrote {}, targets.csv and ephemeris.csv\nnext: wilfnusk sweep {}", shown(&plan), quoted(&plan)))
     }
 }
 
@@ -113,7 +114,7 @@ fn write(folder: &Path, texts: &Texts) -> Result<(), Fault> {
     for (name, _) in &contents {
         let path = folder.join(name);
         if path.exists() {
-            return Err(Fault::Files(format!("{}: the file exists, and nothing was written; name another folder", path.display())));
+            return Err(Fault::Files(format!("{}: the file exists, and nothing was written; name another folder", shown(&path))));
         }
     }
     for (name, text) in &contents {

@@ -11,6 +11,7 @@ use crate::{
     progress::Progress,
     remarks::tell_remarks,
     selection::{Selected, Selection},
+    source::shown,
     stop,
     text::{counted, grouped, ranges},
     Files,
@@ -128,7 +129,7 @@ impl Sweep {
     fn end(&self, plan: &Plan, journal: &Journal, selected: Selected) -> Result<(), Fault> {
         let has_line = done(journal.used(), plan.chunks());
         let count = has_line.iter().filter(|&&d| d).count();
-        let about = format!("{}: {} of {} chunks have a line", journal.path.display(), grouped(count), grouped(plan.chunks()));
+        let about = format!("{}: {} of {} chunks have a line", shown(&journal.path), grouped(count), grouped(plan.chunks()));
         if stop::asked() {
             let unwritten = self.outputs.unwritten().map_or(String::new(), |what| format!("\n{}", what));
             return Err(Fault::Stopped(format!("stopped. {}; the same command goes on{}", about, unwritten)));
@@ -167,7 +168,7 @@ fn start(plan: &Plan, journal: &mut Journal) -> Result<(), Fault> {
     }
     journal.shorten(keep)?;
     if keep < found {
-        tell!("recovered {}: removed {} of a write that did not end", journal.path.display(), counted(found - keep, "byte"));
+        tell!("recovered {}: removed {} of a write that did not end", shown(&journal.path), counted(found - keep, "byte"));
     }
     // Without a line nothing depends on the digest: it is made this plan's, before the first line can follow.
     if keep <= HEADER_BYTES as usize {
