@@ -8,10 +8,11 @@ use crate::{
     journal::{chunk_of, lines, look, Journal},
     look::about,
     plan::Plan,
+    remarks::{remarks, sun},
     say,
+    source::shown,
     sweep::first_run,
     text::grouped,
-    tolerance::nothing_violated,
     Files,
 };
 use clap::Args;
@@ -47,7 +48,7 @@ impl Check {
     pub fn run(&self) -> Result<(), Fault> {
         let (plan, path) = self.files.read()?;
         // The digest is written though nobody reads what is said.
-        let said = say(about(&plan)).and_then(|()| nothing_violated(&plan).map_or(Ok(()), say));
+        let said = say(about(&plan)).and_then(|()| sun(&plan).into_iter().chain(remarks(&plan)).try_for_each(say));
         if !self.write_digest {
             said?;
         }
@@ -58,7 +59,7 @@ impl Check {
     }
     fn journal(&self, plan: &Plan, path: &Path) -> Result<(), Fault> {
         if !path.exists() {
-            return say(format_args!("accepted; {} is not begun", path.display()));
+            return say(format_args!("accepted; {} is not begun", shown(path)));
         }
         // Where the digest is to be written, nobody else adds a line meanwhile.
         let locked = if self.write_digest { Some(Journal::open(path, plan, false)?) } else { None };
@@ -73,13 +74,13 @@ impl Check {
         let digest = Digest::path(path);
         if has_lines && !known && self.write_digest {
             Digest::of(plan).write(path)?;
-            tell!("wrote {}", digest.display());
+            tell!("wrote {}", shown(&digest));
         } else if has_lines && !known && self.again.recompute {
-            tell!("warning: {} is missing; --recompute --write-digest writes it if every line is the same", digest.display());
+            tell!("warning: {} is missing; --recompute --write-digest writes it if every line is the same", shown(&digest));
         }
         sentences.into_iter().try_for_each(say)?;
         let known = if known { ", and the files are those it was begun with" } else { "" };
-        say(format_args!("accepted; {} is right{}", path.display(), known))
+        say(format_args!("accepted; {} is right{}", shown(path), known))
     }
 }
 
@@ -121,7 +122,7 @@ impl Again {
                 digits(again)
             )
         };
-        let looked_at = format!("{}: {} worked out again", path.display(), how);
+        let looked_at = format!("{}: {} worked out again", shown(path), how);
         Ok(vec![Held { looked_at, differ: differ.into_iter().map(sentence).collect() }])
     }
 }

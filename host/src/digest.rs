@@ -144,8 +144,8 @@ pub fn is_known(plan: &Plan, journal: &Path) -> Result<bool, Fault> {
         "{}: its numbers are not those that {} was begun with, as {} shows; put the old file back, or sweep the new one \
          into a journal of its own with --journal",
         changed.join(", "),
-        journal.display(),
-        Digest::path(journal).display()
+        shown(journal),
+        shown(&Digest::path(journal))
     )))
 }
 
@@ -171,8 +171,8 @@ pub fn same_plan(plan: &Plan, journal: &Path) -> Result<bool, Fault> {
     if !known {
         tell!(
             "warning: {} is missing: nothing tells whether {} was made from these targets, positions, tolerances and rolls. To work every line out again: {} --recompute",
-            Digest::path(journal).display(),
-            journal.display(),
+            shown(&Digest::path(journal)),
+            shown(journal),
             explain::command("check", plan, journal)
         );
     }

@@ -8,6 +8,7 @@ use crate::{
     files, instant,
     plan::{CATALOGUE_COLUMNS, EPHEMERIS_COLUMNS, TOLERANCE_COLUMN, VECTOR_COLUMNS},
     say,
+    source::shown,
     text::{counted, number, quoted},
 };
 use clap::{Arg, ArgAction, Args};
@@ -102,7 +103,7 @@ impl Example {
         };
         write(&self.folder, &texts)?;
         let plan = self.folder.join("plan.toml");
-        say(format_args!("wrote {}, targets.csv and ephemeris.csv\nnext: wilfnusk sweep {}", plan.display(), quoted(&plan)))
+        say(format_args!("wrote {}, targets.csv and ephemeris.csv\nnext: wilfnusk sweep {}", shown(&plan), quoted(&plan)))
     }
 }
 
@@ -113,7 +114,7 @@ fn write(folder: &Path, texts: &Texts) -> Result<(), Fault> {
     for (name, _) in &contents {
         let path = folder.join(name);
         if path.exists() {
-            return Err(Fault::Files(format!("{}: the file exists, and nothing was written; name another folder", path.display())));
+            return Err(Fault::Files(format!("{}: the file exists, and nothing was written; name another folder", shown(&path))));
         }
     }
     for (name, text) in &contents {
@@ -276,10 +277,10 @@ mod tests {
         assert_eq!(plan.rolls.table(), Some(&[0.0, 15.5, 47.0][..]));
     }
     #[test]
-    fn is_a_plan() {
+    fn is_a_plan_without_a_warning() {
         let plan = read();
         assert_eq!((plan.names.len(), plan.times.len(), plan.chunks()), (16, 1440, 360));
-        assert_eq!(crate::tolerance::nothing_violated(&plan), None);
+        assert_eq!((plan.warnings(), crate::remarks::remarks(&plan)), (vec![], vec![]));
     }
     /// A cell is clear while the optimal roll, which turns slowly, is within 5 degrees of a multiple of 15: two thirds of the cells, in windows
     /// of many samples. Near the ecliptic's pole the roll turns a degree a day: ten days clear, five violated.

@@ -7,6 +7,7 @@ use crate::{
     journal::{chunk_of, hex, lines},
     plan::{Plan, VECTOR_COLUMNS},
     sheet::Sheet,
+    source::shown,
     text::{counted, excerpt, grouped, number, quoted},
     tolerance, tried,
 };
@@ -30,9 +31,9 @@ pub fn plan(plan: &Plan, refusal: Refusal) -> Fault {
     let found = match refusal.number() {
         2 => Some(format!(
             "{} has {} targets and {} has {} times, {} cells; allowed: {}",
-            plan.targets_sheet.source.path.display(),
+            shown(&plan.targets_sheet.source.path),
             grouped(plan.targets_sheet.len()),
-            plan.ephemeris_sheet.source.path.display(),
+            shown(&plan.ephemeris_sheet.source.path),
             grouped(plan.ephemeris_sheet.len()),
             grouped(plan.targets_sheet.len() * plan.ephemeris_sheet.len()),
             SIZES
@@ -44,7 +45,9 @@ pub fn plan(plan: &Plan, refusal: Refusal) -> Fault {
             let wrong = plan.targets.iter().position(|x| !(-1.0..=1.0).contains(x));
             wrong.map(|i| target(&plan.targets_sheet, i / 3, 1 + i % 3, "-1 to 1"))
         }
-        6 => Some(format!("{}: panel reads {:?}; allowed: three finite numbers of at most 1e100 in size", plan.at("panel"), plan.panel)),
+        6 => {
+            Some(format!("{}: panel reads {}; allowed: three finite numbers of at most 1e100 in size", plan.at("panel"), plan.panel_text()))
+        }
         8 => {
             let most = 4_000_000_000_000_000_000;
             plan.times.iter().position(|t| !(-most..=most).contains(t)).map(|i| {
@@ -58,7 +61,7 @@ pub fn plan(plan: &Plan, refusal: Refusal) -> Fault {
             "{}: tolerance lists {}, and {} has {}; allowed: {}",
             plan.at("tolerance"),
             counted(plan.tolerances.len(), "number"),
-            plan.targets_sheet.source.path.display(),
+            shown(&plan.targets_sheet.source.path),
             counted(plan.names.len(), "target"),
             tolerance::ALLOWED
         )),
@@ -200,7 +203,7 @@ pub fn journal(p: &Plan, path: &Path, bytes: &[u8], refusal: Refusal) -> Fault {
             15,
             format!(
                 "{}: {} of {} chunks have a line; `{}` works out the rest",
-                path.display(),
+                shown(path),
                 grouped(done()),
                 grouped(p.chunks()),
                 command("sweep", p, path)
@@ -217,14 +220,14 @@ fn damage(plan: &Plan, path: &Path, bytes: &[u8]) -> String {
     let header = engine::header(plan).unwrap_or_default();
     let length = bytes.len().min(HEADER_BYTES as usize);
     if header[..length] != bytes[..length] {
-        return format!("{}: the header is not this plan's; nothing was changed\n{}", path.display(), header_faults(&header, bytes));
+        return format!("{}: the header is not this plan's; nothing was changed\n{}", shown(path), header_faults(&header, bytes));
     }
     let mut seen = vec![None; plan.chunks()];
     let faults: Vec<_> =
         lines(bytes).enumerate().filter_map(|(i, line)| line_fault(plan, line, i, &mut seen).map(|fault| (i, fault))).collect();
     let mut text = format!(
         "{}: {} of its {} lines {} not right; nothing was changed",
-        path.display(),
+        shown(path),
         grouped(faults.len()),
         grouped(lines(bytes).count()),
         if faults.len() == 1 { "is" } else { "are" }
@@ -296,7 +299,7 @@ fn header_faults(header: &[u8], bytes: &[u8]) -> String {
     for (name, width) in FIELDS {
         let end = (start + width).min(bytes.len());
         if start < end && bytes[start..end] != header[start..end] {
-            let (read, due) = (shown(&bytes[start..end]), shown(&header[start..end]));
+            let (read, due) = (meaning(&bytes[start..end]), meaning(&header[start..end]));
             faults.push(format!("  line 1, column {}: {} reads {}; this plan's is {}", start + 1, name, read, due));
         }
         start += width;
@@ -308,7 +311,7 @@ fn header_faults(header: &[u8], bytes: &[u8]) -> String {
 }
 
 /// A field as it stands, and the number that it means.
-fn shown(digits: &[u8]) -> String {
+fn meaning(digits: &[u8]) -> String {
     let text = String::from_utf8_lossy(digits);
     match (hex(digits), digits.len()) {
         (Some(value), 16) => format!("{} ({:?})", text, f64::from_bits(value)),

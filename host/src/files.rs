@@ -1,5 +1,5 @@
 //! What the program asks of the file system beside reading.
-use crate::fault::Fault;
+use crate::{fault::Fault, source::shown};
 use std::{
     fs::{self, File, Metadata, OpenOptions},
     io::{self, BufWriter, Write},
@@ -127,7 +127,7 @@ pub fn sync_folder(path: &Path) -> io::Result<()> {
 
 /// A fault of a file.
 pub fn fault(path: &Path, e: &io::Error) -> Fault {
-    Fault::Files(format!("{}: {}", path.display(), reason(e)))
+    Fault::Files(format!("{}: {}", shown(path), reason(e)))
 }
 
 /// What went wrong with a file, in words.

@@ -4,7 +4,9 @@ use crate::{
     fault::Fault,
     files::{fault, reason, sync_folder},
     plan::Plan,
+    source::shown,
     stop,
+    text::{counted, grouped},
 };
 use fs2::FileExt;
 use std::{
@@ -65,7 +67,7 @@ impl Journal {
     /// The file is as this process left it: nobody else wrote, shortened, removed or renamed it.
     pub fn as_left(&self) -> Result<(), Fault> {
         let now = self.file.metadata().map_err(|e| self.fault(&e))?;
-        let path = self.path.display();
+        let path = shown(&self.path);
         if now.nlink() == 0 {
             return Err(Fault::Files(format!("{}: the file was removed while this sweep wrote it", path)));
         }
@@ -78,21 +80,17 @@ impl Journal {
         }
         if now.len() != self.used as u64 {
             return Err(Fault::Files(format!(
-                "{}: the file has {} bytes and had {} after this sweep's last write, so another program writes it; \
+                "{}: the file has {} and had {} after this sweep's last write, so another program writes it; \
                  nothing was overwritten. Find that program, then sweep again",
                 path,
-                now.len(),
-                self.used
+                counted(now.len(), "byte"),
+                grouped(self.used)
             )));
         }
         Ok(())
     }
     fn fault(&self, e: &io::Error) -> Fault {
-        Fault::Files(format!(
-            "{}: {}; every whole line stays: once that is mended, the same command goes on",
-            self.path.display(),
-            reason(e)
-        ))
+        Fault::Files(format!("{}: {}; every whole line stays: once that is mended, the same command goes on", shown(&self.path), reason(e)))
     }
 }
 
@@ -115,7 +113,7 @@ fn locked(path: &Path, wait: bool) -> Result<File, Fault> {
     let mut told = false;
     loop {
         if path.is_dir() {
-            return Err(Fault::Files(format!("{}: this is a folder; allowed: a journal's file", path.display())));
+            return Err(Fault::Files(format!("{}: this is a folder; allowed: a journal's file", shown(path))));
         }
         let mut open = OpenOptions::new();
         let file = open.read(true).append(true).create(true).custom_flags(libc::O_NONBLOCK).open(path).map_err(|e| fault(path, &e))?;
@@ -132,12 +130,12 @@ fn locked(path: &Path, wait: bool) -> Result<File, Fault> {
                 if !wait && asked.elapsed() > Duration::from_millis(300) {
                     return Err(Fault::Files(format!(
                         "{}: another process sweeps into it; let it end, or wait for it with --wait",
-                        path.display()
+                        shown(path)
                     )));
                 }
                 if wait && !told && asked.elapsed() > Duration::from_secs(1) {
                     told = true;
-                    tell!("waiting: another process sweeps into {}", path.display());
+                    tell!("waiting: another process sweeps into {}", shown(path));
                 }
             }
             Err(e) => return Err(fault(path, &e)),
@@ -170,19 +168,14 @@ fn plain(path: &Path, file: &File) -> Result<Metadata, Fault> {
         () if kind.is_char_device() || kind.is_block_device() => "a device",
         () => "no file that keeps what is written",
     };
-    Err(Fault::Files(format!("{}: this is {}; allowed: a plain file", path.display(), what)))
+    Err(Fault::Files(format!("{}: this is {}; allowed: a plain file", shown(path), what)))
 }
 
 /// The bytes of a journal, or of what stands beside it.
 pub fn read(path: &Path, mut file: &File) -> Result<Vec<u8>, Fault> {
     let about = plain(path, file)?;
     if about.len() > MOST {
-        return Err(Fault::Files(format!(
-            "{}: {} bytes; allowed: at most {}, which no journal exceeds",
-            path.display(),
-            about.len(),
-            MOST
-        )));
+        return Err(Fault::Files(format!("{}: {} bytes; allowed: at most {}, which no journal exceeds", shown(path), about.len(), MOST)));
     }
     let mut bytes = Vec::new();
     file.read_to_end(&mut bytes).map_err(|e| fault(path, &e))?;

@@ -10,8 +10,10 @@ use crate::{
     listing::{Degrees, Listing},
     outputs::Outputs,
     plan::Plan,
+    remarks::tell_remarks,
     say, say_json,
     selection::{self, Selected, Selection},
+    source::shown,
     text::{all_ranges, counted, grouped, number, printable, ranges},
     tolerance,
     tried::Rolls,
@@ -42,9 +44,10 @@ impl Windows {
         let (plan, path) = self.files.read()?;
         let selected = self.selection.of(&plan)?;
         self.outputs.check(&plan, &path)?;
+        tell_remarks(&plan);
         if self.evaluate {
             if plan.configured_roll.is_none() {
-                return Err(Fault::Usage(format!("--evaluate: {} has no configured_roll", plan.path().display())));
+                return Err(Fault::Usage(format!("--evaluate: {} has no configured_roll", shown(plan.path()))));
             }
             let listing = Listing::of_configured_roll(&plan, selected).map_err(|(i, r)| explain::row(&plan, i, r))?;
             return self.outputs.write(&listing);
@@ -60,7 +63,7 @@ fn swept(plan: &Plan, path: &Path) -> Result<(Vec<u8>, u64), Fault> {
     if !path.exists() {
         return Err(Fault::Unfinished(format!(
             "{}: there is no such journal; `{}` makes one",
-            path.display(),
+            shown(path),
             explain::command("sweep", plan, path)
         )));
     }
@@ -170,14 +173,14 @@ impl Status {
 impl State {
     fn text(&self, about: &str, missing: &str) -> String {
         let bytes = match self.journal_bytes {
-            None => return format!("{}\njournal  {}: not begun", about, self.journal),
+            None => return format!("{}\njournal  {}: not begun", about, printable(&self.journal)),
             Some(bytes) => counted(bytes, "byte"),
         };
         let running = if self.running { ", a sweep is writing it" } else { "" };
         let mut text = format!(
             "{}\njournal  {}: {}{}\nchunks   {} of {} have a line",
             about,
-            self.journal,
+            printable(&self.journal),
             bytes,
             running,
             grouped(self.chunks_with_line),
@@ -195,15 +198,15 @@ impl State {
 
 pub fn about(plan: &Plan) -> String {
     format!(
-        "plan     {}: {}, {}, {} in {}\nsettings {}, tolerance {}, panel {:?}, configured roll {}",
-        plan.path().display(),
+        "plan     {}: {}, {}, {} in {}\nsettings {}, tolerance {}, panel {}, configured roll {}",
+        shown(plan.path()),
         counted(plan.names.len(), "target"),
         counted(plan.times.len(), "time"),
         counted(plan.cells(), "cell"),
         counted(plan.chunks(), "chunk"),
         plan.rolls.in_words(""),
         tolerance::in_words(&plan.tolerances, ""),
-        plan.panel,
+        plan.panel_text(),
         plan.configured_roll.map_or("none".to_owned(), number),
     )
 }
@@ -332,7 +335,7 @@ fn sample_at(plan: &Plan, text: &str) -> Result<usize, Fault> {
         let before = next.checked_sub(1).and_then(near);
         let around: Vec<_> = before.into_iter().chain(near(next)).collect();
         let around = if around.is_empty() { "it has none".into() } else { format!("nearest: {}", around.join(" and ")) };
-        Fault::Usage(format!("--time {}: no time of {}; {}", text, plan.ephemeris_file, around))
+        Fault::Usage(format!("--time {}: no time of {}; {}", text, printable(&plan.ephemeris_file), around))
     })
 }
 

@@ -9,6 +9,7 @@ use crate::{
     journal::{chunk_of, lines, look},
     plan::Plan,
     say,
+    source::shown,
     text::grouped,
     Files,
 };
@@ -42,12 +43,12 @@ impl Merge {
             ));
         }
         if self.plan.extension().map_or(false, |e| e == "journal") {
-            let plan = self.plan.display();
+            let plan = shown(&self.plan);
             return Err(Fault::Usage(format!("{}: the plan comes first: wilfnusk merge PLAN.toml JOURNAL.. -o FILE", plan)));
         }
         let (plan, _) = Files { plan: self.plan.clone(), journal: None }.read()?;
         if fs::symlink_metadata(&self.output).is_ok() {
-            return Err(Fault::Files(format!("{}: the file exists, and nothing was written; name another", self.output.display())));
+            return Err(Fault::Files(format!("{}: the file exists, and nothing was written; name another", shown(&self.output))));
         }
         let mut parts = Vec::new();
         let (mut all_known, mut held) = (true, Vec::new());
@@ -69,14 +70,10 @@ impl Merge {
             Digest::of(&plan).write(&self.output)?;
         } else {
             Digest::remove(&self.output)?;
-            tell!(
-                "warning: {} has lines of unknown origin, so no {} is written",
-                self.output.display(),
-                Digest::path(&self.output).display()
-            );
+            tell!("warning: {} has lines of unknown origin, so no {} is written", shown(&self.output), shown(&Digest::path(&self.output)));
         }
         write_whole(&self.output, &merged)?;
-        told.push(format!("{}: {} lines", self.output.display(), grouped(lines(&merged).count())));
+        told.push(format!("{}: {} lines", shown(&self.output), grouped(lines(&merged).count())));
         told.into_iter().try_for_each(say)
     }
 }
@@ -101,16 +98,16 @@ fn united(plan: &Plan, parts: &[(&Path, Vec<u8>)], told: &mut Vec<String>) -> Re
                          {} in {}, line {}",
                         chunk,
                         digits(theirs),
-                        other.display(),
+                        shown(other),
                         j + 2,
                         digits(line),
-                        path.display(),
+                        shown(path),
                         i + 2
                     )));
                 }
             }
         }
-        told.push(format!("{}: {} lines, {} of them new", path.display(), grouped(lines(bytes).count()), grouped(from.len() - before)));
+        told.push(format!("{}: {} lines, {} of them new", shown(path), grouped(lines(bytes).count()), grouped(from.len() - before)));
     }
     Ok(merged)
 }

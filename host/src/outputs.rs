@@ -5,6 +5,7 @@ use crate::{
     files::{self, buffered, write_output, Place},
     listing::Listing,
     plan::Plan,
+    source::shown,
     svg,
 };
 use clap::Args;
@@ -72,7 +73,7 @@ impl Outputs {
         let (on_stdout, to_files): (Vec<_>, Vec<_>) = self.asked().into_iter().partition(Asked::on_stdout);
         for Asked { path, write, .. } in &to_files {
             write_output(path, |out| write(listing, out))?;
-            tell!("wrote {}", path.display());
+            tell!("wrote {}", shown(path));
         }
         let table = !self.quiet && on_stdout.is_empty();
         if !table && !self.asked().is_empty() {
@@ -89,7 +90,7 @@ impl Outputs {
     }
     /// What a sweep that lacks lines leaves unwritten, in words.
     pub fn unwritten(&self) -> Option<String> {
-        let files: Vec<_> = self.asked().iter().map(|asked| format!("{} {}", asked.option, asked.path.display())).collect();
+        let files: Vec<_> = self.asked().iter().map(|asked| format!("{} {}", asked.option, shown(&asked.path))).collect();
         if files.is_empty() {
             return None;
         }
@@ -113,7 +114,7 @@ pub fn can_be_written<'a>(outputs: impl Iterator<Item = (&'static str, &'a Path)
     let open = |fd: BorrowedFd| fd.try_clone_to_owned().ok().map(File::from);
     let streams = [("standard output", open(io::stdout().as_fd())), ("standard error", open(io::stderr().as_fd()))];
     for (option, path) in outputs {
-        let usage = |text: String| Err(Fault::Usage(format!("{} {}: {}", option, path.display(), text)));
+        let usage = |text: String| Err(Fault::Usage(format!("{} {}: {}", option, shown(path), text)));
         let place = Place::of(path).map_err(|e| files::fault(path, &e))?;
         if let Some((what, _)) = taken.iter().find(|(_, other)| place.is(other)) {
             return usage(format!("this is the file of {}; name another", what));

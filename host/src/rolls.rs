@@ -7,6 +7,7 @@ use crate::{
     outputs::can_be_written,
     plan::Plan,
     selection::{Selected, Selection},
+    source::shown,
     text::number,
     Files,
 };
@@ -42,7 +43,7 @@ impl Rolls {
             return buffered(io::stdout().lock(), write).map_err(Fault::output);
         }
         write_output(&self.csv, write)?;
-        tell!("wrote {}", self.csv.display());
+        tell!("wrote {}", shown(&self.csv));
         Ok(())
     }
 }

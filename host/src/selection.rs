@@ -82,7 +82,7 @@ pub fn targets(names: &[String], plan: &Plan) -> Result<Vec<usize>, Fault> {
             return Err(Fault::Usage(format!(
                 "--target {}: no target of {} has that name{}; allowed: a name as it stands there, or a pattern with *, ? and [ab]",
                 printable(name),
-                plan.targets_file,
+                printable(&plan.targets_file),
                 wrong
             )));
         }

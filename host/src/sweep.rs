@@ -9,10 +9,11 @@ use crate::{
     outputs::Outputs,
     plan::Plan,
     progress::Progress,
+    remarks::tell_remarks,
     selection::{Selected, Selection},
+    source::shown,
     stop,
     text::{counted, grouped, ranges},
-    tolerance::nothing_violated,
     Files,
 };
 use clap::Args;
@@ -86,9 +87,7 @@ impl Sweep {
         let asked = self.asked(&plan)?;
         let selected = self.selection.of(&plan)?;
         self.outputs.check(&plan, &path)?;
-        if let Some(text) = nothing_violated(&plan) {
-            tell!("{}", text);
-        }
+        tell_remarks(&plan);
         stop::listen();
         let mut journal = Journal::open(&path, &plan, self.wait)?;
         start(&plan, &mut journal)?;
@@ -130,7 +129,7 @@ impl Sweep {
     fn end(&self, plan: &Plan, journal: &Journal, selected: Selected) -> Result<(), Fault> {
         let has_line = done(journal.used(), plan.chunks());
         let count = has_line.iter().filter(|&&d| d).count();
-        let about = format!("{}: {} of {} chunks have a line", journal.path.display(), grouped(count), grouped(plan.chunks()));
+        let about = format!("{}: {} of {} chunks have a line", shown(&journal.path), grouped(count), grouped(plan.chunks()));
         if stop::asked() {
             let unwritten = self.outputs.unwritten().map_or(String::new(), |what| format!("\n{}", what));
             return Err(Fault::Stopped(format!("stopped. {}; the same command goes on{}", about, unwritten)));
@@ -169,7 +168,7 @@ fn start(plan: &Plan, journal: &mut Journal) -> Result<(), Fault> {
     }
     journal.shorten(keep)?;
     if keep < found {
-        tell!("recovered {}: {} bytes of a write that did not end are gone", journal.path.display(), found - keep);
+        tell!("recovered {}: removed {} of a write that did not end", shown(&journal.path), counted(found - keep, "byte"));
     }
     // Without a line nothing depends on the digest: it is made this plan's, before the first line can follow.
     if keep <= HEADER_BYTES as usize {

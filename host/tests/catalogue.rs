@@ -65,16 +65,16 @@ fn every_command_does_the_same_by_either_form() {
         assert!(names.iter().any(|name| name == made), "{} is missing", made);
     }
     assert!(but_targets(&by_position) == but_targets(&by_vector), "a file differs");
-    // The marks depend on the directions, so that the comparison says something.
+    // The marks depend on the directions, so the comparison can fail.
     let mask = by_position.run(&["mask", "plan.toml"]).stdout;
     let rows: Vec<_> = mask.lines().map(|line| line.split(' ').next().unwrap()).collect();
     assert!(rows.len() == 5 && rows.iter().all(|row| row.contains('0') && row.contains('1')), "{}", mask);
-    // To both poles the Sun is at rolls that the eight tell alike.
+    // For both poles the Sun is at rolls that the eight do not distinguish.
     assert_eq!(rows.iter().collect::<BTreeSet<_>>().len(), 4, "{}", mask);
 }
 
 #[test]
-fn a_sweep_goes_on_by_the_other_form() {
+fn a_sweep_continues_with_the_other_form() {
     let unbroken = folder(&positions()).swept();
     for (first, second) in [(positions(), vectors()), (vectors(), positions())] {
         let f = folder(&first);
@@ -101,10 +101,9 @@ fn another_position_is_another_plan() {
     assert_eq!(f.read("plan.journal"), journal);
 }
 
-/// Every command that reads a plan says so and writes nothing.
 #[test]
-fn what_is_wrong_is_told_by_every_command() {
-    let told = |text: &str| format!("wilfnusk: {}\n", text);
+fn every_command_refuses_wrong_positions() {
+    let message = |text: &str| format!("wilfnusk: {}\n", text);
     const FORMS: &str =
         "; allowed: a first line that names the columns name,ra,dec or name,x,y,z, with commas between them; a line that starts \
         with # is a comment";
@@ -172,7 +171,7 @@ fn what_is_wrong_is_told_by_every_command() {
         let before = f.all();
         for words in COMMANDS {
             let ended = f.run(&words.split(' ').collect::<Vec<_>>());
-            assert_eq!((ended.status, ended.stdout, ended.stderr), (status, String::new(), told(&says)), "{}", words);
+            assert_eq!((ended.status, ended.stdout, ended.stderr), (status, String::new(), message(&says)), "{}", words);
         }
         assert!(f.all() == before, "a file was written: {}", says);
     }

@@ -23,9 +23,9 @@ fn by_numbers(f: &Folder, (targets, times, rolls): (u64, u64, u64), more: &str) 
     done(f, &format!("cost --targets {} --times {} --rolls {}{}", targets, times, rolls, more))
 }
 
-/// Worked out by hand: 107 bytes and 33 a chunk of 64 cells; one roll a cell, and n.
+/// Computed by hand: 107 bytes, and 33 per chunk of 64 cells; one roll per cell at least, and n at most.
 #[test]
-fn the_figures() {
+fn the_cost_is_that_computed_by_hand() {
     let f = empty();
     for (size, [chunks, bytes, fewest, most], line) in [
         ((0, 0, 1), [0u64, 107, 0, 0], "0 chunks, a journal of 107 bytes, at least 0 and at most 0 rolls tried"),
@@ -84,7 +84,7 @@ const REFUSED: [(&str, &str, &str, u8, &str); 12] = [
 ];
 
 #[test]
-fn sizes_that_are_refused() {
+fn sizes_beyond_the_limits_are_refused() {
     let f = empty();
     for (targets, times, rolls, number, says) in REFUSED {
         let size = format!("--targets {} --times {} --rolls {}", targets, times, rolls);
@@ -104,7 +104,7 @@ fn sizes_that_are_refused() {
 }
 
 #[test]
-fn what_the_command_line_cannot_ask_for() {
+fn wrong_command_lines_end_with_2() {
     let f = Folder::new(&["A"], "01", "tolerance = 10\n");
     let before = f.all();
     const NUMBER: &str = "allowed: a whole number in plain digits: at most 65536 targets or times, 1 to 3600 rolls";
@@ -154,7 +154,7 @@ fn what_the_command_line_cannot_ask_for() {
 
 /// A plan's cost is that of its size, whatever else is in it; a journal is not looked at.
 #[test]
-fn plan_and_numbers_say_the_same() {
+fn a_plan_costs_what_its_size_costs() {
     for (names, marks, settings, size) in [
         (&["A", "B"][..], "0110", "tolerance = 10\n", (2, 4, 1)),
         (&["A"], "0110", "tolerance = nan\nconfigured_roll = nan\npanel = [5, 0, 0]\n", (1, 4, 1)),
@@ -184,7 +184,7 @@ fn plan_and_numbers_say_the_same() {
 }
 
 #[test]
-fn plans_that_are_refused() {
+fn a_refused_plan_has_no_cost() {
     let f = Folder::new(&["Vega"], "01", "tolerance = 10\n");
     let toml = f.read("plan.toml");
     let refused = |status: i32, says: &[&str]| {
@@ -231,9 +231,9 @@ fn swept(f: &Folder, folder: &str) -> (u64, u64) {
     (bytes, probes)
 }
 
-/// A plan of a size that costs the most and one that costs the least are written, taken and swept: what was foretold comes out.
+/// A plan of a size that costs the most and one that costs the least are written, accepted and swept: each costs what was predicted.
 fn both_ends_are_reached(f: &Folder, size: (u64, u64, u64)) {
-    let foretold = json(&by_numbers(f, size, " --json"));
+    let predicted = json(&by_numbers(f, size, " --json"));
     let line = by_numbers(f, size, "");
     for (option, key, mark) in [("costliest", "most_probes", '1'), ("cheapest", "fewest_probes", '0')] {
         let folder = format!("{}-{}-{}-{}", option, size.0, size.1, size.2);
@@ -241,12 +241,12 @@ fn both_ends_are_reached(f: &Folder, size: (u64, u64, u64)) {
         let due = format!("wrote {0}/plan.toml, targets.csv and ephemeris.csv\nnext: wilfnusk sweep {0}/plan.toml\n", folder);
         assert_eq!((said.status, said.stdout, said.stderr.as_str()), (0, due, ""), "{}", folder);
         assert_eq!(done(f, &format!("cost {}/plan.toml", folder)), line);
-        assert_eq!(json(&done(f, &format!("cost {}/plan.toml --json", folder))), foretold);
+        assert_eq!(json(&done(f, &format!("cost {}/plan.toml --json", folder))), predicted);
         let checked = run(f, &format!("check {}/plan.toml", folder));
         assert_eq!((checked.status, checked.stderr.as_str()), (0, ""));
         assert!(checked.stdout.ends_with(&format!("accepted; {}/plan.journal is not begun\n{}", folder, line)), "{}", checked.stdout);
         let (bytes, probes) = swept(f, &folder);
-        assert_eq!((bytes, probes), (foretold["journal_bytes"].as_u64().unwrap(), foretold[key].as_u64().unwrap()), "{}", folder);
+        assert_eq!((bytes, probes), (predicted["journal_bytes"].as_u64().unwrap(), predicted[key].as_u64().unwrap()), "{}", folder);
         let mask = done(f, &format!("mask {}/plan.toml", folder));
         let marks: Vec<_> = mask.lines().map(|line| line.split(' ').next().unwrap()).collect();
         assert!(marks.len() as u64 == size.0 && marks.iter().all(|row| row.len() as u64 == size.1 && row.chars().all(|c| c == mark)));
@@ -254,7 +254,7 @@ fn both_ends_are_reached(f: &Folder, size: (u64, u64, u64)) {
 }
 
 #[test]
-fn what_is_foretold_comes_out() {
+fn the_costliest_and_the_cheapest_plan_cost_what_is_predicted() {
     let f = empty();
     for size in [
         (0, 0, 1),
@@ -275,7 +275,7 @@ fn what_is_foretold_comes_out() {
 
 /// As many cells as a plan may have, in either shape: written, read back and swept.
 #[test]
-fn the_most_cells() {
+fn plans_of_the_most_cells_cost_what_is_predicted() {
     let f = empty();
     both_ends_are_reached(&f, (65_536, 16, 3));
     both_ends_are_reached(&f, (16, 65_536, 2));
@@ -286,7 +286,7 @@ fn the_most_cells() {
 /// The numbers of the request: targets along x, the Sun along y, observers at 0, the panel along y, no roll configured, -1 or 180 everywhere. The
 /// times are a minute apart.
 #[test]
-fn the_files_of_both_plans() {
+fn the_files_of_the_costliest_and_the_cheapest_plan() {
     let f = empty();
     for (option, tolerance, cost) in [
         ("costliest", "-1", "costs more:\n# the sweep tries 120 rolls, every one at each cell"),
@@ -338,14 +338,14 @@ fn no_file_is_overwritten() {
 
 /// Of the example's season some rolls are within the tolerance and some are not.
 #[test]
-fn a_plan_in_between() {
+fn the_example_costs_between_the_fewest_and_the_most() {
     let f = empty();
     done(&f, "example season");
-    let foretold = json(&done(&f, "cost season/plan.toml --json"));
-    assert_eq!(foretold, json(&by_numbers(&f, (16, 1440, 24), " --json")));
+    let predicted = json(&done(&f, "cost season/plan.toml --json"));
+    assert_eq!(predicted, json(&by_numbers(&f, (16, 1440, 24), " --json")));
     let (bytes, probes) = swept(&f, "season");
-    assert_eq!(bytes, foretold["journal_bytes"].as_u64().unwrap());
-    assert!(foretold["fewest_probes"].as_u64().unwrap() < probes && probes < foretold["most_probes"].as_u64().unwrap(), "{}", probes);
+    assert_eq!(bytes, predicted["journal_bytes"].as_u64().unwrap());
+    assert!(predicted["fewest_probes"].as_u64().unwrap() < probes && probes < predicted["most_probes"].as_u64().unwrap(), "{}", probes);
 }
 
 /// Whatever the state of the journal, the plan that is accepted has its cost: the last line on standard output.
@@ -360,7 +360,8 @@ fn check_ends_with_the_cost() {
         assert!(ended.stdout.ends_with(&format!("{}\n{}", before, line)), "{}: {}", words, ended.stdout);
         assert_eq!(ended.stdout.matches("cost ").count(), 1, "{}", ended.stdout);
     };
-    let settings = "configured roll none";
+    // The last of the warnings on the plan: the test's Sun is not where an almanac has it.
+    let warning = "check the axes, the signs and the dates";
     ends("", 0, "accepted; plan.journal is not begun", &[]);
     ends(" --journal none/j", 0, "accepted; none/j is not begun", &[]);
     ends(" --recompute --write-digest", 0, "accepted; plan.journal is not begun", &[]);
@@ -385,28 +386,28 @@ fn check_ends_with_the_cost() {
     {
         let lock = File::open(f.path("plan.journal")).unwrap();
         lock.lock_exclusive().unwrap();
-        ends(" --recompute --write-digest", 3, settings, &["another process sweeps into it"]);
+        ends(" --recompute --write-digest", 3, warning, &["another process sweeps into it"]);
     }
     ends(" --recompute --write-digest", 0, "accepted; plan.journal is right", &["wrote plan.journal.plan"]);
     assert_eq!(f.read("plan.journal.plan"), digest);
-    // A journal that is refused, and why, is told on standard error.
+    // Why a journal is refused is printed on standard error.
     f.write("plan.journal.plan", &digest.replace("plan 3", "plan 4"));
-    ends("", 3, settings, &["a digest of version 4"]);
+    ends("", 3, warning, &["a digest of version 4"]);
     f.write("plan.journal.plan", &digest);
     let other = journal.replacen("aaaa", "5555", 1);
     assert_ne!(journal, other);
     f.write("plan.journal", &other);
-    ends(" --recompute", 1, settings, &["1 is not the same"]);
+    ends(" --recompute", 1, warning, &["1 is not the same"]);
     f.write("plan.journal", &journal.replacen("aaaa", "xxxx", 1));
-    ends("", 1, settings, &["refused with 11: plan.journal: "]);
+    ends("", 1, warning, &["refused with 11: plan.journal: "]);
     fs::remove_file(f.path("plan.journal")).unwrap();
     assert!(Command::new("mkfifo").arg(f.path("plan.journal")).status().unwrap().success());
-    ends("", 3, settings, &["plan.journal: this is a pipe"]);
+    ends("", 3, warning, &["plan.journal: this is a pipe"]);
 }
 
 /// The lines that docs/GUIDE.md shows are those of the example.
 #[test]
-fn the_document_s_example() {
+fn the_guide_s_example_of_cost_holds() {
     let (document, unwrapped) = document();
     let f = empty();
     done(&f, "example season");
@@ -422,9 +423,9 @@ fn the_document_s_example() {
 
 proptest! {
     #![proptest_config(ProptestConfig { cases: 24, failure_persistence: None, ..ProptestConfig::default() })]
-    /// Any plan's journal is as long as foretold, and its rolls are within the range whose ends the two plans of its size reach.
+    /// Any plan's journal is as long as predicted, and its rolls are within the range whose ends the two plans of its size reach.
     #[test]
-    fn any_plan_costs_what_is_foretold(
+    fn any_plan_costs_what_is_predicted(
         tolerances in prop::collection::vec(prop_oneof![Just(-1.0), Just(180.0), Just(f64::NAN), -5.0..60.0f64], 0..5),
         suns in prop::collection::vec((-1.0..1.0f64, -1.0..1.0f64, -1.0..1.0f64), 0..50),
         rolls in 1u64..25,
@@ -438,11 +439,11 @@ proptest! {
         let rows = suns.iter().enumerate().map(|(j, (x, y, z))| format!("2026-03-20T00:{:02}:00Z,{:?},{:?},{:?},0,0,0\n", j, x, y, z));
         f.write("e.csv", &format!("{}{}", EPHEMERIS, rows.collect::<String>()));
         let size = (tolerances.len() as u64, suns.len() as u64, rolls);
-        let foretold = json(&done(&f, "cost plan.toml --json"));
-        prop_assert_eq!(&foretold, &json(&by_numbers(&f, size, " --json")));
+        let predicted = json(&done(&f, "cost plan.toml --json"));
+        prop_assert_eq!(&predicted, &json(&by_numbers(&f, size, " --json")));
         let (bytes, probes) = swept(&f, ".");
-        prop_assert_eq!(bytes, foretold["journal_bytes"].as_u64().unwrap());
-        let (fewest, most) = (foretold["fewest_probes"].as_u64().unwrap(), foretold["most_probes"].as_u64().unwrap());
+        prop_assert_eq!(bytes, predicted["journal_bytes"].as_u64().unwrap());
+        let (fewest, most) = (predicted["fewest_probes"].as_u64().unwrap(), predicted["most_probes"].as_u64().unwrap());
         prop_assert!(fewest <= probes && probes <= most, "{} is not within {} to {}", probes, fewest, most);
         both_ends_are_reached(&f, size);
     }

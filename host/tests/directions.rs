@@ -1,4 +1,4 @@
-//! Whole commands on targets by x, y, z that are no unit vectors, or not to enough digits: each is told, and nothing is written.
+//! Whole commands on targets by x, y, z that are not unit vectors, or not to enough digits: each is refused, and nothing is written.
 mod common;
 
 use common::{document, done, ephemeris, run, told_by_every_command, Folder};
@@ -14,7 +14,7 @@ fn folder(targets: &str, more: &str) -> Folder {
     f
 }
 
-/// Vega and the Crab Nebula, with so many digits a number.
+/// Vega and the Crab Nebula, with so many digits per number.
 fn rounded(digits: usize) -> String {
     let mut v = [0.0; 6];
     wilfnusk::radec_to_unit_vectors_batch(&[279.234735, 83.633], &[38.783689, 22.0145], &mut v).unwrap();
@@ -23,7 +23,7 @@ fn rounded(digits: usize) -> String {
 }
 
 #[test]
-fn the_first_target_that_is_no_unit_vector_is_told() {
+fn the_first_target_that_is_not_a_unit_vector_is_named() {
     for (targets, says) in [
         ("name,x,y,z\nA,0.5,0,0\n", "line 2, column 3: x, y, z of target `A` have the squared length 0.25"),
         ("name,x,y,z\nA,0,0,0\n", "line 2, column 3: x, y, z of target `A` have the squared length 0"),
@@ -47,7 +47,7 @@ fn the_first_target_that_is_no_unit_vector_is_told() {
 
 /// 5 of any target, then 20, then 6 and 17.
 #[test]
-fn it_is_told_straight_after_5() {
+fn refusal_20_comes_right_after_5() {
     let said = |targets: &str, more: &str| run(&folder(targets, more), "check plan.toml").stderr;
     let both = "panel = [0, inf, 0]\ntolerance = [1, 2, 3]\n";
     for (targets, more, number) in [
@@ -77,7 +77,7 @@ fn ten_digits_are_enough() {
 
 /// A journal that an earlier program made from such vectors has this plan's header and right lines: what is refused is the plan, with 20 and not 11.
 #[test]
-fn a_journal_begun_before_is_refused_with_20() {
+fn a_journal_of_vectors_of_another_length_is_refused_with_20() {
     let f = folder("name,x,y,z\nA,1,0,0\n", "tolerance = 15\n").swept();
     let journal = f.read("plan.journal");
     f.write("t.csv", "name,x,y,z\nA,0.5,0,0\n");
@@ -88,9 +88,8 @@ fn a_journal_begun_before_is_refused_with_20() {
     assert_eq!(f.read("plan.journal"), journal);
 }
 
-/// docs/PLAN_FILE.md shows what is said.
 #[test]
-fn the_document_has_the_message() {
+fn the_guide_shows_the_message_of_refusal_20() {
     let f = folder("name,x,y,z\nAltair,1,0,0\nVega,0.122,-0.770,0.626\n", "tolerance = 15\n");
     let said = run(&f, "check plan.toml").stderr.replace("t.csv", "targets.csv");
     assert!(said.contains("refused with 20: ") && document().1.contains(said.trim_end()), "{}", said);

@@ -1,5 +1,5 @@
-//! Where roll 0 is and which way a roll turns, as docs/PLAN_FILE.md and include/wilfnusk.h say it: by right ascension and declination, not by the
-//! library's own axes.
+//! Where roll 0 is and which way a roll turns, as docs/PLAN_FILE.md and include/wilfnusk.h define it, computed from right ascension and declination
+//! and not from the library's own axes.
 use proptest::prelude::*;
 use std::{fs, path::Path, process::Command};
 use wilfnusk::{cell, circular_diff_deg, radec_to_unit_vectors_batch, OptimalRoll};
@@ -26,7 +26,7 @@ fn roll(target: Vector, sun: Vector, panel: Vector) -> f64 {
 }
 
 #[test]
-fn the_numbers_of_the_document() {
+fn the_document_s_reference_values_hold() {
     let (x, y, z) = ([1.0, 0.0, 0.0], [0.0, 1.0, 0.0], [0.0, 0.0, 1.0]);
     let minus = |v: Vector| v.map(|k| -k);
     let sun_30 = [0.0, 0.75f64.sqrt(), 0.5];
@@ -51,7 +51,7 @@ fn the_numbers_of_the_document() {
 }
 
 #[test]
-fn the_program_turns_so() {
+fn a_positive_roll_turns_the_panel_from_east_toward_north() {
     let folder = tempfile::tempdir().unwrap();
     let put = |name: &str, text: &str| fs::write(folder.path().join(name), text).unwrap();
     put("e.csv", "time,sun_x,sun_y,sun_z,observer_x,observer_y,observer_z\n2026-03-20T00:00:00Z,7000,866025403.784,500000000,7000,0,0\n");
@@ -66,7 +66,7 @@ fn the_program_turns_so() {
 
 /// Targets by right ascension and declination, with the Sun east, north and south of each: the roll is 0, 90 and 270.
 #[test]
-fn the_program_knows_right_ascension_and_declination() {
+fn rolls_are_right_for_targets_by_right_ascension_and_declination() {
     let folder = tempfile::tempdir().unwrap();
     let put = |name: &str, text: &str| fs::write(folder.path().join(name), text).unwrap();
     put("plan.toml", "targets = \"t.csv\"\nephemeris = \"e.csv\"\nrolls = 24\ntolerance = 0.001\n");
@@ -90,9 +90,9 @@ fn mask_at(folder: &Path, roll: &str) -> String {
 }
 
 proptest! {
-    /// The library's vector is that of the words, by another sine.
+    /// The library's vectors are those of the document's formula with another sine.
     #[test]
-    fn the_vectors_of_positions((ra, dec) in (0.0..=360.0, -90.0..=90.0)) {
+    fn positions_become_the_vectors_of_the_formula((ra, dec) in (0.0..=360.0, -90.0..=90.0)) {
         let mut vector = [0.0; 3];
         radec_to_unit_vectors_batch(&[ra], &[dec], &mut vector).unwrap();
         let [expected, ..] = sky(ra, dec);
@@ -101,7 +101,7 @@ proptest! {
     /// At the optimal roll the panel's normal, across the boresight, points where the Sun is, if roll 0 has y east and z north and a roll
     /// turns y toward z.
     #[test]
-    fn the_panel_faces_the_sun(
+    fn at_the_optimal_roll_the_panel_faces_the_sun(
         (ra, dec) in (0.0..360.0, -89.0..89.0),
         (sun_ra, sun_dec) in (0.0..360.0, -89.0..89.0),
         panel in [-1.0..1.0f64, -1.0..1.0, -1.0..1.0],

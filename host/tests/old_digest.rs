@@ -108,7 +108,9 @@ fn what_reads_no_line_is_not_refused() {
         "windows plan.toml --evaluate",
     ] {
         let ended = f.run(&words.split(' ').collect::<Vec<_>>());
-        assert_eq!((ended.status, ended.stderr.as_str()), (0, ""), "{}", words);
+        // The test's Sun is not where an almanac has it.
+        let said: Vec<_> = ended.stderr.lines().filter(|line| !line.starts_with("warning: e.csv, ")).collect();
+        assert_eq!((ended.status, said), (0, vec![]), "{}", words);
     }
     assert!(f.all() == before);
 }

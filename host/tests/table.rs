@@ -1,4 +1,4 @@
-//! Whole commands on a table of rolls: a sweep tries these and no others, J.plan tells another table, and what takes even steps alone says so.
+//! Whole commands on a table of rolls: a sweep tries these and no others, J.plan shows that a table was changed, and a command that needs even steps says so.
 mod common;
 
 use common::{document, done, ephemeris, json, run, told_by_every_command, told_of_another_plan, Folder};
@@ -16,13 +16,13 @@ const CELLS: usize = 150;
 /// 3 targets at 50 times, 150 cells in 3 chunks.
 fn folder(rolls: &str, more: &str) -> Folder {
     let f = Folder::new(&[], "", "");
-    tell(&f, rolls, more);
+    write_plan(&f, rolls, more);
     f.write("t.csv", "name,x,y,z\nA,1,0,0\nB,0,0.6,0.8\nC,0,-1,0\n");
     f.write("e.csv", &ephemeris(50));
     f
 }
 /// Writes the folder's plan with these rolls and further keys.
-fn tell(f: &Folder, rolls: &str, more: &str) {
+fn write_plan(f: &Folder, rolls: &str, more: &str) {
     f.write("plan.toml", &format!("targets = \"t.csv\"\nephemeris = \"e.csv\"\nrolls = {}\n{}", rolls, more));
 }
 
@@ -59,7 +59,7 @@ fn a_cell_is_marked_when_every_roll_of_the_table_violates_it() {
 
 /// However the file writes its numbers, and wherever the sweep was cut.
 #[test]
-fn a_sweep_goes_on_with_the_same_table() {
+fn a_sweep_continues_with_the_same_table() {
     let unbroken = folder(TABLE, TOLERANCE).swept();
     let journal = unbroken.read("plan.journal");
     for other in [TABLE, "[0, 1.55e1, 9e1, 2.0025e2, 359.50]", "[\n  0.0, # rest\n  15.5,\n  90.0, 200.25,\n  359.5,\n]"] {
@@ -67,9 +67,10 @@ fn a_sweep_goes_on_with_the_same_table() {
         run(&f, "sweep plan.toml -q --chunks 1").says(0, &["1 of 3 chunks have a line; missing: 0, 2"]);
         run(&f, "status plan.toml").says(4, &[]);
         f.write("plan.journal", &(f.read("plan.journal") + "0000000"));
-        tell(&f, other, TOLERANCE);
+        write_plan(&f, other, TOLERANCE);
         assert!(done(&f, "check plan.toml --recompute").contains("1 lines worked out again: each is the same"));
-        run(&f, "sweep plan.toml -q").says(0, &["recovered plan.journal: 7 bytes", "3 of 3 chunks have a line"]);
+        run(&f, "sweep plan.toml -q")
+            .says(0, &["recovered plan.journal: removed 7 bytes of a write that did not end\n", "3 of 3 chunks have a line"]);
         assert_eq!(f.sorted("plan.journal"), unbroken.sorted("plan.journal"));
         assert_eq!(f.read("plan.journal.plan"), unbroken.read("plan.journal.plan"));
         assert_eq!(done(&f, "windows plan.toml"), done(&unbroken, "windows plan.toml"));
@@ -85,10 +86,10 @@ fn a_sweep_goes_on_with_the_same_table() {
     }
 }
 
-/// The header has the number of rolls alone, so that J.plan must tell which they are.
+/// The header has the number of rolls alone; J.plan shows which they are.
 #[test]
 fn another_table_of_the_same_length_is_another_plan() {
-    // Lines that come out the same are told too: the program cannot know that they do.
+    // It is refused too where the lines come out the same: the program cannot know that they do.
     for (then, now, same) in [
         (TABLE, "[0, 15.5, 90, 200.25, 359.49999999999994]", true),
         (TABLE, "[-0.0, 15.5, 90, 200.25, 359.5]", true),
@@ -100,11 +101,11 @@ fn another_table_of_the_same_length_is_another_plan() {
     ] {
         let f = folder(then, TOLERANCE);
         done(&f, "sweep plan.toml -q --part 1/2");
-        tell(&f, now, TOLERANCE);
+        write_plan(&f, now, TOLERANCE);
         told_of_another_plan(&f, "`rolls` or `tolerance` in plan.toml");
         // What the sentence says to do: a journal of its own, and the old file.
         run(&f, "sweep plan.toml -q --journal own.journal").says(0, &["3 of 3 chunks have a line"]);
-        tell(&f, then, TOLERANCE);
+        write_plan(&f, then, TOLERANCE);
         run(&f, "sweep plan.toml -q").says(0, &["3 of 3 chunks have a line"]);
         assert_eq!(f.sorted("plan.journal") == f.sorted("own.journal"), same, "{} {}", then, now);
     }
@@ -112,9 +113,9 @@ fn another_table_of_the_same_length_is_another_plan() {
     let f = folder(TABLE, TOLERANCE);
     f.write("t.csv", "name,x,y,z\nA,1,0,0\n");
     done(&f, "sweep plan.toml -q");
-    tell(&f, "5", TOLERANCE);
+    write_plan(&f, "5", TOLERANCE);
     told_of_another_plan(&f, "`rolls` in plan.toml");
-    // Without J.plan the lines tell, where they are worked out again.
+    // Without J.plan the lines show it, where they are worked out again.
     fs::remove_file(f.path("plan.journal.plan")).unwrap();
     run(&f, "check plan.toml")
         .says(0, &["warning: plan.journal.plan is missing: nothing tells whether", "positions, tolerances and rolls."]);
@@ -122,11 +123,11 @@ fn another_table_of_the_same_length_is_another_plan() {
 }
 
 #[test]
-fn a_table_of_another_length_is_told_by_the_header() {
+fn a_table_of_another_length_is_refused_by_the_header() {
     let f = folder(TABLE, TOLERANCE).swept();
     let before = f.all();
     for (rolls, digits) in [("[0, 15.5, 90, 200.25]", "00000004 (4)"), ("6", "00000006 (6)"), ("[7]", "00000001 (1)")] {
-        tell(&f, rolls, TOLERANCE);
+        write_plan(&f, rolls, TOLERANCE);
         let says = format!(
             "refused with 11: plan.journal: the header is not this plan's; nothing was changed\n  line 1, column 17: rolls reads 00000005 (5); \
              this plan's is {}\n",
@@ -136,13 +137,13 @@ fn a_table_of_another_length_is_told_by_the_header() {
             run(&f, &format!("{} plan.toml", words)).says(1, &[&says]);
         }
     }
-    tell(&f, TABLE, TOLERANCE);
+    write_plan(&f, TABLE, TOLERANCE);
     assert!(f.all() == before);
 }
 
-/// They are the same rolls to the bit, and so is all that comes of them but the record in J.plan.
+/// They are the same rolls to the bit, and so is every output except the record in J.plan.
 #[test]
-fn even_steps_lent_as_a_table_are_the_same_sweep() {
+fn even_steps_given_as_a_table_are_the_same_sweep() {
     for n in [1, 7, 8, 72] {
         let table = format!("{:?}", (0..n).map(|k| k as f64 * (360.0 / n as f64)).collect::<Vec<_>>());
         let (even, by_table) = (folder(&n.to_string(), TOLERANCE).swept(), folder(&table, TOLERANCE).swept());
@@ -158,7 +159,7 @@ fn even_steps_lent_as_a_table_are_the_same_sweep() {
 
 /// A sweep split over machines is merged by the table; a part of another table is named.
 #[test]
-fn parts_are_merged_by_the_same_table() {
+fn parts_with_the_same_table_are_merged() {
     let unbroken = folder(TABLE, TOLERANCE).swept();
     let f = folder(TABLE, TOLERANCE);
     done(&f, "sweep plan.toml -q --journal a.journal --part 1/2");
@@ -169,19 +170,18 @@ fn parts_are_merged_by_the_same_table() {
     }
     assert_eq!(done(&f, "sweep plan.toml -q --csv -"), done(&unbroken, "windows plan.toml --csv -"));
     for other in ["[0, 15.5, 90, 200.25, 300]", "5"] {
-        tell(&f, other, TOLERANCE);
+        write_plan(&f, other, TOLERANCE);
         let journal = format!("other{}.journal", other.len());
         done(&f, &format!("sweep plan.toml -q --journal {} --part 2/2", journal));
-        tell(&f, TABLE, TOLERANCE);
+        write_plan(&f, TABLE, TOLERANCE);
         run(&f, &format!("merge plan.toml a.journal {} -o all.journal", journal))
             .says(3, &[&format!("`rolls` or `tolerance` in plan.toml: its numbers are not those that {} was begun with", journal)]);
         assert!(!f.path("all.journal").exists());
     }
 }
 
-/// Every command that reads a plan says so and writes nothing.
 #[test]
-fn what_is_wrong_is_told_by_every_command() {
+fn every_command_refuses_a_wrong_table() {
     const ALLOWED: &str = "; allowed: a whole number of rolls, 1 to 3600, or a list of 1 to 3600 rolls in degrees";
     const ENTRY: &str = "; allowed: 0 up to but not at 360 degrees, each above the one before it";
     let many = format!("{:?}", (0..3601).map(|k| k as f64 * 0.09).collect::<Vec<_>>());
@@ -210,9 +210,9 @@ fn what_is_wrong_is_told_by_every_command() {
     }
 }
 
-/// In the place of 3: before positions, directions, the panel and the tolerances, all of which are wrong here.
+/// At the place of refusal 3: before positions, directions, the panel and the tolerances, all of which are wrong here.
 #[test]
-fn a_table_is_looked_at_before_positions() {
+fn a_table_is_checked_before_positions() {
     for (rolls, says) in [
         ("[]", "refused with 18: plan.toml, line 3, "),
         ("[0, 90, 90]", "refused with 19: plan.toml, line 3, "),
@@ -257,14 +257,14 @@ fn the_field_of_regard_at_every_roll_needs_even_steps() {
     let even = folder("5", TOLERANCE);
     assert_eq!(done(&even, "regard plan.toml --sample 7").lines().count(), 3);
     assert!(done(&even, "regard --help").contains("at every roll of the plan, which must then be even steps"));
-    // A configured roll stands for all: `--roll` gives its marks, whichever roll is told.
+    // A configured roll stands for all: `--roll` gives its marks, whichever roll it names.
     let [f, even] = [TABLE, "5"].map(|rolls| folder(rolls, &format!("{}configured_roll = 30\n", TOLERANCE)));
     assert_eq!(run(&f, "regard plan.toml --sample 7").status, 2);
     assert_eq!(done(&f, "regard plan.toml --sample 7 --roll 0"), done(&even, "regard plan.toml --sample 7"));
 }
 
 #[test]
-fn what_is_shown_of_a_table() {
+fn status_and_listings_show_the_table() {
     for (rolls, numbers, words, picture) in [
         (TABLE, json!(ROLLS), "a table of 5 rolls from 0 to 359.5", "a table of 5 rolls from 0° to 359.5°"),
         ("[47.5]", json!([47.5]), "a table of 1 roll at 47.5", "a table of 1 roll at 47.5°"),
@@ -296,7 +296,7 @@ fn a_line_has_as_many_probes_as_the_table_allows() {
     let probes = json(&done(&f, "windows plan.toml --json -"))["probes"].as_u64().unwrap();
     assert!((foretold["fewest_probes"].as_u64().unwrap()..=foretold["most_probes"].as_u64().unwrap()).contains(&probes));
     assert_eq!(foretold["journal_bytes"], json!(f.read("plan.journal").len()));
-    // One more than five a cell is told.
+    // One more than five per cell is refused.
     let journal = f.read("plan.journal");
     let line = journal.lines().nth(1).unwrap();
     let wrong = format!("{}{:08x}", &line[..24], 5 * 64 + 1);
@@ -305,14 +305,14 @@ fn a_line_has_as_many_probes_as_the_table_allows() {
 }
 
 #[test]
-fn half_the_largest_gap_is_told() {
-    for (rolls, tolerance, told) in [
+fn a_tolerance_of_half_the_largest_gap_is_warned_of() {
+    for (rolls, tolerance, warning) in [
         // Between 90 and 250.
         ("[0, 90, 250]", "80.5", Some("80 degrees from the nearest of 3: nothing can be violated\n")),
         (
             "[0, 90, 250]",
             "80",
-            Some("80 degrees from the nearest of 3: nothing can be violated but by rounding, midway between two of them\n"),
+            Some("80 degrees from the nearest of 3: nothing can be violated except by rounding, midway between two of them\n"),
         ),
         ("[0, 90, 250]", "79.9", None),
         // From 130 on to 100, through 0.
@@ -323,25 +323,25 @@ fn half_the_largest_gap_is_told() {
         ("[0, 90, 250]\nconfigured_roll = 1", "100", None),
     ] {
         let f = folder(rolls, &format!("tolerance = {}\n", tolerance));
-        for command in ["check plan.toml", "sweep plan.toml -q"] {
+        for command in ["check plan.toml", "sweep plan.toml -q", "windows plan.toml"] {
             let ended = run(&f, command);
             assert_eq!(ended.status, 0, "{:?}", ended);
             let text = ended.stdout + &ended.stderr;
-            match told {
+            match warning {
                 Some(says) => {
                     assert!(text.contains(&format!("tolerance reads {}, and no roll is further than {}", tolerance, says)), "{}", text)
                 }
                 None => assert!(!text.contains("nothing can be violated"), "{}", text),
             }
         }
-        if matches!(told, Some(says) if !says.contains("rounding")) {
+        if matches!(warning, Some(says) if !says.contains("rounding")) {
             assert!(!done(&f, "mask plan.toml --form csv").contains(",1\n"));
         }
     }
 }
 
 #[test]
-fn the_longest_table() {
+fn a_table_of_3600_rolls_is_swept() {
     let table: Vec<f64> = (0..3600).map(|k| 359.99999999999994 * (k as f64 / 3599.0).powf(1.5)).collect();
     let text = format!("{:?}", table);
     let f = folder(&text, "tolerance = 0.02\n");
@@ -354,25 +354,25 @@ fn the_longest_table() {
     let told = done(&f, "status plan.toml --json");
     let list = told.split("\"rolls_deg\": [").nth(1).unwrap().split(']').next().unwrap();
     assert_eq!(list.split(',').map(|number| number.trim().parse().unwrap()).collect::<Vec<f64>>(), table);
-    // The last of them counts, and its place is told where it is wrong.
+    // The last of them counts, and its place is named where it is wrong.
     let last = text.rfind(' ').unwrap() + 1;
-    tell(&f, &format!("{}360]", &text[..last]), "tolerance = 0.02\n");
+    write_plan(&f, &format!("{}360]", &text[..last]), "tolerance = 0.02\n");
     let says = format!("refused with 19: plan.toml, line 3, column {}: entry 3,600 of rolls reads 360; ", 9 + last);
     run(&f, "check plan.toml").says(1, &[&says]);
-    tell(&f, &format!("{}359.9]", &text[..last]), "tolerance = 0.02\n");
+    write_plan(&f, &format!("{}359.9]", &text[..last]), "tolerance = 0.02\n");
     told_of_another_plan(&f, "`rolls` or `tolerance` in plan.toml");
 }
 
 /// The table and the sentences that docs/PLAN_FILE.md shows.
 #[test]
-fn the_document_s_examples() {
+fn the_document_s_examples_of_a_table_hold() {
     let (document, shown) = document();
     assert!(document.contains("\nrolls = [0, 15.5, 90, 359.5]\n"));
     let f = folder("[0, 15.5, 90, 359.5]", TOLERANCE);
     assert!(done(&f, "check plan.toml").contains("\nsettings a table of 4 rolls from 0 to 359.5, "));
     let mut said = vec![run(&f, "regard plan.toml --sample 3").stderr];
     for rolls in ["[]", "[0, 15.5, 90, 360]", "[0, 90, 15.5, 359.5]"] {
-        tell(&f, rolls, TOLERANCE);
+        write_plan(&f, rolls, TOLERANCE);
         said.push(run(&f, "check plan.toml").stderr);
     }
     for said in said {

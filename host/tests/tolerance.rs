@@ -1,5 +1,5 @@
-//! Whole commands on tolerances: each target has its own, by a number, a list or a column; J.plan tells another list; and `check` and `sweep` say
-//! where nothing can be violated.
+//! Whole commands on tolerances: each target has its own, by a number, a list or a column; J.plan shows that a list was changed; and `check`, `sweep`
+//! and `windows` warn where nothing can be violated.
 mod common;
 
 use common::{document, done, ephemeris, json, run, told_by_every_command, told_of_another_plan, Folder};
@@ -13,7 +13,7 @@ const DIFFERENT: [&str; 5] = ["15", "3", "nan", "-1", "21.5"];
 /// 5 targets at 30 times, 150 cells in 3 chunks: the first two have cells of several targets.
 fn folder(tolerance: &str, targets: &str) -> Folder {
     let f = Folder::new(&[], "", "");
-    tell(&f, &(tolerance.into(), targets.into()));
+    write_plan(&f, &(tolerance.into(), targets.into()));
     f.write("e.csv", &ephemeris(30));
     f
 }
@@ -28,7 +28,7 @@ fn column(tolerances: &[&str; 5]) -> String {
 fn list(tolerances: &[&str]) -> String {
     format!("tolerance = [{}]\n", tolerances.join(", "))
 }
-/// The key's line and the targets file of each way that tells these tolerances.
+/// The key's line and the targets file of each way to give these tolerances.
 fn ways(tolerances: &[&str; 5]) -> Vec<(String, String)> {
     let mut ways = vec![(list(tolerances), plain()), (String::new(), column(tolerances))];
     if tolerances.iter().all(|t| t == &tolerances[0]) {
@@ -37,7 +37,7 @@ fn ways(tolerances: &[&str; 5]) -> Vec<(String, String)> {
     ways
 }
 /// Writes the folder's plan with this line for the tolerances, and these targets.
-fn tell(f: &Folder, (tolerance, targets): &(String, String)) {
+fn write_plan(f: &Folder, (tolerance, targets): &(String, String)) {
     f.write("plan.toml", &format!("targets = \"t.csv\"\nephemeris = \"e.csv\"\nrolls = 8\n{}", tolerance));
     f.write("t.csv", targets);
 }
@@ -46,7 +46,7 @@ fn of_target<'a>(text: &'a str, name: &str) -> Vec<&'a str> {
     text.lines().filter(|line| line.split([',', ' ']).any(|word| word == name)).collect()
 }
 
-/// Each target's lines are those of a plan in which its tolerance holds for all, in every command that asks for a tolerance.
+/// Each target's lines are those of a plan in which its tolerance holds for all, in every command that uses a tolerance.
 #[test]
 fn each_target_has_its_own_tolerance() {
     for settings in ["", "configured_roll = 40.5\n"] {
@@ -107,7 +107,7 @@ fn probes_are_counted_with_each_target_s_tolerance() {
 }
 
 #[test]
-fn any_way_goes_on_with_the_others_sweep() {
+fn a_sweep_continues_with_tolerances_given_in_another_way() {
     for tolerances in [DIFFERENT, ["15"; 5], ["nan"; 5]] {
         let ways = ways(&tolerances);
         let unbroken = folder(&ways[0].0, &ways[0].1).swept();
@@ -115,7 +115,7 @@ fn any_way_goes_on_with_the_others_sweep() {
             for second in &ways {
                 let f = folder(&first.0, &first.1);
                 run(&f, "sweep plan.toml -q --chunks 1").says(0, &["1 of 3 chunks have a line"]);
-                tell(&f, second);
+                write_plan(&f, second);
                 assert!(done(&f, "check plan.toml --recompute").contains("the files are those it was begun with"));
                 run(&f, "sweep plan.toml -q").says(0, &["3 of 3 chunks have a line"]);
                 assert_eq!(f.sorted("plan.journal"), unbroken.sorted("plan.journal"));
@@ -126,9 +126,9 @@ fn any_way_goes_on_with_the_others_sweep() {
     }
 }
 
-/// The header holds the first entry alone, so that J.plan must tell.
+/// The header holds the first entry alone; J.plan shows the change.
 #[test]
-fn another_tolerance_of_another_target_is_another_plan() {
+fn a_changed_tolerance_of_any_target_is_another_plan() {
     let old = ways(&DIFFERENT);
     for (k, changed) in [(1, "3.0000000000000004"), (4, "nan"), (2, "-0"), (3, "15")] {
         let mut other = DIFFERENT;
@@ -140,27 +140,27 @@ fn another_tolerance_of_another_target_is_another_plan() {
         ] {
             let f = folder(&old[then].0, &old[then].1);
             run(&f, "sweep plan.toml -q --part 1/2").says(0, &["1 of 3 chunks have a line"]);
-            tell(&f, &ways(&other)[now]);
+            write_plan(&f, &ways(&other)[now]);
             told_of_another_plan(&f, file);
         }
     }
-    // Without J.plan the lines tell, where they are worked out again: chunk 0 has the first two targets and some of the third.
+    // Without J.plan the lines show it, where they are worked out again: chunk 0 has the first two targets and some of the third.
     let f = folder(&old[0].0, &old[0].1).swept();
     std::fs::remove_file(f.path("plan.journal.plan")).unwrap();
-    tell(&f, &(list(&["15", "15", "nan", "-1", "21.5"]), plain()));
+    write_plan(&f, &(list(&["15", "15", "nan", "-1", "21.5"]), plain()));
     run(&f, "check plan.toml").says(0, &["warning: plan.journal.plan is missing"]);
     run(&f, "check plan.toml --recompute").says(1, &["plan.journal: 3 lines worked out again, and 1 is not the same", "line 2, chunk 0: "]);
 }
 
 #[test]
-fn another_first_tolerance_is_told_by_the_header() {
+fn a_changed_first_tolerance_is_refused_by_the_header() {
     for (key, targets) in ways(&DIFFERENT) {
         let f = folder(&key, &targets);
         run(&f, "sweep plan.toml -q --part 1/2").says(0, &[]);
         let mut other = DIFFERENT;
         other[0] = "16";
         for way in ways(&other) {
-            tell(&f, &way);
+            write_plan(&f, &way);
             let says = "refused with 11: plan.journal: the header is not this plan's; nothing was changed\n  line 1, column 25: \
                 first tolerance reads 402e000000000000 (15.0); this plan's is 4030000000000000 (16.0)";
             for words in ["check", "status", "windows", "mask", "sweep"] {
@@ -171,7 +171,7 @@ fn another_first_tolerance_is_told_by_the_header() {
 }
 
 #[test]
-fn the_header_holds_the_first_entry() {
+fn the_header_holds_the_first_tolerance() {
     for (first, bits) in
         [("15", "402e000000000000"), ("nan", "7ff8000000000000"), ("-inf", "fff0000000000000"), ("-0.0", "8000000000000000")]
     {
@@ -188,14 +188,13 @@ fn the_header_holds_the_first_entry() {
         let told = json(&done(&f, "status plan.toml --json"));
         assert_eq!((&told["tolerance_deg"], &told["tolerances_deg"]), (&json!(null), &json!([])));
         // Whichever way, it is the same plan.
-        tell(&f, &("tolerance = 7\n".into(), "name,x,y,z\n".into()));
+        write_plan(&f, &("tolerance = 7\n".into(), "name,x,y,z\n".into()));
         run(&f, "sweep plan.toml").says(0, &["0 of 0 chunks have a line"]);
     }
 }
 
-/// Every command that reads a plan says so and writes nothing.
 #[test]
-fn what_is_wrong_is_told_by_every_command() {
+fn every_command_refuses_wrong_tolerances() {
     const ALLOWED: &str = "one number of degrees for all targets, or a list with one for each";
     const NUMBER: &str = "degrees of roll as one number, such as 5 or 0.25";
     let of_column = |cell| column(&["15", "3", cell, "-1", "21.5"]);
@@ -241,7 +240,7 @@ fn what_is_wrong_is_told_by_every_command() {
 
 /// The ways and the sentences that docs/PLAN_FILE.md shows.
 #[test]
-fn the_document_s_examples() {
+fn the_document_s_examples_of_tolerances_hold() {
     let (document, shown) = document();
     let column = "name,ra,dec,tolerance\nVega,279.235,38.784,5\nDeneb,310.358,45.280,0.5\n";
     let three = "name,ra,dec\nVega,279.235,38.784\nDeneb,310.358,45.280\nAltair,297.696,8.868\n";
@@ -275,7 +274,7 @@ fn a_severity_that_would_be_infinite_names_its_target() {
     tolerances[3] = "-inf";
     const ALLOWED: &str = ", and the severities at the configured roll would be infinite; allowed with --evaluate: any number but -inf";
     for ((key, targets), at) in ways(&tolerances).into_iter().zip([
-        "plan.toml, line 4, column 13: tolerance of target `D` reads -inf",
+        "plan.toml, line 4, column 26: tolerance of target `D` reads -inf",
         "t.csv, line 5, column 1: tolerance of target `D` reads `-inf`",
     ]) {
         let f = folder(&(key + "configured_roll = 40.5\n"), &targets);
@@ -306,7 +305,7 @@ fn listings_give_each_target_its_tolerance() {
         assert!(svg.contains(", 8 rolls, tolerance -1° to 21.5°, or NaN, by target<"), "{}", svg);
         assert!(svg.contains("<title>B: tolerance 3°</title>") && svg.contains("<title>E: tolerance 21.5°</title>"), "{}", svg);
     }
-    // What is the same for all is said once, as it was.
+    // A tolerance that is the same for all is printed once.
     let outputs = |f: &Folder| {
         ["status plan.toml", "status plan.toml --json", "windows plan.toml", "windows plan.toml --json -", "windows plan.toml --svg -"]
             .map(|words| done(f, words))
@@ -320,28 +319,28 @@ fn listings_give_each_target_its_tolerance() {
     assert_eq!((&windows["tolerance_deg"], &windows["targets"][4]["tolerance_deg"]), (&json!(15.0), &json!(15.0)));
 }
 
-/// Parts of a sweep that tell the same tolerances in their own ways are merged; a part with another list is told.
+/// Parts of a sweep whose plans give the same tolerances, in whichever way, are merged; a part with other tolerances is refused.
 #[test]
-fn parts_are_merged_by_the_same_list() {
+fn parts_with_the_same_tolerances_are_merged() {
     let ways = ways(&DIFFERENT);
     let f = folder(&ways[0].0, &ways[0].1);
     done(&f, "sweep plan.toml -q --journal part1.journal --part 1/2");
-    tell(&f, &ways[1]);
+    write_plan(&f, &ways[1]);
     done(&f, "sweep plan.toml -q --journal part2.journal --part 2/2");
     done(&f, "merge plan.toml part1.journal part2.journal -o plan.journal --recompute");
     let unbroken = folder(&ways[0].0, &ways[0].1).swept();
     assert_eq!((f.read("plan.journal"), f.read("plan.journal.plan")), (unbroken.read("plan.journal"), unbroken.read("plan.journal.plan")));
-    tell(&f, &(list(&["15", "3", "nan", "-1", "22"]), plain()));
+    write_plan(&f, &(list(&["15", "3", "nan", "-1", "22"]), plain()));
     done(&f, "sweep plan.toml -q --journal part3.journal --part 2/2");
-    tell(&f, &ways[1]);
+    write_plan(&f, &ways[1]);
     run(&f, "merge plan.toml part1.journal part3.journal -o all.journal")
         .says(3, &["`rolls` in plan.toml or the column `tolerance` of t.csv: its numbers are not those that part3.journal was begun with"]);
     assert!(!f.path("all.journal").exists());
 }
 
 #[test]
-fn a_tolerance_of_half_a_step_is_told() {
-    for (settings, told) in [
+fn a_tolerance_of_half_a_step_is_warned_of() {
+    for (settings, is_warned) in [
         ("rolls = 24\ntolerance = 8\n", true),
         ("rolls = 24\ntolerance = 7.5\n", true),
         ("rolls = 24\ntolerance = 7\n", false),
@@ -349,21 +348,22 @@ fn a_tolerance_of_half_a_step_is_told() {
     ] {
         let f = Folder::new(&["A"], "0", "");
         f.write("plan.toml", &format!("targets = \"t.csv\"\nephemeris = \"e.csv\"\n{}", settings));
-        for command in ["check", "sweep"] {
+        for command in ["check", "sweep", "windows"] {
             let ended = run(&f, &format!("{} plan.toml", command));
             assert_eq!(ended.status, 0, "{:?}", ended);
             let text = ended.stdout + &ended.stderr;
-            assert_eq!(text.contains("nothing can be violated"), told, "{} {}: {}", command, settings, text);
+            assert_eq!(text.contains("nothing can be violated"), is_warned, "{} {}: {}", command, settings, text);
         }
     }
-    const WIDE: &str = "2 of 5 tolerances read 22.5 or more (`B`, `E`), and no roll is further than 22.5 degrees from the nearest of 8: \
-        nothing can be violated there\n";
+    const WIDE: &str = "2 of 5 tolerances are 22.5 or more (`B`, `E`), and no roll is further than 22.5 degrees from the nearest of 8: \
+        nothing of these targets can be violated\n";
     for ((key, targets), at) in
-        ways(&["15", "23", "nan", "-1", "inf"]).into_iter().zip(["plan.toml, line 4, column 13", "t.csv, line 1, column 1"])
+        ways(&["15", "23", "nan", "-1", "inf"]).into_iter().zip(["plan.toml, line 4, column 18", "t.csv, line 3, column 1"])
     {
         let f = folder(&key, &targets);
-        assert!(done(&f, "check plan.toml").contains(&format!("\n{}: {}", at, WIDE)));
-        run(&f, "sweep plan.toml -q").says(0, &[&format!("{}: {}", at, WIDE)]);
+        assert!(done(&f, "check plan.toml").contains(&format!("\nwarning: {}: {}", at, WIDE)));
+        run(&f, "sweep plan.toml -q").says(0, &[&format!("warning: {}: {}", at, WIDE)]);
+        run(&f, "windows plan.toml").says(0, &[&format!("warning: {}: {}", at, WIDE)]);
         // It is so.
         let mask = done(&f, "mask plan.toml");
         assert!(mask.lines().all(|line| line.contains('1') == (line.ends_with('A') || line.ends_with('D'))), "{}", mask);
