@@ -9,9 +9,9 @@ use crate::{
     look::about,
     plan::Plan,
     say,
-    sweep::first_run,
     text::grouped,
     tolerance::nothing_violated,
+    workers::first_run,
     Files,
 };
 use clap::Args;
@@ -61,7 +61,7 @@ impl Check {
             return say(format_args!("accepted; {} is not begun", path.display()));
         }
         // Where the digest is to be written, nobody else adds a line meanwhile.
-        let locked = if self.write_digest { Some(Journal::open(path, plan, false)?) } else { None };
+        let locked = if self.write_digest { Some(Journal::open(path, false)?) } else { None };
         let bytes = match &locked {
             Some(journal) => journal.used().to_vec(),
             None => look(path)?,
