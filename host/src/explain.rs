@@ -451,7 +451,34 @@ mod tests {
         }
         let all = said(|j| (2..7).for_each(|line| j[at(line)] = b'f'));
         assert!(all.contains("5 of its 5 lines are") && !all.contains("salvage") && all.contains("--journal"), "{}", all);
-        assert!(said(|j| j[at(2)..].fill(0)).contains("33 zero bytes"));
+        assert!(said(|j| j[at(3)..at(4)].fill(0)).contains("line 3, column 1: 33 zero bytes"));
+    }
+    #[test]
+    fn a_tail_of_zero_bytes_is_named_with_what_stands_before_it() {
+        let tail = |keep: usize, zeros: usize| {
+            said(move |j| {
+                j.truncate(keep);
+                j.resize(keep + zeros, 0);
+            })
+        };
+        let none = tail(at(2), 165);
+        assert!(
+            none.contains("it ends with 165 zero bytes")
+                && none.contains("line 2, column 1: from here on; 0 chunk lines before it are right")
+        );
+        assert!(tail(at(3), 33).contains("line 3, column 1: from here on; 1 chunk line before it is right"));
+        let cut = tail(at(4) + 8, 60);
+        assert!(
+            cut.contains("it ends with 8 bytes of a write that did not end and 60 zero bytes") && cut.contains("line 4, column 1"),
+            "{}",
+            cut
+        );
+        assert!(tail(0, 200).contains("line 1, column 1") && tail(30, 200).contains("line 1, column 1"));
+        assert!(
+            none.contains("\nTo drop these bytes and go on: `wilfnusk sweep ") && none.ends_with(" --journal 'a b' --drop-zero-tail`"),
+            "{}",
+            none
+        );
     }
     #[test]
     fn commands_are_quoted_for_a_shell() {

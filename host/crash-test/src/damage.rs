@@ -46,7 +46,7 @@ fn one(machine: &Machine, journal: &[u8], tally: &mut Tally) {
         assert!(machine.journal().starts_with(&journal[..keep]), "a line of a right journal was lost");
         return;
     }
-    tally.told += 1;
+    tally.refused += 1;
     for ended in [checked, swept] {
         assert_eq!(ended.status, 1, "{}", ended.stderr);
         let place = ended.stderr.contains("refused with 11: plan.journal: ") && ended.stderr.contains("\n  line ");
