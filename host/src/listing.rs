@@ -10,8 +10,8 @@ use crate::{
 };
 use serde::{Serialize, Serializer};
 use std::{
+    cell::OnceCell,
     io::{self, Write},
-    slice,
 };
 
 #[derive(Clone, Copy, Debug, PartialEq, Eq)]
@@ -93,6 +93,8 @@ pub struct Listing<'a> {
     pub all: Totals,
     /// What the sweep tried; none if the windows are those of the configured roll alone.
     pub probes: Option<u64>,
+    /// Whether each target is shown with its tolerance, as one does not hold for all.
+    pub has_tolerances: bool,
 }
 
 /// The target whose windows were refused, and why.
@@ -102,33 +104,30 @@ impl<'a> Listing<'a> {
     /// The windows of a sweep's mask. Their severities are zero.
     pub fn of_mask(plan: &'a Plan, selected: Selected, mask: &[u8], probes: u64) -> Result<Listing<'a>, RowRefusal> {
         let times = plan.times.len();
-        let row = |i| Ok((mask[i * times..(i + 1) * times].to_vec(), vec![0.0; times]));
-        Listing::of(plan, selected, Some(probes), row)
+        let severities = vec![0.0; times];
+        Listing::of(plan, selected, Some(probes), |selected, i| Row::of(plan, selected, i, &mask[i * times..(i + 1) * times], &severities))
     }
     /// The windows and severities at the configured roll.
     pub fn of_configured_roll(plan: &'a Plan, selected: Selected) -> Result<Listing<'a>, RowRefusal> {
-        Listing::of(plan, selected, None, |i| engine::evaluate(plan, i))
+        Listing::of(plan, selected, None, |selected, i| {
+            let (mask, severities) = engine::evaluate(plan, i)?;
+            Row::of(plan, selected, i, &mask, &severities)
+        })
     }
     fn of(
         plan: &'a Plan,
         selected: Selected,
         probes: Option<u64>,
-        mask_and_severities: impl Fn(usize) -> Result<(Vec<u8>, Vec<f64>), Refusal>,
+        row: impl Fn(&Selected, usize) -> Result<Row<'a>, Refusal>,
     ) -> Result<Listing<'a>, RowRefusal> {
-        let mut rows = Vec::with_capacity(selected.targets.len());
-        for &i in &selected.targets {
-            let row = mask_and_severities(i).and_then(|(mask, severities)| Row::of(plan, &selected, i, &mask, &severities));
-            rows.push(row.map_err(|refusal| (i, refusal))?);
-        }
+        let rows = selected.targets.iter().map(|&i| row(&selected, i).map_err(|refusal| (i, refusal)));
+        let rows = rows.collect::<Result<Vec<_>, _>>()?;
         let all = Totals::of_all(rows.iter().map(|row| &row.totals));
-        Ok(Listing { plan, selected, rows, all, probes })
+        let has_tolerances = tolerance::common(&plan.tolerances).is_none();
+        Ok(Listing { plan, selected, rows, all, probes, has_tolerances })
     }
     pub fn has_severities(&self) -> bool {
         self.probes.is_none()
-    }
-    /// Whether each target is shown with its tolerance, as one does not hold for all.
-    pub fn has_tolerances(&self) -> bool {
-        tolerance::common(&self.plan.tolerances).is_none()
     }
     /// What is listed of the plan, if it is not all of it.
     pub fn part(&self) -> Option<String> {
@@ -168,12 +167,12 @@ impl<'a> Listing<'a> {
         let columns = Columns::of(self);
         for row in &self.rows {
             writeln!(out, "{}", printable(row.name))?;
-            if self.has_tolerances() {
+            if self.has_tolerances {
                 writeln!(out, "  tolerance {}", number(row.tolerance))?;
             }
             row.totals.lines(&mut out)?;
             for listed in &row.windows {
-                writeln!(out, "{}", columns.line(listed))?;
+                columns.line(&mut out, listed)?;
             }
         }
         let all = if self.selected.is_whole() { "all" } else { "this part" };
@@ -193,24 +192,16 @@ impl<'a> Listing<'a> {
         writeln!(out, "{}", columns.legend())
     }
 
-    pub fn csv(&self, out: impl Write) -> io::Result<()> {
-        let mut out = csv::Writer::from_writer(out);
-        out.write_record(["target", "kind", "first_sample", "last_sample", "start", "end", "seconds", "severity_deg", "data_end"])
-            .map_err(csv_error)?;
+    pub fn csv(&self, mut out: impl Write) -> io::Result<()> {
+        let times = Times::of(self.plan, 9);
+        writeln!(out, "target,kind,first_sample,last_sample,start,end,seconds,severity_deg,data_end")?;
         for row in &self.rows {
+            // Only a name may need quotes; it is put into CSV once per target.
+            let name = csv_field(row.name)?;
             for Listed { kind, window: w, seconds } in &row.windows {
-                out.write_record([
-                    row.name,
-                    kind.word(),
-                    &w.first.to_string(),
-                    &w.last.to_string(),
-                    &instant::format(w.first_time, 9),
-                    &instant::format(w.last_time, 9),
-                    &seconds.to_string(),
-                    &w.severity.to_string(),
-                    if w.is_last != 0 { "true" } else { "false" },
-                ])
-                .map_err(csv_error)?;
+                let (start, end) = (times.at(w.first), times.at(w.last));
+                out.write_all(&name)?;
+                writeln!(out, ",{},{},{},{},{},{},{},{}", kind.word(), w.first, w.last, start, end, seconds, w.severity, w.is_last != 0)?;
             }
         }
         out.flush()
@@ -229,6 +220,7 @@ impl<'a> Listing<'a> {
 
     pub fn json(&self, mut out: impl Write) -> io::Result<()> {
         let p = self.plan;
+        let times = Times::of(p, 9);
         let time = |t| instant::format(t, 9);
         let json = Json {
             rolls: p.rolls.count(),
@@ -258,8 +250,8 @@ impl<'a> Listing<'a> {
                     name: row.name,
                     tolerance_deg: Degrees(row.tolerance),
                     totals: &row.totals,
-                    visible: row.json(Kind::Visible),
-                    violated: row.json(Kind::Violated),
+                    visible: row.json(Kind::Visible, &times),
+                    violated: row.json(Kind::Violated, &times),
                 })
                 .collect(),
         };
@@ -289,14 +281,15 @@ impl<'a> Row<'a> {
         let mut total = |kind, count, windows: &[Window]| {
             let begun = listed.len();
             for window in windows {
-                listed.push(Listed { kind, window: *window, seconds: engine::seconds(slice::from_ref(window))? as u64 });
+                listed.push(Listed { kind, window: *window, seconds: engine::seconds(window.first_time, window.last_time)? });
             }
+            let seconds = || listed[begun..].iter().map(|l| l.seconds);
             Ok(Total {
                 samples: count,
                 share: share(count, samples.len()),
                 windows: windows.len(),
-                seconds: engine::seconds(windows)? as u64,
-                longest_seconds: listed[begun..].iter().map(|l| l.seconds).max(),
+                seconds: seconds().sum(),
+                longest_seconds: seconds().max(),
             })
         };
         let totals = Totals {
@@ -308,9 +301,37 @@ impl<'a> Row<'a> {
         listed.sort_by_key(|l| l.window.first);
         Ok(Row { name: &plan.names[i], tolerance: plan.tolerances[i], windows: listed, single, totals })
     }
-    fn json(&self, kind: Kind) -> Vec<JsonWindow> {
-        self.windows.iter().filter(|l| l.kind == kind).map(JsonWindow::of).collect()
+    fn json<'t>(&self, kind: Kind, times: &'t Times) -> Vec<JsonWindow<'t>> {
+        self.windows.iter().filter(|l| l.kind == kind).map(|l| JsonWindow::of(l, times)).collect()
     }
+}
+
+/// The times of the samples as text, each put into text at most once.
+struct Times<'a> {
+    times: &'a [i64],
+    texts: Vec<OnceCell<String>>,
+    digits: usize,
+}
+
+impl Times<'_> {
+    fn of(plan: &Plan, digits: usize) -> Times<'_> {
+        Times { times: &plan.times, texts: vec![OnceCell::new(); plan.times.len()], digits }
+    }
+    fn at(&self, sample: u64) -> &str {
+        let j = sample as usize;
+        self.texts[j].get_or_init(|| instant::format(self.times[j], self.digits))
+    }
+}
+
+/// A text as a field of CSV, quoted where it must be.
+fn csv_field(text: &str) -> io::Result<Vec<u8>> {
+    let mut line = Vec::new();
+    let mut out = csv::WriterBuilder::new().buffer_capacity(256).from_writer(&mut line);
+    out.write_record([text, ""]).map_err(csv_error)?;
+    out.flush()?;
+    drop(out);
+    line.truncate(line.len() - ",\n".len());
+    Ok(line)
 }
 
 fn share(count: usize, samples: usize) -> Option<f64> {
@@ -350,8 +371,8 @@ impl Totals {
 }
 
 /// The table's columns: each as wide as its widest entry, with a space before it at least.
-struct Columns {
-    digits: usize,
+struct Columns<'a> {
+    times: Times<'a>,
     gap: &'static str,
     seconds: usize,
     /// Where there are severities; else the sample numbers, if they fit into 80 columns.
@@ -359,34 +380,33 @@ struct Columns {
     samples: Option<usize>,
 }
 
-impl Columns {
-    fn of(listing: &Listing) -> Columns {
+impl Columns<'_> {
+    fn of<'a>(listing: &'a Listing) -> Columns<'a> {
         let windows = || listing.rows.iter().flat_map(|row| &row.windows);
-        let widest = |text: fn(&Listed) -> String| windows().map(|listed| text(listed).len()).max().unwrap_or(0);
         let digits = instant::digits(windows().flat_map(|l| [l.window.first_time, l.window.last_time]));
-        let seconds = widest(|l| grouped(l.seconds));
-        let severity = if listing.has_severities() { Some(widest(severity)) } else { None };
-        let samples = widest(samples);
+        let seconds = grouped(windows().map(|l| l.seconds).max().unwrap_or(0)).len();
+        let severity = listing.has_severities().then(|| windows().map(|l| severity(l).len()).max().unwrap_or(0));
+        let samples = windows().map(|l| width(l.window.first) + 1 + width(l.window.last)).max().unwrap_or(0);
         let time = instant::format(0, digits).len();
         let width = |gap: usize, columns: usize| 2 + 8 + gap + time + gap + time + 1 + columns;
         let needed = 1 + seconds + severity.map_or(0, |w| 1 + w);
         let samples = Some(samples).filter(|w| severity.is_none() && width(2, needed + 1 + w) <= 80);
-        Columns { digits, gap: if width(2, needed) <= 80 { "  " } else { " " }, seconds, severity, samples }
+        let gap = if width(2, needed) <= 80 { "  " } else { " " };
+        Columns { times: Times::of(listing.plan, digits), gap, seconds, severity, samples }
     }
-    fn line(&self, listed: &Listed) -> String {
+    fn line(&self, out: &mut impl Write, listed: &Listed) -> io::Result<()> {
         let w = &listed.window;
-        let time = |t| instant::format(t, self.digits);
-        let mut line = format!("  {:8}{}{}{}{}", listed.kind.word(), self.gap, time(w.first_time), self.gap, time(w.last_time));
-        line.push(if w.is_last != 0 { '>' } else { ' ' });
-        line += &format!(" {:>1$}", grouped(listed.seconds), self.seconds);
-        if let Some(width) = self.severity {
-            line += &format!(" {:>1$}", severity(listed), width);
+        let (start, end, mark) = (self.times.at(w.first), self.times.at(w.last), if w.is_last != 0 { '>' } else { ' ' });
+        write!(out, "  {:8}{}{}{}{}{}", listed.kind.word(), self.gap, start, self.gap, end, mark)?;
+        write!(out, " {:>1$}", grouped(listed.seconds), self.seconds)?;
+        if let (Some(width), Kind::Violated) = (self.severity, listed.kind) {
+            write!(out, " {:>1$}", severity(listed), width)?;
         }
-        if let Some(width) = self.samples {
-            line += &format!(" {:>1$}", samples(listed), width);
+        if let Some(samples) = self.samples {
+            let blank = samples - (width(w.first) + 1 + width(w.last));
+            write!(out, " {:blank$}{}-{}", "", w.first, w.last)?;
         }
-        line.truncate(line.trim_end().len());
-        line
+        writeln!(out)
     }
     fn legend(&self) -> &'static str {
         if self.severity.is_some() {
@@ -406,8 +426,9 @@ fn severity(listed: &Listed) -> String {
     }
 }
 
-fn samples(listed: &Listed) -> String {
-    format!("{}-{}", listed.window.first, listed.window.last)
+/// How many digits a number has.
+fn width(n: u64) -> usize {
+    n.checked_ilog10().map_or(1, |log| log as usize + 1)
 }
 
 /// A setting, which may be any number: JSON has none for nan, inf and -inf, so these are texts, as TOML spells them.
@@ -454,29 +475,29 @@ struct JsonRow<'a> {
     name: &'a str,
     tolerance_deg: Degrees,
     totals: &'a Totals,
-    visible: Vec<JsonWindow>,
-    violated: Vec<JsonWindow>,
+    visible: Vec<JsonWindow<'a>>,
+    violated: Vec<JsonWindow<'a>>,
 }
 
 #[derive(Serialize)]
-struct JsonWindow {
+struct JsonWindow<'a> {
     first_sample: u64,
     last_sample: u64,
-    start: String,
-    end: String,
+    start: &'a str,
+    end: &'a str,
     seconds: u64,
     severity_deg: f64,
     data_end: bool,
 }
 
-impl JsonWindow {
-    fn of(listed: &Listed) -> JsonWindow {
+impl JsonWindow<'_> {
+    fn of<'a>(listed: &Listed, times: &'a Times) -> JsonWindow<'a> {
         let w = &listed.window;
         JsonWindow {
             first_sample: w.first,
             last_sample: w.last,
-            start: instant::format(w.first_time, 9),
-            end: instant::format(w.last_time, 9),
+            start: times.at(w.first),
+            end: times.at(w.last),
             seconds: listed.seconds,
             severity_deg: w.severity,
             data_end: w.is_last != 0,
