@@ -6,6 +6,7 @@
 mod case;
 mod cuts;
 mod damage;
+mod evidence;
 mod machine;
 mod split;
 mod syncs;
@@ -163,7 +164,10 @@ fn run(folder: &Path, seconds: u64, seed: u64) -> Tally {
     split::every_call_of_merge(&four, &at("merge"), &mut tally);
     done(format!("every system call of a merge: {} of them", tally.calls - before));
     damage::all(&four, &at("damage"), &mut seeded, &mut tally);
-    done(format!("damage: {} journals", tally.damaged));
+    done(format!("damage, and tails of zero bytes: {} journals", tally.damaged));
+    let others = Case::drawn("other targets and Suns", 12, 3, 70, 8, 15.0, None);
+    let refused = evidence::all(&four, &others, &at("evidence"));
+    done(format!("lines that are right and not the plan's: {} journals, each refused", refused));
     for what in trouble::all(&four, &at("trouble")) {
         done(what);
     }

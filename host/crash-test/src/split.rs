@@ -2,6 +2,7 @@
 use crate::{
     case::Case,
     cuts::{pause, whole},
+    evidence::still_right,
     machine::{ended, program, Machine, WAYS},
     trace::{run_to, Stop},
     Tally,
@@ -75,7 +76,7 @@ fn merged(case: &Case, folder: &Path, all: &[Machine], tally: &mut Tally) {
     assert_eq!(target.run(&words).status, 0);
     assert!(fs::read(target.folder.join("again.journal")).unwrap() == target.journal());
     let good = target.journal();
-    let other = still_right(&good);
+    let other = (0..case.chunks()).find_map(|line| still_right(&good, line)).expect("a mask of some cells");
     fs::write(target.folder.join("other.journal"), &other).unwrap();
     fs::copy(target.folder.join("plan.journal.plan"), target.folder.join("other.journal.plan")).unwrap();
     let words = ["merge", "plan.toml", "-o", "never.journal", "plan.journal", "other.journal"];
@@ -138,14 +139,4 @@ pub fn every_call_of_merge(case: &Case, folder: &Path, tally: &mut Tally) {
             tally.calls += 1;
         }
     }
-}
-
-/// The journal with one line that is another and still right: as many of its cells are marked.
-fn still_right(journal: &[u8]) -> Vec<u8> {
-    let mut journal = journal.to_vec();
-    let digit = |at: usize| char::from(journal[at]).to_digit(16).unwrap();
-    let masks = (HEADER..journal.len()).filter(|at| (8..24).contains(&((at - HEADER) % LINE)));
-    let at = masks.into_iter().find(|&at| ![0, 15].contains(&digit(at))).expect("a mask of some cells");
-    journal[at] = char::from_digit((digit(at) << 1 | digit(at) >> 3) & 15, 16).unwrap() as u8;
-    journal
 }
