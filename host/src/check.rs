@@ -8,9 +8,9 @@ use crate::{
     journal::{chunk_of, lines, look, Journal},
     look::about,
     plan::Plan,
+    remarks::{remarks, sun},
     say,
     text::grouped,
-    tolerance::nothing_violated,
     workers::first_run,
     Files,
 };
@@ -47,7 +47,7 @@ impl Check {
     pub fn run(&self) -> Result<(), Fault> {
         let (plan, path) = self.files.read()?;
         // The digest is written though nobody reads what is said.
-        let said = say(about(&plan)).and_then(|()| nothing_violated(&plan).map_or(Ok(()), say));
+        let said = say(about(&plan)).and_then(|()| sun(&plan).into_iter().chain(remarks(&plan)).try_for_each(say));
         if !self.write_digest {
             said?;
         }

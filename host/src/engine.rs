@@ -1,7 +1,7 @@
 //! The proved library as this program calls it. Every vector, line, mask and window comes from here, and nothing else calls it.
 use crate::{plan::Plan, tried::Rolls};
 use std::{ops::Range, slice};
-pub use wilfnusk::{cos, sin, Cost, Refusal, Roll, Window, CHUNK_CELLS, HEADER_BYTES, LINE_BYTES};
+pub use wilfnusk::{circular_diff_deg, cos, sin, Cost, Refusal, Roll, Window, CHUNK_CELLS, HEADER_BYTES, LINE_BYTES};
 use wilfnusk::{Columns, PlanLists};
 
 fn lent(plan: &Plan) -> wilfnusk::Plan<'_> {
@@ -37,6 +37,11 @@ pub fn check(plan: &Plan) -> Result<(), Refusal> {
     lent(plan).recover(&plan.rolls, &[], 0)?;
     visibility(&vec![0; plan.times.len()], &plan.times)?;
     Ok(())
+}
+
+/// Whether every cell is Free with this panel normal, whatever the positions: the Sun is across this boresight.
+pub fn panel_is_free(panel: [f64; 3]) -> bool {
+    matches!(wilfnusk::cell([1.0, 0.0, 0.0], [0.0, 1.0, 0.0], [0.0; 3], panel), Ok(wilfnusk::OptimalRoll::Free))
 }
 
 /// What the cost of a sweep depends on.

@@ -276,10 +276,10 @@ mod tests {
         assert_eq!(plan.rolls.table(), Some(&[0.0, 15.5, 47.0][..]));
     }
     #[test]
-    fn is_a_plan() {
+    fn is_a_plan_without_a_warning() {
         let plan = read();
         assert_eq!((plan.names.len(), plan.times.len(), plan.chunks()), (16, 1440, 360));
-        assert_eq!(crate::tolerance::nothing_violated(&plan), None);
+        assert_eq!((plan.warnings(), crate::remarks::remarks(&plan)), (vec![], vec![]));
     }
     /// A cell is clear while the optimal roll, which turns slowly, is within 5 degrees of a multiple of 15: two thirds of the cells, in windows
     /// of many samples. Near the ecliptic's pole the roll turns a degree a day: ten days clear, five violated.

@@ -44,7 +44,9 @@ pub fn plan(plan: &Plan, refusal: Refusal) -> Fault {
             let wrong = plan.targets.iter().position(|x| !(-1.0..=1.0).contains(x));
             wrong.map(|i| target(&plan.targets_sheet, i / 3, 1 + i % 3, "-1 to 1"))
         }
-        6 => Some(format!("{}: panel reads {:?}; allowed: three finite numbers of at most 1e100 in size", plan.at("panel"), plan.panel)),
+        6 => {
+            Some(format!("{}: panel reads {}; allowed: three finite numbers of at most 1e100 in size", plan.at("panel"), plan.panel_text()))
+        }
         8 => {
             let most = 4_000_000_000_000_000_000;
             plan.times.iter().position(|t| !(-most..=most).contains(t)).map(|i| {

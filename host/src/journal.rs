@@ -4,6 +4,7 @@ use crate::{
     fault::Fault,
     files::{fault, reason, sync_folder},
     stop,
+    text::{counted, grouped},
 };
 use fs2::FileExt;
 use std::{
@@ -70,11 +71,11 @@ impl Journal {
         }
         if now.len() != self.bytes.len() as u64 {
             return Err(Fault::Files(format!(
-                "{}: the file has {} bytes and had {} after this sweep's last write, so another program writes it; \
+                "{}: the file has {} and had {} after this sweep's last write, so another program writes it; \
                  nothing was overwritten. Find that program, then sweep again",
                 path,
-                now.len(),
-                self.bytes.len()
+                counted(now.len(), "byte"),
+                grouped(self.bytes.len())
             )));
         }
         Ok(())

@@ -10,6 +10,7 @@ use crate::{
     listing::{Degrees, Listing},
     outputs::Outputs,
     plan::Plan,
+    remarks::tell_remarks,
     say, say_json,
     selection::{self, Selected, Selection},
     text::{all_ranges, counted, grouped, number, printable, ranges},
@@ -42,6 +43,7 @@ impl Windows {
         let (plan, path) = self.files.read()?;
         let selected = self.selection.of(&plan)?;
         self.outputs.check(&plan, &path)?;
+        tell_remarks(&plan);
         if self.evaluate {
             if plan.configured_roll.is_none() {
                 return Err(Fault::Usage(format!("--evaluate: {} has no configured_roll", plan.path().display())));
@@ -195,7 +197,7 @@ impl State {
 
 pub fn about(plan: &Plan) -> String {
     format!(
-        "plan     {}: {}, {}, {} in {}\nsettings {}, tolerance {}, panel {:?}, configured roll {}",
+        "plan     {}: {}, {}, {} in {}\nsettings {}, tolerance {}, panel {}, configured roll {}",
         plan.path().display(),
         counted(plan.names.len(), "target"),
         counted(plan.times.len(), "time"),
@@ -203,7 +205,7 @@ pub fn about(plan: &Plan) -> String {
         counted(plan.chunks(), "chunk"),
         plan.rolls.in_words(""),
         tolerance::in_words(&plan.tolerances, ""),
-        plan.panel,
+        plan.panel_text(),
         plan.configured_roll.map_or("none".to_owned(), number),
     )
 }

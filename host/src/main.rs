@@ -6,6 +6,7 @@
 #[macro_use]
 mod text;
 
+mod almanac;
 mod check;
 mod cost;
 mod digest;
@@ -22,6 +23,7 @@ mod merge;
 mod outputs;
 mod plan;
 mod progress;
+mod remarks;
 mod rolls;
 mod selection;
 mod settings;
@@ -110,10 +112,10 @@ impl Files {
     /// The plan, as far as the library takes it, and the journal's place.
     fn read(&self) -> Result<(plan::Plan, PathBuf), Fault> {
         let plan = plan::Plan::read(&self.plan)?;
+        engine::check(&plan).map_err(|refusal| explain::plan(&plan, refusal))?;
         for warning in plan.warnings() {
             tell!("warning: {}", warning);
         }
-        engine::check(&plan).map_err(|refusal| explain::plan(&plan, refusal))?;
         let journal = self.journal.clone().unwrap_or_else(|| plan.journal());
         Ok((plan, journal))
     }

@@ -6,7 +6,7 @@ use crate::{
     settings::{entry, Read, Values},
     sheet::{Form, Sheet},
     source::{shown, Source},
-    text::{excerpt, grouped},
+    text::{counted, excerpt, grouped, number},
     tolerance::{self, Told},
     tried::Rolls,
 };
@@ -164,10 +164,14 @@ impl Plan {
         let (at, text) = entry(&self.source.text, list, number).unwrap_or((list, ""));
         (self.source.at(at), text)
     }
-    /// What is accepted and yet seldom meant: two targets of one name, and a name of several lines.
+    /// What every command warns of: columns that are not used, two targets of one name, and a name of several lines.
     pub fn warnings(&self) -> Vec<String> {
-        const TOLD: usize = 5;
-        let (mut told, mut more) = (Vec::new(), 0);
+        let columns = [&self.targets_sheet, &self.ephemeris_sheet].into_iter().flat_map(Sheet::warnings);
+        columns.chain(self.warnings_of_names()).collect()
+    }
+    fn warnings_of_names(&self) -> Vec<String> {
+        const NAMED: usize = 5;
+        let (mut warnings, mut more) = (Vec::new(), 0);
         let mut first = HashMap::new();
         for (i, name) in self.names.iter().enumerate() {
             let field = |i| self.targets_sheet.field(i, 0);
@@ -176,21 +180,26 @@ impl Plan {
             if before == i && lines <= 1 {
                 continue;
             }
-            if told.len() == TOLD {
+            if warnings.len() == NAMED {
                 more += 1;
                 continue;
             }
             let target = format!("{}: target `{}`", field(i).at(), field(i).shown());
-            told.push(if before < i {
+            warnings.push(if before < i {
                 format!("{} has the name of line {}; both are listed under it", target, field(before).line())
             } else {
                 format!("{} has a name of {} lines; is a quote missing at the end of the first?", target, grouped(lines))
             });
         }
         if more > 0 {
-            told.push(format!("{}: the same of {} more targets", shown(&self.targets_sheet.source.path), grouped(more)));
+            let more = counted(more, "more target");
+            warnings.push(format!("{}: the same holds of {}", shown(&self.targets_sheet.source.path), more));
         }
-        told
+        warnings
+    }
+    /// The panel normal as a message shows it.
+    pub fn panel_text(&self) -> String {
+        format!("[{}]", self.panel.map(number).join(", "))
     }
     pub fn cells(&self) -> usize {
         self.names.len() * self.times.len()
@@ -226,6 +235,7 @@ mod tests {
     use crate::{
         digest::Digest,
         engine, explain,
+        remarks::{remarks, sun},
         testing::{plan, with, CATALOGUE, COLUMN, EPHEMERIS, OUTSIDE, PIECES, TARGETS, TOML},
         text::excerpt,
     };
@@ -565,7 +575,7 @@ mod tests {
         assert!(told[1].contains("line 6, column 1: target `A` has the name of line 2"), "{}", told[1]);
         let told = warnings(&format!("name,x,y,z\n{}", "A,1,0,0\n".repeat(1000)));
         assert_eq!(told.len(), 6);
-        assert!(told[5].ends_with("t.csv: the same of 994 more targets"), "{}", told[5]);
+        assert!(told[5].ends_with("t.csv: the same holds of 994 more targets"), "{}", told[5]);
         let told = warnings("name,x,y,z\n\"A,1,0,0\n\"B,1,0,0\n");
         assert_eq!(told.len(), 1);
         assert!(told[0].contains("line 2, column 2: target `A,1,0,0\\nB` has a name of 2 lines; is a quote missing"), "{}", told[0]);
@@ -651,7 +661,8 @@ mod tests {
                     plan.warnings();
                     let refused = engine::check(&plan).map_err(|refusal| explain::plan(&plan, refusal)).err();
                     if refused.is_none() {
-                        tolerance::nothing_violated(&plan);
+                        remarks(&plan);
+                        sun(&plan);
                         prop_assert_eq!(plan.tolerances.len(), plan.names.len());
                     }
                     refused

@@ -54,6 +54,10 @@ pub struct Read {
 
 impl<'a> Values<'a> {
     pub fn of(source: &'a Source) -> Result<Values<'a>, Fault> {
+        // TOML forbids it. A reader that took it for a space would read the next line as the end of a comment.
+        if let Some(at) = lone_carriage_return(&source.text) {
+            return Err(source.fault(at, "a carriage return without a line feed", "lines that end with a line feed, or with both"));
+        }
         shallow(source)?;
         let no_toml = |e: toml::de::Error| {
             let (line, column) = e.line_col().unwrap_or((0, 0));
@@ -149,6 +153,10 @@ impl<'a> Values<'a> {
             Some(read) => number(&read.value).map(Some).ok_or_else(|| self.wrong(key, &read, "a number of degrees")),
         }
     }
+}
+
+fn lone_carriage_return(text: &str) -> Option<usize> {
+    text.match_indices('\r').map(|(at, _)| at).find(|&at| !text[at..].starts_with("\r\n"))
 }
 
 /// Refuses what no plan has and the TOML reader would follow as deep as it goes: tables, and brackets or dots inside each other.
@@ -291,6 +299,21 @@ mod tests {
             let text = fault(settings);
             assert!(text.starts_with(says), "{}", text);
         }
+    }
+    #[test]
+    fn a_lone_carriage_return_is_refused_where_it_stands() {
+        const ALLOWED: &str = "a carriage return without a line feed; allowed: lines that end with a line feed, or with both";
+        for (settings, at) in [
+            ("rolls = 1\rtolerance = 1\n", "line 3, column 10"),
+            ("rolls = 1\n# note\rtolerance = 1\n", "line 4, column 7"),
+            ("rolls = [1, # é\r2]\ntolerance = 1\n", "line 3, column 16"),
+            ("rolls = 1\ntolerance = \"\"\"\r\"\"\"\n", "line 4, column 16"),
+            ("rolls = 1\r\n\rtolerance = 1\n", "line 4, column 1"),
+            ("rolls = 1\r\ntolerance = 1\r", "line 4, column 14"),
+        ] {
+            assert_eq!(fault(settings), format!("plan.toml, {}: {}", at, ALLOWED), "{:?}", settings);
+        }
+        assert!(with("rolls = 1\r\n# note\r\ntolerance = 1\r\n").is_ok());
     }
     #[test]
     fn deep_plans_are_refused_before_they_are_read() {

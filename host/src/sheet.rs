@@ -25,6 +25,8 @@ pub struct Sheet {
     names: Vec<&'static str>,
     /// For each wanted column, its number in the file.
     columns: Vec<usize>,
+    /// The columns that are not used and yet resemble a known one: the number in the file, the column's text, and the known one.
+    lookalikes: Vec<(usize, String, &'static str)>,
     /// The byte where the record starts that names the columns.
     header: usize,
     /// The wanted columns of the first rows: one row more than is allowed, so that the library sees it and refuses.
@@ -47,10 +49,8 @@ impl Sheet {
         Sheet::of(Source::read(path, MOST_BYTES)?, forms, beside)
     }
     pub fn of(mut source: Source, forms: &[Form], beside: &[&'static str]) -> Result<Sheet, Fault> {
-        if !source.text.contains('\n') {
-            // csv takes a carriage return for a line's end, but not for a comment's.
-            source.text = source.text.replace('\r', "\n");
-        }
+        // csv ends a record at any line end, but a comment at a line feed only: a lone carriage return after one would swallow the next row.
+        source.text = with_line_feeds(source.text);
         short_lines(&source)?;
         // A comment that ends with the file would be read as a record.
         let text = source.text.as_bytes().chain(&b"\n"[..]);
@@ -62,6 +62,7 @@ impl Sheet {
         }
         let header = start(&source, record.position());
         let (form, names, columns) = find(&source, &record, forms, beside)?;
+        let lookalikes = lookalikes(&record, forms, beside, &columns);
         let (mut records, mut rows) = (Vec::new(), 0);
         let mut last = record.position().cloned();
         while next(&mut record)? {
@@ -76,7 +77,7 @@ impl Sheet {
         if let Some(fault) = open_quote(&source, start(&source, last.as_ref())) {
             return Err(fault);
         }
-        Ok(Sheet { source, form, names, columns, header, records, rows })
+        Ok(Sheet { source, form, names, columns, lookalikes, header, records, rows })
     }
     pub fn form(&self) -> Form {
         self.form
@@ -88,6 +89,24 @@ impl Sheet {
     /// Where a wanted column is named.
     pub fn column_at(&self, column: usize) -> String {
         self.source.at(place(&self.source.text, self.header, self.columns[column], 0))
+    }
+    /// A warning for each of the first columns that are not used and yet resemble a known one.
+    pub fn warnings(&self) -> Vec<String> {
+        const NAMED: usize = 5;
+        let place = |column: usize| self.source.at(place(&self.source.text, self.header, column, 0));
+        let warning = |(column, text, known): &(usize, String, &'static str)| {
+            let instead = if self.column(known).is_some() { format!("`{}` is", known) } else { format!("did you mean `{}`?", known) };
+            format!("{}: column `{}` is not used; {}", place(*column), excerpt(text), instead)
+        };
+        let mut warnings: Vec<_> = self.lookalikes.iter().take(NAMED).map(warning).collect();
+        if self.lookalikes.len() > NAMED {
+            let (count, path) = (self.lookalikes.len() - NAMED, shown(&self.source.path));
+            warnings.push(match count {
+                1 => format!("{}: 1 more column is not used and resembles a known one", path),
+                _ => format!("{}: {} more columns are not used and resemble known ones", path, grouped(count)),
+            });
+        }
+        warnings
     }
     /// How many rows the file has.
     pub fn len(&self) -> usize {
@@ -105,6 +124,24 @@ fn builder() -> ReaderBuilder {
     let mut builder = ReaderBuilder::new();
     builder.has_headers(false).trim(Trim::All).comment(Some(b'#'));
     builder
+}
+
+/// The text with a line feed in place of each lone carriage return outside quotes, so that every byte keeps its place.
+fn with_line_feeds(text: String) -> String {
+    if !text.contains('\r') {
+        return text;
+    }
+    let (mut reading, mut at_start, mut in_comment) = (Reading::Start, true, false);
+    let mut chars = text.chars().peekable();
+    let mut lines = String::with_capacity(text.len());
+    while let Some(c) = chars.next() {
+        in_comment |= at_start && c == '#';
+        let ends = if in_comment { matches!(c, '\r' | '\n') } else { matches!(reading.role(c), Role::End) };
+        in_comment &= !ends;
+        at_start = ends;
+        lines.push(if c == '\r' && ends && chars.peek() != Some(&'\n') { '\n' } else { c });
+    }
+    lines
 }
 
 fn short_lines(source: &Source) -> Result<(), Fault> {
@@ -194,6 +231,27 @@ fn rename(header: &StringRecord, wanted: &[&str]) -> String {
         }
     }
     text
+}
+
+/// Words that say in which unit or scale a column is.
+const UNITS: [&str; 16] =
+    ["deg", "degs", "degree", "degrees", "h", "hr", "hrs", "hour", "hours", "rad", "radians", "km", "m", "au", "utc", "iso"];
+
+/// The columns that are not used and resemble a known one: it is left of the name without capitals, spaces, signs and units.
+fn lookalikes(header: &StringRecord, forms: &[Form], beside: &[&'static str], used: &[usize]) -> Vec<(usize, String, &'static str)> {
+    let plain = |name: &str| name.chars().filter(char::is_ascii_alphanumeric).collect::<String>().to_ascii_lowercase();
+    let known: Vec<_> = forms.iter().copied().flatten().chain(beside).copied().collect();
+    let resembled = |column: &str| {
+        let column = column.to_ascii_lowercase();
+        let words: Vec<_> = column.split(|c: char| !c.is_ascii_alphanumeric()).filter(|word| !word.is_empty()).collect();
+        let units = words.iter().rev().take_while(|word| UNITS.contains(word)).count();
+        let text = words[..words.len() - units].concat();
+        let text = text.strip_suffix("degrees").or(text.strip_suffix("deg")).unwrap_or(&text);
+        let other = |name: &str| OTHER_NAMES.iter().any(|(known, others)| *known == name && others.contains(&text));
+        known.iter().copied().find(|name| plain(name) == text || other(name))
+    };
+    let unused = header.iter().enumerate().filter(|(i, _)| !used.contains(i));
+    unused.filter_map(|(i, column)| Some((i, column.to_owned(), resembled(column)?))).collect()
 }
 
 /// Where a record starts: after the line ends and the comments that the position still has before it.
@@ -604,10 +662,29 @@ mod tests {
         assert!(fault("#name,x\na,1\n").contains("no column `name` in `a,1`; allowed: a first line that names the columns name,x"));
     }
     #[test]
-    fn lines_that_end_with_a_carriage_return_alone() {
+    fn a_lone_carriage_return_ends_a_line() {
+        let names = |text: &str| sheet(text).unwrap().fields().map(|f| f[0].text().to_owned()).collect::<Vec<_>>();
+        for text in [
+            "name,x\r# two\ra,1\rb,2\r",
+            "name,x\ra,1\r# note\rb,2\n",
+            "name,x\na,1\n# note\rb,2\n",
+            "name,x\r\na,1\r\n# note\rb,2\r\n",
+            "# first\rname,x\r\r\na,1\n\r#\r#\r\nb,2",
+            "name,x\na,1\rb,2\n",
+        ] {
+            assert_eq!(names(text), ["a", "b"], "{:?}", text);
+        }
         let s = sheet("name,x\r# two\ra,1\rb,oops\r").unwrap();
-        assert_eq!(s.len(), 2);
         assert!(s.field(1, 1).number().unwrap_err().to_string().starts_with("t.csv, line 4, column 3: "));
+        let s = sheet("name,x\r\n# two\r\ra,1\n# five\rb,oops\n").unwrap();
+        assert!(s.field(1, 1).number().unwrap_err().to_string().starts_with("t.csv, line 6, column 3: "));
+        // Inside quotes it is part of the field, as a line feed is; and it starts no comment.
+        let s = sheet("name,x\n\"a\r#\rb\",1\r\"c\r\n\",oops\r").unwrap();
+        assert_eq!((s.len(), s.field(0, 0).text(), s.field(0, 1).at().as_str()), (2, "a\r#\rb", "t.csv, line 4, column 4"));
+        assert!(s.field(1, 1).number().unwrap_err().to_string().starts_with("t.csv, line 6, column 3: "));
+        assert!(fault("name,x\ra,1\r# \"\r\"b,2\rc,3\r").starts_with("t.csv, line 4, column 1: this quote is not closed"));
+        // The line limit holds of such lines too.
+        assert!(sheet(&format!("name,x\r{}", "a,1\r".repeat(20_000))).is_ok());
     }
     #[test]
     fn a_long_line_and_a_long_file() {
@@ -624,6 +701,67 @@ mod tests {
         let s = sheet(&format!("name,x\na,{}\n", "7x".repeat(10_000))).unwrap();
         assert!(s.field(0, 1).number().unwrap_err().to_string().len() < 300);
         assert!(fault(&format!("{}\n", "\0".repeat(10_000))).len() < 400);
+    }
+    /// The rows of a text of two columns, its first row too: the line where each starts, the line of the first character of its first field, and
+    /// its fields. Where a row has another number of fields, or a quote is left open, the line of the fault.
+    fn plainly_read(text: &str) -> Result<Vec<(usize, usize, Vec<String>)>, usize> {
+        let chars: Vec<char> = text.chars().collect();
+        let (mut i, mut line, mut rows) = (0, 1, Vec::new());
+        // The length of the line end here, if there is one.
+        let end = |i: usize| match (chars.get(i), chars.get(i + 1)) {
+            (Some('\r'), Some('\n')) => 2,
+            (Some('\r' | '\n'), _) => 1,
+            _ => 0,
+        };
+        while i < chars.len() {
+            if end(i) > 0 {
+                (i, line) = (i + end(i), line + 1);
+            } else if chars[i] == '#' {
+                while i < chars.len() && end(i) == 0 {
+                    i += 1;
+                }
+            } else {
+                let (start, mut first, mut fields) = (line, None, Vec::new());
+                loop {
+                    let (mut field, opened) = (String::new(), line);
+                    let mut quoted = chars.get(i) == Some(&'"');
+                    i += usize::from(quoted);
+                    while i < chars.len() && (quoted || chars[i] != ',' && end(i) == 0) {
+                        if quoted && chars[i] == '"' {
+                            quoted = chars.get(i + 1) == Some(&'"');
+                            i += 1;
+                            if !quoted {
+                                continue;
+                            }
+                        }
+                        if fields.is_empty() && !chars[i].is_whitespace() {
+                            first.get_or_insert(line);
+                        }
+                        for _ in 0..end(i).max(1) {
+                            field.push(chars[i]);
+                            line += usize::from(end(i) == 1);
+                            i += 1;
+                        }
+                    }
+                    if quoted {
+                        return Err(opened);
+                    }
+                    if fields.is_empty() {
+                        first.get_or_insert(line);
+                    }
+                    fields.push(field.trim().to_owned());
+                    if chars.get(i) != Some(&',') {
+                        break;
+                    }
+                    i += 1;
+                }
+                if fields.len() != 2 {
+                    return Err(start);
+                }
+                rows.push((start, first.unwrap_or(start), fields));
+            }
+        }
+        Ok(rows)
     }
     proptest! {
         #[test]
@@ -642,13 +780,32 @@ mod tests {
                 }
             }
         }
+        /// Whatever ends the lines, the rows, their fields and their line numbers are those of a reader that goes character by character.
+        #[test]
+        fn rows_are_those_of_a_plain_reader(
+            first in prop::sample::select(&["", "# \"of\r", "\r\n", "#\r\n\r"][..]),
+            pieces in prop::collection::vec(prop::sample::select(&["a", "é", ",", "\"", "\"\"", "#", "# b,c", " ", "\r", "\n", "\r\n", "\ra,b\r", "\na,b\r\n"][..]), 0..24),
+            end in prop::sample::select(&["\r", "\n", "\r\n"][..]),
+        ) {
+            let text = format!("{}name,x{}{}", first, end, pieces.concat());
+            match (sheet(&text), plainly_read(&text)) {
+                (Ok(s), Ok(rows)) => {
+                    let read: Vec<_> = s.fields().map(|f| (f[0].line(), [f[0].text().to_owned(), f[1].text().to_owned()].to_vec())).collect();
+                    // The place of a name is that of its first character, which may be some lines down in a quoted field.
+                    let due: Vec<_> = rows[1..].iter().map(|(_, line, fields)| (*line, fields.clone())).collect();
+                    prop_assert_eq!(read, due, "{:?}", text);
+                }
+                (Err(fault), Err(line)) => prop_assert!(fault.to_string().starts_with(&format!("t.csv, line {}, ", line)), "{} not {} of {:?}", fault, line, text),
+                (read, due) => prop_assert!(false, "{:?} and not {:?} of {:?}", read.map(|s| s.len()), due, text),
+            }
+        }
         #[test]
         fn any_text_is_a_sheet_or_a_fault(head in "(name,x\n)?", text in "(\\PC|\\s|[\",#\n]|[0-9a-z]{1,3},[0-9.]{1,3}\n){0,40}") {
             if let Ok(s) = sheet(&(head + &text)) {
                 for f in s.fields().flatten() {
                     let faults = [f.number().err(), f.degrees().err(), f.tolerance().err(), f.time().err()].map(|e| e.map_or(String::new(), |e| e.to_string()));
                     prop_assert!(faults.iter().all(|text| text.len() < 800));
-                    prop_assert!(f.line() <= s.source.text.lines().count());
+                    prop_assert!(f.line() <= s.source.text.split(['\r', '\n']).count());
                 }
             }
         }

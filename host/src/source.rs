@@ -61,8 +61,14 @@ impl Source {
         while !self.text.is_char_boundary(byte) {
             byte -= 1;
         }
-        let before = &self.text[..byte];
-        (before.matches('\n').count() + 1, before.rsplit('\n').next().unwrap_or(before))
+        let (mut line, mut start) = (1, 0);
+        for (i, c) in self.text[..byte].bytes().enumerate() {
+            // Of a carriage return and a line feed the second ends the line.
+            if c == b'\n' || c == b'\r' && self.text.as_bytes().get(i + 1) != Some(&b'\n') {
+                (line, start) = (line + 1, i + 1);
+            }
+        }
+        (line, &self.text[start..byte])
     }
     /// The line of a byte, from 1.
     pub fn line_number(&self, byte: usize) -> usize {
@@ -108,6 +114,14 @@ mod tests {
         assert_eq!(s.at(3), "f, line 2, column 1");
         assert_eq!(s.at(5), "f, line 2, column 2");
         assert_eq!(s.at(99), "f, line 3, column 1");
+        // A line ends with a line feed, a carriage return, or both.
+        let s = Source::of(Path::new("f"), "a\r\nb\rc\n\rd".into()).unwrap();
+        let places =
+            ["1, column 1", "1, column 2", "1, column 3", "2, column 1", "2, column 2", "3, column 1", "3, column 2", "4, column 1"];
+        for (byte, place) in places.iter().enumerate() {
+            assert_eq!(s.at(byte), format!("f, line {}", place), "{}", byte);
+        }
+        assert_eq!(s.at(8), "f, line 5, column 1");
     }
     #[test]
     fn latin1_is_refused_where_it_stands() {

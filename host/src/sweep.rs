@@ -9,10 +9,10 @@ use crate::{
     outputs::Outputs,
     plan::Plan,
     progress::Progress,
+    remarks::tell_remarks,
     selection::{Selected, Selection},
     stop,
     text::{counted, grouped, ranges},
-    tolerance::nothing_violated,
     workers::{cores, Workers},
     Files,
 };
@@ -96,9 +96,7 @@ impl Sweep {
         let asked = self.asked(&plan)?;
         let selected = self.selection.of(&plan)?;
         self.outputs.check(&plan, &path)?;
-        if let Some(text) = nothing_violated(&plan) {
-            tell!("{}", text);
-        }
+        tell_remarks(&plan);
         stop::listen();
         let mut journal = Journal::open(&path, self.wait)?;
         if self.drop_zero_tail {
@@ -177,7 +175,7 @@ fn start(plan: &Plan, journal: &mut Journal) -> Result<(), Fault> {
     }
     journal.shorten(keep)?;
     if keep < found {
-        tell!("recovered {}: {} bytes of a write that did not end are gone", journal.path.display(), found - keep);
+        tell!("recovered {}: removed {} of a write that did not end", journal.path.display(), counted(found - keep, "byte"));
     }
     // Without a line nothing depends on the digest: it is made this plan's, before the first line can follow.
     if keep <= HEADER_BYTES as usize {

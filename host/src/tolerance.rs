@@ -1,12 +1,12 @@
-//! The tolerances of a plan, one a target, whichever way its files give them; and where one is so wide that nothing can be violated: no roll is
-//! further from the nearest of those that are tried than half their largest gap.
+//! The tolerances of a plan, one per target, whichever way its files give them; and warnings where one leaves a target's cells a single answer. One
+//! of half the largest gap between the rolls that are tried is never exceeded, as no roll is further from the nearest of them.
 use crate::{
     digest::bits,
     plan::Plan,
-    text::{grouped, number},
+    text::{counted, grouped, number},
 };
 
-/// How a plan tells its tolerances.
+/// How a plan gives its tolerances.
 #[derive(Clone, Copy, Debug, PartialEq, Eq)]
 pub enum Told {
     /// The key has one number for all targets.
@@ -44,67 +44,80 @@ pub fn in_words(tolerances: &[f64], unit: &str) -> String {
     format!("{}{} by target", range, nan)
 }
 
-/// Where the tolerances are told: the key's value, or the column's name.
-pub fn place(plan: &Plan) -> String {
+/// Where a target's tolerance stands: the key's value, its entry of the key's list, or its cell of the column.
+fn place(plan: &Plan, target: usize) -> String {
     match plan.told {
-        Told::Column(column) => plan.targets_sheet.column_at(column),
-        Told::Number | Told::List => plan.at("tolerance"),
+        Told::Number => plan.at("tolerance"),
+        Told::List => plan.entry("tolerance", target).0,
+        Told::Column(column) => plan.targets_sheet.field(target, column).at(),
     }
 }
 
 /// Where a target's tolerance stands, and what it reads there.
 pub fn reads(plan: &Plan, target: usize) -> String {
-    let name = plan.targets_sheet.field(target, 0).shown();
+    let (place, name) = (place(plan, target), plan.targets_sheet.field(target, 0).shown());
     match plan.told {
-        Told::Number => format!("{}: tolerance reads {}", place(plan), plan.tolerances[target]),
-        Told::List => format!("{}: tolerance of target `{}` reads {}", place(plan), name, plan.tolerances[target]),
+        Told::Number => format!("{}: tolerance reads {}", place, number(plan.tolerances[target])),
+        Told::List => format!("{}: tolerance of target `{}` reads {}", place, name, number(plan.tolerances[target])),
         Told::Column(column) => {
-            let field = plan.targets_sheet.field(target, column);
-            format!("{}: tolerance of target `{}` reads `{}`", field.at(), name, field.shown())
+            format!("{}: tolerance of target `{}` reads `{}`", place, name, plan.targets_sheet.field(target, column).shown())
         }
     }
 }
+
+/// What is said where no position can make the sweep mark a cell.
+pub const NOTHING: &str = "nothing can be violated";
+const NOTHING_OF_THESE: &str = "nothing of these targets can be violated";
 
 /// What rounding can add to a difference of two rolls, in degrees: the step or the gap, a sample, the difference and its arc are each rounded once
 /// or twice at up to 360, as an optimal roll lies within 0 to 360, so it stays below 3e-13.
 const ROUNDING: f64 = 1e-12;
 
-/// How many targets the message names; the rest are counted.
+/// How many targets a warning names; the rest are counted.
 const NAMED: usize = 5;
 
-/// Says so where no position can make the sweep of this plan mark a cell, or a cell of some targets.
-pub fn nothing_violated(plan: &Plan) -> Option<String> {
-    let half_gap = plan.rolls.half_gap();
-    // A NaN is not at least anything.
-    let wide: Vec<usize> = plan.tolerances.iter().enumerate().filter(|(_, &t)| t >= half_gap).map(|(i, _)| i).collect();
-    // A configured roll stands for every sample.
-    if plan.configured_roll.is_some() || wide.is_empty() {
-        return None;
-    }
+/// A warning of each kind of tolerance by which, at a finite roll, no cell of some targets can be violated, or every one that is not Free is.
+pub fn remarks(plan: &Plan) -> Vec<String> {
+    // A configured roll stands for every sample, and an optimal one is at most half a turn from it.
+    let (furthest, nearest) = match plan.configured_roll {
+        None => (plan.rolls.half_gap(), format!("the nearest of {}", plan.rolls.count())),
+        Some(_) => (180.0, "the configured one".to_owned()),
+    };
+    let least = number(furthest);
+    let wide = |t: f64| t >= furthest;
     // A difference is at most 180, whatever is rounded.
-    let sure = wide.iter().all(|&i| plan.tolerances[i] >= 180.0 || plan.tolerances[i] > half_gap + ROUNDING);
-    let (count, all) = (wide.len(), plan.tolerances.len());
-    let read = match common(&plan.tolerances) {
-        Some(x) => format!("tolerance reads {}", x),
-        None if count == all => format!("each tolerance reads {} or more", half_gap),
+    let may_round = |t: f64| wide(t) && t < 180.0 && t <= furthest + ROUNDING;
+    let rounding = if plan.tolerances.iter().any(|&t| may_round(t)) { " except by rounding, midway between two of them" } else { "" };
+    let too_wide = |which: &str| format!("no roll is further than {} degrees from {}: {}{}", least, nearest, which, rounding);
+    let not_free = |which: &str| format!("no difference is below 0: every cell{} that is not Free is violated", which);
+    [
+        of_kind(plan, wide, &format!("{} or more", least), [too_wide(NOTHING), too_wide(NOTHING_OF_THESE)]),
+        of_kind(plan, f64::is_nan, "NaN", [NOTHING, NOTHING_OF_THESE].map(|which| format!("no difference exceeds NaN: {}", which))),
+        of_kind(plan, |t| t < 0.0, "below 0", ["", " of these targets"].map(not_free)),
+    ]
+    .into_iter()
+    .flatten()
+    .collect()
+}
+
+/// Which tolerances are of a kind, and what follows: where all are, and where some are.
+fn of_kind(plan: &Plan, is_one: impl Fn(f64) -> bool, kind: &str, follows: [String; 2]) -> Option<String> {
+    let found: Vec<usize> = (0..plan.tolerances.len()).filter(|&i| is_one(plan.tolerances[i])).collect();
+    let (first, count, all) = (*found.first()?, found.len(), plan.tolerances.len());
+    let which = match common(&plan.tolerances) {
+        Some(x) => format!("tolerance reads {}", number(x)),
+        None if count == all => format!("each of {} is {}", counted(all, "tolerance"), kind),
         None => {
-            let mut names: Vec<_> = wide.iter().take(NAMED).map(|&i| format!("`{}`", plan.targets_sheet.field(i, 0).shown())).collect();
+            let mut names: Vec<_> = found.iter().take(NAMED).map(|&i| format!("`{}`", plan.targets_sheet.field(i, 0).shown())).collect();
             if count > NAMED {
                 names.push(format!("and {} more", grouped(count - NAMED)));
             }
-            let read = if count == 1 { "reads" } else { "read" };
-            format!("{} of {} tolerances {} {} or more ({})", grouped(count), grouped(all), read, half_gap, names.join(", "))
+            let are = if count == 1 { "is" } else { "are" };
+            format!("{} of {} {} {} ({})", grouped(count), counted(all, "tolerance"), are, kind, names.join(", "))
         }
     };
-    Some(format!(
-        "{}: {}, and no roll is further than {} degrees from the nearest of {}: nothing can be violated{}{}",
-        place(plan),
-        read,
-        half_gap,
-        plan.rolls.count(),
-        if count == all { "" } else { " there" },
-        if sure { "" } else { " but by rounding, midway between two of them" }
-    ))
+    let [of_all, of_some] = follows;
+    Some(format!("{}: {}, and {}", place(plan, first), which, if count == all { of_all } else { of_some }))
 }
 
 #[cfg(test)]
@@ -124,11 +137,18 @@ mod tests {
         );
         plan(&format!("targets = \"t.csv\"\nephemeris = \"e.csv\"\n{}", settings), targets, &ephemeris).unwrap()
     }
-    fn said(settings: &str) -> Option<String> {
-        nothing_violated(&with(settings, [0.0, 1.0, 0.0])).map(|text| text[text.find("plan.toml").unwrap()..].to_owned())
+    /// Whether no cell can be violated, without rounding.
+    fn nothing(plan: &Plan) -> bool {
+        remarks(plan).iter().any(|text| text.ends_with(NOTHING))
     }
-    /// What is said of 24 rolls and targets A, B, .. with these tolerances: by the key's list, and by the column.
-    fn said_of(tolerances: &[&str]) -> [Option<String>; 2] {
+    /// The warnings of one target with these settings, from the file's name on.
+    fn said(settings: &str) -> Vec<String> {
+        let from = |text: String| text[text.find("plan.toml").unwrap()..].to_owned();
+        remarks(&with(settings, [0.0, 1.0, 0.0])).into_iter().map(from).collect()
+    }
+    /// The warnings of 24 rolls and targets A, B, .. with these tolerances, by the key's list and by the column: for each the number of the target
+    /// whose place it names, and what follows the place.
+    fn said_of(tolerances: &[&str]) -> [Vec<(usize, String)>; 2] {
         let names = (b'A'..).map(char::from);
         let rows = || names.clone().zip(tolerances);
         let plain: String = rows().map(|(name, _)| format!("{},1,0,0\n", name)).collect();
@@ -137,8 +157,15 @@ mod tests {
             of_targets(&format!("rolls = 24\ntolerance = [{}]", tolerances.join(", ")), &format!("name,x,y,z\n{}", plain), [0.0, 1.0, 0.0]);
         let column = of_targets("rolls = 24", &format!("name,x,y,z,tolerance\n{}", column), [0.0, 1.0, 0.0]);
         assert_eq!(list.tolerances.iter().map(bits).collect::<Vec<_>>(), column.tolerances.iter().map(bits).collect::<Vec<_>>());
-        [(list, "plan.toml, line 4, column 13: "), (column, "t.csv, line 1, column 12: ")]
-            .map(|(plan, place)| nothing_violated(&plan).map(|text| text[text.find(place).unwrap() + place.len()..].to_owned()))
+        let of = |plan: &Plan, place: &dyn Fn(usize) -> String| {
+            let split = |text: String| {
+                let found = (0..tolerances.len()).find_map(|i| text.split_once(&place(i)).map(|(_, rest)| (i, rest.to_owned())));
+                found.unwrap_or_else(|| panic!("{}", text))
+            };
+            remarks(plan).into_iter().map(split).collect::<Vec<_>>()
+        };
+        let entry = |i: usize| format!("plan.toml, line 4, column {}: ", 14 + tolerances[..i].iter().map(|t| t.len() + 2).sum::<usize>());
+        [of(&list, &entry), of(&column, &|i| format!("t.csv, line {}, column 9: ", i + 2))]
     }
     /// Whether the sweep marks the plan's only cell.
     fn marked(plan: &Plan) -> bool {
@@ -149,49 +176,82 @@ mod tests {
     }
 
     #[test]
-    fn half_a_step_or_more_is_told() {
+    fn a_tolerance_of_half_a_step_or_more_is_warned_of() {
         for (rolls, tolerance, half, count) in [("24", "10", "7.5", "24"), ("[0, 90, 250]", "100", "80", "3")] {
             assert_eq!(
-                said(&format!("rolls = {}\ntolerance = {}", rolls, tolerance)).unwrap(),
-                format!(
+                said(&format!("rolls = {}\ntolerance = {}", rolls, tolerance)),
+                [format!(
                     "plan.toml, line 4, column 13: tolerance reads {}, and no roll is further than {} degrees from the nearest of {}: \
                      nothing can be violated",
                     tolerance, half, count
-                )
+                )]
             );
         }
-        assert!(said("rolls = 24\ntolerance = 7.5")
-            .unwrap()
-            .ends_with("nothing can be violated but by rounding, midway between two of them"));
-        assert!(said("rolls = 1\ntolerance = 180").unwrap().ends_with("nothing can be violated"));
-        assert!(said("rolls = 3600\ntolerance = inf").unwrap().ends_with("nothing can be violated"));
+        assert!(said("rolls = 24\ntolerance = 7.5")[0].ends_with("nothing can be violated except by rounding, midway between two of them"));
+        assert!(said("rolls = 1\ntolerance = 180")[0].ends_with("nothing can be violated"));
+        assert!(said("rolls = 3600\ntolerance = inf")[0].ends_with("nothing can be violated"));
         for can in [
             "rolls = 24\ntolerance = 7.499999999999999",
             "rolls = 24\ntolerance = 5",
+            "rolls = 24\ntolerance = 0",
+            "rolls = 24\ntolerance = -0.0",
             "rolls = 1\ntolerance = 179.9",
-            "rolls = 24\ntolerance = nan",
-            "rolls = 24\ntolerance = -10",
             "rolls = 24\ntolerance = 10\nconfigured_roll = 30",
+            "rolls = 24\ntolerance = 179.9\nconfigured_roll = 30",
         ] {
-            assert_eq!(said(can), None, "{}", can);
+            assert_eq!(said(can), [""; 0], "{}", can);
+        }
+        assert_eq!(
+            said("rolls = 24\ntolerance = 180\nconfigured_roll = 30"),
+            ["plan.toml, line 4, column 13: tolerance reads 180, and no roll is further than 180 degrees from the configured one: nothing can \
+              be violated"]
+        );
+    }
+    /// A difference of NaN exceeds nothing and nothing exceeds NaN; a difference is never below 0.
+    #[test]
+    fn a_tolerance_that_is_nan_or_below_0_is_warned_of() {
+        for settings in ["", "configured_roll = 30"] {
+            let of = |tolerance: &str| said(&format!("rolls = 24\ntolerance = {}\n{}", tolerance, settings));
+            for nan in ["nan", "-nan", "[nan]"] {
+                let column = if nan.starts_with('[') { 14 } else { 13 };
+                let says = format!(
+                    "plan.toml, line 4, column {}: tolerance reads NaN, and no difference exceeds NaN: nothing can be violated",
+                    column
+                );
+                assert_eq!(of(nan), [says]);
+            }
+            for below in ["-10", "-5e-324", "-inf"] {
+                let says = format!(
+                    "plan.toml, line 4, column 13: tolerance reads {}, and no difference is below 0: every cell that is not Free is violated",
+                    below
+                );
+                assert_eq!(of(below), [says]);
+            }
+        }
+        // It is so, with the Sun at the roll that is tried, and opposite.
+        for y in [1.0, -1.0] {
+            for settings in ["", "\nconfigured_roll = 0"] {
+                let of = |tolerance: &str| marked(&with(&format!("rolls = 1\ntolerance = {}{}", tolerance, settings), [0.0, y, 0.0]));
+                assert!(!of("nan") && of("-5e-324") && of("-inf"), "{} {}", y, settings);
+            }
         }
     }
     /// Of a table half the largest gap takes the place of 180 / n, also where that is the one from the last roll to the first.
     #[test]
-    fn half_the_largest_gap_of_a_table_is_told() {
-        const ROUNDING: &str = "nothing can be violated but by rounding, midway between two of them";
+    fn a_tolerance_of_half_the_largest_gap_of_a_table_is_warned_of() {
+        const ROUNDING: &str = "nothing can be violated except by rounding, midway between two of them";
         for (table, half) in [("[0, 90, 250]", "80"), ("[100, 110, 130]", "165"), ("[0, 15.5, 90, 359.5]", "134.75")] {
             let at = |tolerance: &str| said(&format!("rolls = {}\ntolerance = {}", table, tolerance));
-            assert!(at(half).unwrap().ends_with(ROUNDING) && at("165.5").unwrap().ends_with("nothing can be violated"), "{}", table);
+            assert!(at(half)[0].ends_with(ROUNDING) && at("165.5")[0].ends_with("nothing can be violated"), "{}", table);
             let below = half.parse::<f64>().unwrap() - 1e-9;
-            assert_eq!(at(&below.to_string()), None, "{}", table);
+            assert_eq!(at(&below.to_string()), [""; 0], "{}", table);
         }
         // One roll is 180 from its opposite, wherever it is, and so are rolls that lie together.
         for table in ["[0]", "[0.1]", "[359.99999999999994]", "[0, 1e-14]"] {
-            assert!(said(&format!("rolls = {}\ntolerance = 180", table)).unwrap().ends_with("nothing can be violated"));
-            assert_eq!(said(&format!("rolls = {}\ntolerance = 179.9", table)), None);
+            assert!(said(&format!("rolls = {}\ntolerance = 180", table))[0].ends_with("nothing can be violated"));
+            assert_eq!(said(&format!("rolls = {}\ntolerance = 179.9", table)), [""; 0]);
         }
-        assert_eq!(said("rolls = [0, 180]\ntolerance = 100\nconfigured_roll = 30"), None);
+        assert_eq!(said("rolls = [0, 180]\ntolerance = 100\nconfigured_roll = 30"), [""; 0]);
     }
     /// The worst place is midway in the largest gap: there a cell is marked just below half of it, and not above.
     #[test]
@@ -200,34 +260,55 @@ mod tests {
             let (z, y) = f64::to_radians(midway).sin_cos();
             let at = |tolerance: f64| with(&format!("rolls = {}\ntolerance = {}", table, tolerance), [0.0, y, z]);
             assert!(marked(&at(half - 0.01)) && !marked(&at(half + 0.01)), "{}", table);
-            assert!(nothing_violated(&at(half - 0.01)).is_none() && nothing_violated(&at(half + 0.01)).is_some(), "{}", table);
+            assert!(!nothing(&at(half - 0.01)) && nothing(&at(half + 0.01)), "{}", table);
         }
     }
     #[test]
-    fn half_a_step_of_some_targets_is_told_with_their_names() {
-        const NEAREST: &str = "and no roll is further than 7.5 degrees from the nearest of 24: nothing can be violated";
-        const ROUNDING: &str = " but by rounding, midway between two of them";
+    fn targets_with_such_tolerances_are_counted_and_the_first_five_named() {
+        const NEAREST: &str = "and no roll is further than 7.5 degrees from the nearest of 24: nothing";
+        const SOME: &str = "of these targets can be violated";
+        const ROUNDING: &str = " except by rounding, midway between two of them";
+        let nan = |which: &str| format!("{}, and no difference exceeds NaN: nothing of these targets can be violated", which);
+        let below =
+            |which: &str| format!("{}, and no difference is below 0: every cell of these targets that is not Free is violated", which);
         for (tolerances, says) in [
-            (&["5", "7"][..], None),
-            (&["nan", "-1", "-inf"], None),
-            (&["10", "10"], Some(format!("tolerance reads 10, {}", NEAREST))),
-            (&["10", "inf"], Some(format!("each tolerance reads 7.5 or more, {}", NEAREST))),
-            (&["10", "7.5"], Some(format!("each tolerance reads 7.5 or more, {}{}", NEAREST, ROUNDING))),
-            (&["5", "8", "nan"], Some(format!("1 of 3 tolerances reads 7.5 or more (`B`), {} there", NEAREST))),
-            (&["8", "5", "7.5"], Some(format!("2 of 3 tolerances read 7.5 or more (`A`, `C`), {} there{}", NEAREST, ROUNDING))),
+            (&["5", "7"][..], vec![]),
+            (&["10", "10"], vec![(0, format!("tolerance reads 10, {} can be violated", NEAREST))]),
+            (&["10", "inf"], vec![(0, format!("each of 2 tolerances is 7.5 or more, {} can be violated", NEAREST))]),
+            (&["10", "7.5"], vec![(0, format!("each of 2 tolerances is 7.5 or more, {} can be violated{}", NEAREST, ROUNDING))]),
+            (
+                &["5", "8", "nan"],
+                vec![
+                    (1, format!("1 of 3 tolerances is 7.5 or more (`B`), {} {}", NEAREST, SOME)),
+                    (2, nan("1 of 3 tolerances is NaN (`C`)")),
+                ],
+            ),
+            (&["8", "5", "7.5"], vec![(0, format!("2 of 3 tolerances are 7.5 or more (`A`, `C`), {} {}{}", NEAREST, SOME, ROUNDING))]),
             (
                 &["5", "8", "9", "8", "8", "8", "8", "8"],
-                Some(format!("7 of 8 tolerances read 7.5 or more (`B`, `C`, `D`, `E`, `F`, and 2 more), {} there", NEAREST)),
+                vec![(1, format!("7 of 8 tolerances are 7.5 or more (`B`, `C`, `D`, `E`, `F`, and 2 more), {} {}", NEAREST, SOME))],
+            ),
+            (&["nan", "nan"], vec![(0, "tolerance reads NaN, and no difference exceeds NaN: nothing can be violated".to_owned())]),
+            (
+                &["-1", "-inf"],
+                vec![(
+                    0,
+                    "each of 2 tolerances is below 0, and no difference is below 0: every cell that is not Free is violated".to_owned(),
+                )],
+            ),
+            (
+                &["5", "nan", "-1", "-inf", "nan"],
+                vec![(1, nan("2 of 5 tolerances are NaN (`B`, `E`)")), (2, below("2 of 5 tolerances are below 0 (`C`, `D`)"))],
             ),
         ] {
             assert_eq!(said_of(tolerances), [says.clone(), says], "{:?}", tolerances);
         }
         // Without targets there is no tolerance.
         let none = of_targets("rolls = 24\ntolerance = 10", "name,x,y,z\n", [0.0, 1.0, 0.0]);
-        assert_eq!((none.tolerances.len(), nothing_violated(&none)), (0, None));
+        assert_eq!((none.tolerances.len(), remarks(&none)), (0, vec![]));
     }
     #[test]
-    fn the_same_to_the_bit_and_every_nan_one() {
+    fn a_common_tolerance_is_the_same_to_the_bit_and_every_nan_is_one() {
         let other_nan = f64::from_bits(0xfff0_0000_0000_0001);
         assert_eq!((common(&[]), common(&[5.0]), common(&[5.0, 5.0, 5.0])), (None, Some(5.0), Some(5.0)));
         assert!(matches!(common(&[f64::NAN, other_nan, f64::NAN]), Some(x) if x.is_nan()));
@@ -236,7 +317,7 @@ mod tests {
         }
     }
     #[test]
-    fn in_a_few_words() {
+    fn tolerances_in_words() {
         for (tolerances, words) in [
             (&[][..], "none"),
             (&[5.0, 5.0], "5°"),
@@ -257,10 +338,10 @@ mod tests {
         let just = with(&format!("rolls = 7\ntolerance = {}", half_step), sun);
         assert_eq!(just.tolerances, [half_step]);
         assert!(marked(&just));
-        assert!(nothing_violated(&just).unwrap().contains("but by rounding"));
+        assert!(remarks(&just)[0].contains("except by rounding"));
         let more = with(&format!("rolls = 7\ntolerance = {}", half_step + 2.0 * ROUNDING), sun);
         assert!(!marked(&more));
-        assert!(nothing_violated(&more).unwrap().ends_with("nothing can be violated"));
+        assert!(nothing(&more));
     }
     #[test]
     fn below_half_a_step_a_cell_can_be_marked() {
