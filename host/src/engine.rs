@@ -1,6 +1,6 @@
 //! The proved library as this program calls it. Every vector, line, mask and window comes from here, and nothing else calls it.
 use crate::{plan::Plan, tried::Rolls};
-use std::ops::Range;
+use std::{ops::Range, slice};
 pub use wilfnusk::{circular_diff_deg, cos, sin, Cost, Refusal, Roll, Window, CHUNK_CELLS, HEADER_BYTES, LINE_BYTES};
 use wilfnusk::{Columns, PlanLists};
 
@@ -223,10 +223,9 @@ fn listed(mask: &[u8], list: impl FnOnce(Columns) -> Result<u64, Refusal>) -> Re
     Ok((0..count as usize).map(window).collect())
 }
 
-/// The windows' lengths, each in whole seconds, summed.
-pub fn seconds(windows: &[Window]) -> Result<f64, Refusal> {
-    let (first, last): (Vec<_>, Vec<_>) = windows.iter().map(|w| (w.first_time, w.last_time)).unzip();
-    wilfnusk::total_violation_duration(&first, &last)
+/// A window's length, cut to whole seconds, without a list of its own.
+pub fn seconds(first_time: i64, last_time: i64) -> Result<u64, Refusal> {
+    wilfnusk::total_violation_duration(slice::from_ref(&first_time), slice::from_ref(&last_time)).map(|seconds| seconds as u64)
 }
 
 #[cfg(test)]
@@ -257,6 +256,7 @@ mod tests {
         let windows = violations(&[0, 1], &plan.times, &[0.0, 0.5]).unwrap();
         assert_eq!((windows.len(), windows[0].first, windows[0].severity, windows[0].is_last), (1, 1, 0.5, 1));
         assert_eq!(visibility(&[0, 1], &plan.times).unwrap().len(), 0);
-        assert_eq!(seconds(&visibility(&[0, 0], &plan.times).unwrap()), Ok(60.0));
+        let visible = visibility(&[0, 0], &plan.times).unwrap()[0];
+        assert_eq!(seconds(visible.first_time, visible.last_time), Ok(60));
     }
 }

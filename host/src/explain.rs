@@ -213,10 +213,52 @@ pub fn journal(p: &Plan, path: &Path, bytes: &[u8], refusal: Refusal) -> Fault {
     }
 }
 
-/// How many faults of a damaged journal are told one by one.
-const TOLD: usize = 5;
+/// The end of a journal that is right up to there and is zero bytes from there on, as file systems leave a file after a power cut.
+pub struct ZeroTail {
+    /// The header and the whole lines before it.
+    pub keep: usize,
+    /// The bytes of a frame that was cut, then the zeros.
+    cut: usize,
+    zeros: usize,
+}
+
+impl ZeroTail {
+    pub fn in_words(&self) -> String {
+        let zeros = counted(self.zeros, "zero byte");
+        match self.cut {
+            0 => zeros,
+            cut => format!("{} of a write that did not end and {}", counted(cut, "byte"), zeros),
+        }
+    }
+}
+
+/// The tail of zero bytes of a journal that the library refuses for nothing else.
+pub fn zero_tail(plan: &Plan, bytes: &[u8]) -> Option<ZeroTail> {
+    if engine::recover(plan, bytes).map_or_else(|refusal| refusal.number(), |_| 0) != 11 {
+        return None;
+    }
+    let end = bytes.iter().rposition(|&byte| byte != 0).map_or(0, |last| last + 1);
+    let keep = engine::recover(plan, &bytes[..end]).ok()?;
+    Some(ZeroTail { keep, cut: end - keep, zeros: bytes.len() - end })
+}
+
+/// How many faults of a damaged journal are listed one by one.
+const LISTED: usize = 5;
 
 fn damage(plan: &Plan, path: &Path, bytes: &[u8]) -> String {
+    if let Some(tail) = zero_tail(plan, bytes) {
+        let lines = tail.keep.saturating_sub(HEADER_BYTES as usize) / LINE_BYTES as usize;
+        return format!(
+            "{}: it ends with {}, as a file system may leave them after a power cut; nothing was changed\n  line {}, column 1: from here on; {} \
+             before it {} right\nTo drop these bytes and go on: `{} --drop-zero-tail`",
+            shown(path),
+            tail.in_words(),
+            if tail.keep == 0 { 1 } else { lines + 2 },
+            counted(lines, "chunk line"),
+            if lines == 1 { "is" } else { "are" },
+            command("sweep", plan, path)
+        );
+    }
     let header = engine::header(plan).unwrap_or_default();
     let length = bytes.len().min(HEADER_BYTES as usize);
     if header[..length] != bytes[..length] {
@@ -232,11 +274,11 @@ fn damage(plan: &Plan, path: &Path, bytes: &[u8]) -> String {
         grouped(lines(bytes).count()),
         if faults.len() == 1 { "is" } else { "are" }
     );
-    for (i, (column, fault)) in faults.iter().take(TOLD) {
+    for (i, (column, fault)) in faults.iter().take(LISTED) {
         text += &format!("\n  line {}, column {}: {}", i + 2, column, fault);
     }
-    if faults.len() > TOLD {
-        text += &format!("\n  and {} more", grouped(faults.len() - TOLD));
+    if faults.len() > LISTED {
+        text += &format!("\n  and {} more", grouped(faults.len() - LISTED));
     }
     if faults.len() == lines(bytes).count() {
         return text + "\nTo go on, sweep into another journal with --journal";
@@ -376,7 +418,7 @@ mod tests {
     }
 
     #[test]
-    fn a_wrong_header_is_told_by_field() {
+    fn the_fields_of_a_wrong_header_are_named() {
         assert!(said(|j| j[23] ^= 1).contains("line 1, column 17: rolls reads 00000009 (9); this plan's is 00000008 (8)"));
         let first =
             "line 1, column 25: first tolerance reads 402e000000000001 (15.000000000000002); this plan's is 402e000000000000 (15.0)";
@@ -386,7 +428,7 @@ mod tests {
         assert!(!said(|j| j[23] ^= 1).contains("salvage"));
     }
     #[test]
-    fn wrong_lines_are_told_and_left_out_by_hand() {
+    fn wrong_lines_are_listed_with_a_command_that_leaves_them_out() {
         let one = said(|j| j[at(4)] = b'f');
         assert!(one.contains("'a b'") && !one.contains(" a b "), "{}", one);
         assert!(
@@ -403,7 +445,7 @@ mod tests {
         assert!(said(|j| j.extend_from_within(at(2)..at(3))).contains("line 7, column 1: chunk 0 again, which line 2 has"));
     }
     #[test]
-    fn no_advice_that_would_lose_or_keep_a_wrong_line() {
+    fn no_command_is_advised_that_would_lose_a_right_line_or_keep_a_wrong_one() {
         let removed = said(|j| {
             j.remove(at(4) - 1);
         });
@@ -412,10 +454,37 @@ mod tests {
         }
         let all = said(|j| (2..7).for_each(|line| j[at(line)] = b'f'));
         assert!(all.contains("5 of its 5 lines are") && !all.contains("salvage") && all.contains("--journal"), "{}", all);
-        assert!(said(|j| j[at(2)..].fill(0)).contains("33 zero bytes"));
+        assert!(said(|j| j[at(3)..at(4)].fill(0)).contains("line 3, column 1: 33 zero bytes"));
     }
     #[test]
-    fn commands_as_a_shell_takes_them() {
+    fn a_tail_of_zero_bytes_is_named_with_what_stands_before_it() {
+        let tail = |keep: usize, zeros: usize| {
+            said(move |j| {
+                j.truncate(keep);
+                j.resize(keep + zeros, 0);
+            })
+        };
+        let none = tail(at(2), 165);
+        assert!(
+            none.contains("it ends with 165 zero bytes")
+                && none.contains("line 2, column 1: from here on; 0 chunk lines before it are right")
+        );
+        assert!(tail(at(3), 33).contains("line 3, column 1: from here on; 1 chunk line before it is right"));
+        let cut = tail(at(4) + 8, 60);
+        assert!(
+            cut.contains("it ends with 8 bytes of a write that did not end and 60 zero bytes") && cut.contains("line 4, column 1"),
+            "{}",
+            cut
+        );
+        assert!(tail(0, 200).contains("line 1, column 1") && tail(30, 200).contains("line 1, column 1"));
+        assert!(
+            none.contains("\nTo drop these bytes and go on: `wilfnusk sweep ") && none.ends_with(" --journal 'a b' --drop-zero-tail`"),
+            "{}",
+            none
+        );
+    }
+    #[test]
+    fn commands_are_quoted_for_a_shell() {
         let plan = small();
         let own = plan.journal();
         assert_eq!(command("sweep", &plan, &own), format!("wilfnusk sweep {}", plan.path().display()));

@@ -3,7 +3,6 @@ use crate::{
     engine::{HEADER_BYTES, LINE_BYTES},
     fault::Fault,
     files::{fault, reason, sync_folder},
-    plan::Plan,
     source::shown,
     stop,
     text::{counted, grouped},
@@ -22,9 +21,8 @@ use std::{
 pub struct Journal {
     pub path: PathBuf,
     file: File,
-    /// A buffer with room for the whole journal; the first `used` bytes are those of the file.
-    pub bytes: Vec<u8>,
-    pub used: usize,
+    /// The file's bytes, as this process left them.
+    bytes: Vec<u8>,
 }
 
 /// No journal of any plan is longer; a larger file is something else.
@@ -32,39 +30,33 @@ const MOST: u64 = 1 << 24;
 
 impl Journal {
     /// Opens the plan's journal, or makes an empty one, locks it and reads it.
-    pub fn open(path: &Path, plan: &Plan, wait: bool) -> Result<Journal, Fault> {
+    pub fn open(path: &Path, wait: bool) -> Result<Journal, Fault> {
         let file = locked(path, wait)?;
         // What a killed process left may never have been synced: it lasts before a line follows it or a window is listed from it.
         file.sync_all().and_then(|()| sync_name(path)).map_err(|e| fault(path, &e))?;
-        let mut journal = Journal { path: path.to_owned(), bytes: read(path, &file)?, file, used: 0 };
-        journal.used = journal.bytes.len();
-        let room = HEADER_BYTES as usize + LINE_BYTES as usize * plan.chunks();
-        if journal.used < room {
-            journal.bytes.resize(room, 0);
-        }
-        Ok(journal)
+        Ok(Journal { path: path.to_owned(), bytes: read(path, &file)?, file })
     }
     pub fn used(&self) -> &[u8] {
-        &self.bytes[..self.used]
+        &self.bytes
     }
-    /// Cuts the file to what recovery keeps.
+    /// Shortens the file to this many bytes.
     pub fn shorten(&mut self, keep: usize) -> Result<(), Fault> {
-        if keep < self.used {
+        if keep < self.bytes.len() {
             self.as_left()?;
             self.file.set_len(keep as u64).and_then(|()| self.file.sync_data()).map_err(|e| self.fault(&e))?;
-            self.used = keep;
+            self.bytes.truncate(keep);
         }
         Ok(())
     }
-    /// Writes the frames that the buffer holds beyond the used length, up to this one, with one write at the end of the file, and makes them
-    /// last. A short write is gone on with; nothing written is ever taken back.
-    pub fn append(&mut self, upto: usize) -> Result<(), Fault> {
+    /// Writes the header, or lines, at the end of the file with one write, and syncs it. A short write is continued; nothing that was written is ever
+    /// taken back.
+    pub fn append(&mut self, frames: &[u8]) -> Result<(), Fault> {
         self.as_left()?;
-        self.file.write_all(&self.bytes[self.used..upto]).and_then(|()| self.file.sync_data()).map_err(|e| self.fault(&e))?;
-        self.used = upto;
+        self.file.write_all(frames).and_then(|()| self.file.sync_data()).map_err(|e| self.fault(&e))?;
+        self.bytes.extend_from_slice(frames);
         Ok(())
     }
-    /// The file is as this process left it: nobody else wrote, shortened, removed or renamed it.
+    /// Refuses a file that is not as this process left it: written, shortened, removed or renamed by another.
     pub fn as_left(&self) -> Result<(), Fault> {
         let now = self.file.metadata().map_err(|e| self.fault(&e))?;
         let path = shown(&self.path);
@@ -73,24 +65,28 @@ impl Journal {
         }
         if !is_named(&self.path, &now) {
             return Err(Fault::Files(format!(
-                "{}: the file was renamed or replaced while this sweep wrote it; every whole line stays in it. \
+                "{}: the file was renamed or replaced while this sweep wrote it; every whole line is still in it. \
                  Give it its name back, then sweep again",
                 path
             )));
         }
-        if now.len() != self.used as u64 {
+        if now.len() != self.bytes.len() as u64 {
             return Err(Fault::Files(format!(
                 "{}: the file has {} and had {} after this sweep's last write, so another program writes it; \
                  nothing was overwritten. Find that program, then sweep again",
                 path,
                 counted(now.len(), "byte"),
-                grouped(self.used)
+                grouped(self.bytes.len())
             )));
         }
         Ok(())
     }
     fn fault(&self, e: &io::Error) -> Fault {
-        Fault::Files(format!("{}: {}; every whole line stays: once that is mended, the same command goes on", shown(&self.path), reason(e)))
+        Fault::Files(format!(
+            "{}: {}; every whole line is kept: once that is mended, the same command goes on",
+            shown(&self.path),
+            reason(e)
+        ))
     }
 }
 
@@ -221,46 +217,49 @@ pub fn done(journal: &[u8], chunks: usize) -> Vec<bool> {
 mod tests {
     use super::*;
     use crate::{engine, testing::small};
+    use std::ops::Range;
 
     fn begun(folder: &Path) -> Journal {
-        let plan = small();
-        let mut journal = Journal::open(&folder.join("j"), &plan, false).unwrap();
-        let upto = engine::begin(&plan, &mut journal.bytes).unwrap();
-        journal.append(upto).unwrap();
+        let mut journal = Journal::open(&folder.join("j"), false).unwrap();
+        journal.append(&engine::header(&small()).unwrap()).unwrap();
         journal
+    }
+    /// The lines of these chunks.
+    fn lines_of(range: Range<u64>) -> Vec<u8> {
+        let mut journal = engine::header(&small()).unwrap();
+        let header = journal.len();
+        journal.resize(header + LINE_BYTES as usize * (range.end - range.start) as usize, 0);
+        engine::work(&small(), range, &mut journal, header).unwrap();
+        journal.split_off(header)
     }
     fn fault_after(change: impl Fn(&Path)) -> String {
         let folder = tempfile::tempdir().unwrap();
         let mut journal = begun(folder.path());
-        let used = journal.used;
-        let upto = engine::work(&small(), 0..2, &mut journal.bytes, used).unwrap();
         change(&journal.path);
-        let fault = journal.append(upto).unwrap_err();
-        assert_eq!((fault.status(), journal.used), (3, used));
+        let fault = journal.append(&lines_of(0..2)).unwrap_err();
+        assert_eq!((fault.status(), journal.used().len() as u64), (3, HEADER_BYTES));
         fault.to_string()
     }
 
     #[test]
-    fn a_range_is_written_at_the_end_and_read_again() {
+    fn lines_are_written_at_the_end_and_read_again() {
         let folder = tempfile::tempdir().unwrap();
         let mut journal = begun(folder.path());
         for range in [0..2, 3..4, 2..3] {
-            let used = journal.used;
-            let upto = engine::work(&small(), range, &mut journal.bytes, used).unwrap();
-            journal.append(upto).unwrap();
+            journal.append(&lines_of(range)).unwrap();
         }
         journal.as_left().unwrap();
         let (path, bytes) = (journal.path.clone(), journal.used().to_vec());
         drop(journal);
         assert_eq!(look(&path).unwrap(), bytes);
-        let mut journal = Journal::open(&path, &small(), false).unwrap();
-        assert_eq!((journal.used(), journal.bytes.len()), (&bytes[..], HEADER_BYTES as usize + LINE_BYTES as usize * small().chunks()));
+        let mut journal = Journal::open(&path, false).unwrap();
+        assert_eq!(journal.used(), &bytes[..]);
         assert_eq!(done(journal.used(), 5), [true, true, true, true, false]);
         journal.shorten(HEADER_BYTES as usize).unwrap();
         assert_eq!(look(&path).unwrap(), &bytes[..HEADER_BYTES as usize]);
     }
     #[test]
-    fn what_others_do_to_the_file_is_noticed() {
+    fn a_file_that_another_program_changed_is_refused() {
         let away = |path: &Path| path.with_extension("away");
         assert!(fault_after(|j| fs::remove_file(j).unwrap()).contains("was removed"));
         assert!(fault_after(|j| fs::rename(j, away(j)).unwrap()).contains("was renamed or replaced"));
@@ -279,18 +278,18 @@ mod tests {
         assert!(fault_after(|j| OpenOptions::new().write(true).open(j).unwrap().set_len(7).unwrap()).contains("has 7 bytes"));
     }
     #[test]
-    fn one_process_at_a_time() {
+    fn a_second_process_is_refused() {
         let folder = tempfile::tempdir().unwrap();
         let journal = begun(folder.path());
         assert!(is_locked(&journal.path));
-        let second = Journal::open(&journal.path, &small(), false).err().unwrap();
+        let second = Journal::open(&journal.path, false).err().unwrap();
         assert!(second.to_string().contains("another process sweeps into it"));
         let path = journal.path.clone();
         drop(journal);
         assert!(!is_locked(&path));
     }
     #[test]
-    fn through_a_link_that_leads_nowhere_yet() {
+    fn a_link_to_a_file_that_is_not_there_makes_it() {
         let folder = tempfile::tempdir().unwrap();
         fs::create_dir(folder.path().join("disk")).unwrap();
         std::os::unix::fs::symlink("disk/real", folder.path().join("j")).unwrap();
@@ -298,18 +297,18 @@ mod tests {
         assert_eq!(fs::read(folder.path().join("disk/real")).unwrap().len() as u64, HEADER_BYTES);
     }
     #[test]
-    fn what_is_no_plain_file() {
+    fn a_file_that_is_not_plain_or_too_large_is_refused() {
         let folder = tempfile::tempdir().unwrap();
         for (path, says) in [(folder.path(), "a folder"), (Path::new("/dev/zero"), "a device")] {
             assert!(look(path).unwrap_err().to_string().contains(says));
-            assert!(Journal::open(path, &small(), false).err().unwrap().to_string().contains(says));
+            assert!(Journal::open(path, false).err().unwrap().to_string().contains(says));
         }
         let path = folder.path().join("large");
         File::create(&path).unwrap().set_len(MOST + 1).unwrap();
         assert!(look(&path).unwrap_err().to_string().contains("16777217 bytes; allowed: at most 16777216"));
     }
     #[test]
-    fn fields() {
+    fn digits_and_chunks_are_read_and_other_bytes_are_not() {
         assert_eq!((hex(b"0fa9"), hex(b""), hex(b"0F"), hex(b"g")), (Some(0xfa9), Some(0), None, None));
         assert_eq!((chunk_of(b"0000001f.."), chunk_of(b"0000001")), (Some(31), None));
         assert_eq!(lines(&[0; 106]).count(), 0);

@@ -10,8 +10,9 @@ use crate::{
 };
 use serde::{Serialize, Serializer};
 use std::{
+    cell::OnceCell,
     io::{self, Write},
-    slice,
+    ops::RangeInclusive,
 };
 
 #[derive(Clone, Copy, Debug, PartialEq, Eq)]
@@ -39,6 +40,8 @@ pub struct Listed {
 
 pub struct Row<'a> {
     pub name: &'a str,
+    /// The target's place in its file, from 1: names need not differ.
+    pub number: usize,
     pub tolerance: f64,
     /// Both kinds, by their first sample.
     pub windows: Vec<Listed>,
@@ -47,8 +50,8 @@ pub struct Row<'a> {
     pub totals: Totals,
 }
 
-/// What is counted of a target, or of all that are listed. Samples are those of the selected times, in a window or not; seconds
-/// are sums over the listed windows, which are whole. Written out in this order, they are the summary's columns.
+/// What is counted of a target, or of all that are listed. Samples and shares are those of the selected times, in a window or not; seconds
+/// are sums over the listed windows, which are whole.
 #[derive(Clone, Debug, Default, PartialEq, Serialize)]
 pub struct Totals {
     pub samples: usize,
@@ -67,9 +70,23 @@ pub struct Total {
     pub seconds: u64,
     /// None where there is no window.
     pub longest_seconds: Option<u64>,
+    /// The same sum with each window cut to the selected times.
+    pub clipped_seconds: u64,
+    /// The samples' share of the time, each weighted by its step; none where there are no samples.
+    pub time_share: Option<f64>,
+    /// The sum of the samples' steps, in nanoseconds.
+    #[serde(skip)]
+    time: u128,
 }
 
-const SUMMARY_COLUMNS: [&str; 14] = [
+impl Total {
+    /// The summary's columns of one kind, but for those that came later and stand at the end of its lines.
+    fn counts(&self) -> (usize, Option<f64>, usize, u64, Option<u64>) {
+        (self.samples, self.share, self.windows, self.seconds, self.longest_seconds)
+    }
+}
+
+const SUMMARY_COLUMNS: [&str; 21] = [
     "of",
     "target",
     "samples",
@@ -84,6 +101,13 @@ const SUMMARY_COLUMNS: [&str; 14] = [
     "violated_seconds",
     "violated_longest_seconds",
     "single_clear_samples",
+    "visible_clipped_seconds",
+    "visible_time_share",
+    "violated_clipped_seconds",
+    "violated_time_share",
+    "from",
+    "to",
+    "target_number",
 ];
 
 pub struct Listing<'a> {
@@ -93,6 +117,8 @@ pub struct Listing<'a> {
     pub all: Totals,
     /// What the sweep tried; none if the windows are those of the configured roll alone.
     pub probes: Option<u64>,
+    /// Whether each target is shown with its tolerance, as one does not hold for all.
+    pub has_tolerances: bool,
 }
 
 /// The target whose windows were refused, and why.
@@ -102,33 +128,31 @@ impl<'a> Listing<'a> {
     /// The windows of a sweep's mask. Their severities are zero.
     pub fn of_mask(plan: &'a Plan, selected: Selected, mask: &[u8], probes: u64) -> Result<Listing<'a>, RowRefusal> {
         let times = plan.times.len();
-        let row = |i| Ok((mask[i * times..(i + 1) * times].to_vec(), vec![0.0; times]));
-        Listing::of(plan, selected, Some(probes), row)
+        let severities = vec![0.0; times];
+        Listing::of(plan, selected, Some(probes), |range, i| Row::of(plan, range, i, &mask[i * times..(i + 1) * times], &severities))
     }
     /// The windows and severities at the configured roll.
     pub fn of_configured_roll(plan: &'a Plan, selected: Selected) -> Result<Listing<'a>, RowRefusal> {
-        Listing::of(plan, selected, None, |i| engine::evaluate(plan, i))
+        Listing::of(plan, selected, None, |range, i| {
+            let (mask, severities) = engine::evaluate(plan, i)?;
+            Row::of(plan, range, i, &mask, &severities)
+        })
     }
     fn of(
         plan: &'a Plan,
         selected: Selected,
         probes: Option<u64>,
-        mask_and_severities: impl Fn(usize) -> Result<(Vec<u8>, Vec<f64>), Refusal>,
+        row: impl Fn(&Range, usize) -> Result<Row<'a>, Refusal>,
     ) -> Result<Listing<'a>, RowRefusal> {
-        let mut rows = Vec::with_capacity(selected.targets.len());
-        for &i in &selected.targets {
-            let row = mask_and_severities(i).and_then(|(mask, severities)| Row::of(plan, &selected, i, &mask, &severities));
-            rows.push(row.map_err(|refusal| (i, refusal))?);
-        }
+        let range = Range::of(plan, &selected);
+        let rows = selected.targets.iter().map(|&i| row(&range, i).map_err(|refusal| (i, refusal)));
+        let rows = rows.collect::<Result<Vec<_>, _>>()?;
         let all = Totals::of_all(rows.iter().map(|row| &row.totals));
-        Ok(Listing { plan, selected, rows, all, probes })
+        let has_tolerances = tolerance::common(&plan.tolerances).is_none();
+        Ok(Listing { plan, selected, rows, all, probes, has_tolerances })
     }
     pub fn has_severities(&self) -> bool {
         self.probes.is_none()
-    }
-    /// Whether each target is shown with its tolerance, as one does not hold for all.
-    pub fn has_tolerances(&self) -> bool {
-        tolerance::common(&self.plan.tolerances).is_none()
     }
     /// What is listed of the plan, if it is not all of it.
     pub fn part(&self) -> Option<String> {
@@ -157,60 +181,57 @@ impl<'a> Listing<'a> {
         }
     }
 
-    /// A table for a terminal of 80 columns.
+    /// A table for a terminal of 80 columns. Lines of windows begin with two spaces and their kind, and no other line does.
     pub fn table(&self, mut out: impl Write) -> io::Result<()> {
         if self.plan.names.is_empty() {
             return writeln!(out, "no targets");
         }
         if let Some(part) = self.part() {
-            writeln!(out, "part of the plan: {}", part)?;
+            wrapped(&mut out, &format!("part of the plan: {}", part))?;
         }
         let columns = Columns::of(self);
+        let clipped = !self.selected.has_all_times();
         for row in &self.rows {
             writeln!(out, "{}", printable(row.name))?;
-            if self.has_tolerances() {
+            if self.has_tolerances {
                 writeln!(out, "  tolerance {}", number(row.tolerance))?;
             }
-            row.totals.lines(&mut out)?;
+            row.totals.lines(&mut out, clipped)?;
             for listed in &row.windows {
-                writeln!(out, "{}", columns.line(listed))?;
+                columns.line(&mut out, listed)?;
             }
         }
         let all = if self.selected.is_whole() { "all" } else { "this part" };
         writeln!(out, "in {}: {}, {}", all, counted(self.rows.len(), "target"), counted(self.all.samples, "sample"))?;
-        self.all.lines(&mut out)?;
+        self.all.lines(&mut out, clipped)?;
         if self.rows.iter().flat_map(|row| &row.windows).any(|listed| listed.window.is_last != 0) {
             writeln!(out, "> the data end here; the window may go on")?;
         }
         if let Some(note) = self.single_note() {
-            writeln!(out, "{}", note)?;
+            wrapped(&mut out, &note)?;
         }
+        writeln!(out, "% of the time: each sample weighted by the step to the next one")?;
         writeln!(out, "samples: times of the ephemeris, in a window or not")?;
-        writeln!(out, "seconds: from a window's first sample to its last, cut to whole; 0 for a single one")?;
-        if !self.selected.has_all_times() {
-            writeln!(out, "samples are counted {}, seconds over whole windows", self.selected.when())?;
+        writeln!(out, "seconds: from a window's first sample to its last, cut to whole ones")?;
+        if clipped {
+            wrapped(&mut out, &format!("samples and % of the time: {}", self.selected.when()))?;
+            writeln!(out, "seconds of windows: of whole windows, also where they leave these times")?;
+            writeln!(out, "clipped: the seconds of each window within these times")?;
         }
-        writeln!(out, "{}", columns.legend())
+        wrapped(&mut out, columns.legend())
     }
 
-    pub fn csv(&self, out: impl Write) -> io::Result<()> {
-        let mut out = csv::Writer::from_writer(out);
-        out.write_record(["target", "kind", "first_sample", "last_sample", "start", "end", "seconds", "severity_deg", "data_end"])
-            .map_err(csv_error)?;
+    pub fn csv(&self, mut out: impl Write) -> io::Result<()> {
+        let times = Times::of(self.plan, 9);
+        writeln!(out, "target,kind,first_sample,last_sample,start,end,seconds,severity_deg,data_end,target_number")?;
         for row in &self.rows {
+            // Only a name may need quotes; it is put into CSV once per target.
+            let name = csv_field(row.name)?;
             for Listed { kind, window: w, seconds } in &row.windows {
-                out.write_record([
-                    row.name,
-                    kind.word(),
-                    &w.first.to_string(),
-                    &w.last.to_string(),
-                    &instant::format(w.first_time, 9),
-                    &instant::format(w.last_time, 9),
-                    &seconds.to_string(),
-                    &w.severity.to_string(),
-                    if w.is_last != 0 { "true" } else { "false" },
-                ])
-                .map_err(csv_error)?;
+                let (start, end) = (times.at(w.first), times.at(w.last));
+                out.write_all(&name)?;
+                write!(out, ",{},{},{},{},{},{}", kind.word(), w.first, w.last, start, end, seconds)?;
+                writeln!(out, ",{},{},{}", w.severity, w.is_last != 0, row.number)?;
             }
         }
         out.flush()
@@ -220,15 +241,23 @@ impl<'a> Listing<'a> {
     pub fn summary(&self, out: impl Write) -> io::Result<()> {
         let mut out = csv::WriterBuilder::new().has_headers(false).from_writer(out);
         out.write_record(SUMMARY_COLUMNS).map_err(csv_error)?;
+        let [from, to] = [self.selected.from, self.selected.to].map(|time| time.map(|t| instant::format(t, 9)));
+        let mut line = |of, name, totals: &Totals, number: Option<usize>| {
+            let (visible, violated) = (&totals.visible, &totals.violated);
+            let counts = (totals.samples, visible.counts(), violated.counts(), totals.single_clear_samples);
+            let by_time = [visible, violated].map(|total| (total.clipped_seconds, total.time_share));
+            out.serialize((of, name, counts, by_time, &from, &to, number)).map_err(csv_error)
+        };
         for row in &self.rows {
-            out.serialize(("target", row.name, &row.totals)).map_err(csv_error)?;
+            line("target", row.name, &row.totals, Some(row.number))?;
         }
-        out.serialize(("all", "", &self.all)).map_err(csv_error)?;
+        line("all", "", &self.all, None)?;
         out.flush()
     }
 
     pub fn json(&self, mut out: impl Write) -> io::Result<()> {
         let p = self.plan;
+        let times = Times::of(p, 9);
         let time = |t| instant::format(t, 9);
         let json = Json {
             rolls: p.rolls.count(),
@@ -256,10 +285,11 @@ impl<'a> Listing<'a> {
                 .iter()
                 .map(|row| JsonRow {
                     name: row.name,
+                    number: row.number,
                     tolerance_deg: Degrees(row.tolerance),
                     totals: &row.totals,
-                    visible: row.json(Kind::Visible),
-                    violated: row.json(Kind::Violated),
+                    visible: row.json(Kind::Visible, &times),
+                    violated: row.json(Kind::Violated, &times),
                 })
                 .collect(),
         };
@@ -269,89 +299,169 @@ impl<'a> Listing<'a> {
     }
 }
 
-impl<'a> Row<'a> {
-    fn of(plan: &'a Plan, selected: &Selected, i: usize, mask: &[u8], severities: &[f64]) -> Result<Row<'a>, Refusal> {
-        let times = selected.times();
-        let meets = |w: &Window| w.last_time >= *times.start() && w.first_time <= *times.end();
-        let whole = |windows: Vec<Window>| windows.into_iter().filter(meets).collect::<Vec<_>>();
-        let visible = whole(engine::visibility(mask, &plan.times)?);
-        let violated = whole(engine::violations(mask, &plan.times, severities)?);
+/// What the rows are counted over: the selected times, their samples and how long each of these stands for.
+struct Range {
+    times: RangeInclusive<i64>,
+    samples: std::ops::Range<usize>,
+    steps: Vec<u64>,
+}
 
+impl Range {
+    fn of(plan: &Plan, selected: &Selected) -> Range {
         let samples = selected.samples(&plan.times);
+        Range { times: selected.times(), steps: samples.clone().map(|j| step(&plan.times, j)).collect(), samples }
+    }
+    fn meets(&self, w: &Window) -> bool {
+        w.last_time >= *self.times.start() && w.first_time <= *self.times.end()
+    }
+    /// The seconds of a window that meets the range, as far as it lies inside.
+    fn clipped_seconds(&self, w: &Window) -> Result<u64, Refusal> {
+        engine::seconds(w.first_time.max(*self.times.start()), w.last_time.min(*self.times.end()))
+    }
+}
+
+/// How long a sample stands for, in nanoseconds: up to the next one, also where that one is not selected, so that ranges add up. The last
+/// one stands for as long as the one before it, and a single one for a second.
+pub fn step(times: &[i64], j: usize) -> u64 {
+    match (times.get(j + 1), j.checked_sub(1)) {
+        (Some(next), _) => next.abs_diff(times[j]),
+        (None, Some(before)) => times[j].abs_diff(times[before]),
+        (None, None) => 1_000_000_000,
+    }
+}
+
+impl<'a> Row<'a> {
+    fn of(plan: &'a Plan, range: &Range, i: usize, mask: &[u8], severities: &[f64]) -> Result<Row<'a>, Refusal> {
+        let met = |windows: Vec<Window>| windows.into_iter().filter(|w| range.meets(w)).collect::<Vec<_>>();
+        let visible = met(engine::visibility(mask, &plan.times)?);
+        let violated = met(engine::violations(mask, &plan.times, severities)?);
+
+        let samples = range.samples.clone();
         let mut windows = visible.iter().peekable();
         let single = samples.clone().filter(|&j| mask[j] == 0).filter(|&j| {
             while windows.next_if(|w| w.last < j as u64).is_some() {}
             windows.peek().map_or(true, |w| j < w.first as usize)
         });
         let single: Vec<_> = single.collect();
-        let marked = mask[samples.clone()].iter().filter(|&&m| m != 0).count();
         let mut listed = Vec::with_capacity(visible.len() + violated.len());
-        let mut total = |kind, count, windows: &[Window]| {
+        let mut total = |kind, windows: &[Window]| {
             let begun = listed.len();
+            let mut clipped_seconds = 0;
             for window in windows {
-                listed.push(Listed { kind, window: *window, seconds: engine::seconds(slice::from_ref(window))? as u64 });
+                listed.push(Listed { kind, window: *window, seconds: engine::seconds(window.first_time, window.last_time)? });
+                clipped_seconds += range.clipped_seconds(window)?;
             }
+            let seconds = || listed[begun..].iter().map(|l| l.seconds);
+            let of_kind = || mask[samples.clone()].iter().zip(&range.steps).filter(|(&mark, _)| (mark != 0) == (kind == Kind::Violated));
             Ok(Total {
-                samples: count,
-                share: share(count, samples.len()),
+                samples: of_kind().count(),
                 windows: windows.len(),
-                seconds: engine::seconds(windows)? as u64,
-                longest_seconds: listed[begun..].iter().map(|l| l.seconds).max(),
+                seconds: seconds().sum(),
+                longest_seconds: seconds().max(),
+                clipped_seconds,
+                time: of_kind().map(|(_, &step)| u128::from(step)).sum(),
+                ..Total::default()
             })
         };
-        let totals = Totals {
-            samples: samples.len(),
-            visible: total(Kind::Visible, samples.len() - marked, &visible)?,
-            violated: total(Kind::Violated, marked, &violated)?,
-            single_clear_samples: single.len(),
-        };
+        let (visible, violated) = (total(Kind::Visible, &visible)?, total(Kind::Violated, &violated)?);
+        let totals = Totals::of(visible, violated, single.len());
         listed.sort_by_key(|l| l.window.first);
-        Ok(Row { name: &plan.names[i], tolerance: plan.tolerances[i], windows: listed, single, totals })
+        Ok(Row { name: &plan.names[i], number: i + 1, tolerance: plan.tolerances[i], windows: listed, single, totals })
     }
-    fn json(&self, kind: Kind) -> Vec<JsonWindow> {
-        self.windows.iter().filter(|l| l.kind == kind).map(JsonWindow::of).collect()
+    fn json<'t>(&self, kind: Kind, times: &'t Times) -> Vec<JsonWindow<'t>> {
+        self.windows.iter().filter(|l| l.kind == kind).map(|l| JsonWindow::of(l, times)).collect()
     }
 }
 
-fn share(count: usize, samples: usize) -> Option<f64> {
-    Some(count as f64 / samples as f64).filter(|_| samples > 0)
+/// The times of the samples as text, each put into text at most once.
+struct Times<'a> {
+    times: &'a [i64],
+    texts: Vec<OnceCell<String>>,
+    digits: usize,
+}
+
+impl Times<'_> {
+    fn of(plan: &Plan, digits: usize) -> Times<'_> {
+        Times { times: &plan.times, texts: vec![OnceCell::new(); plan.times.len()], digits }
+    }
+    fn at(&self, sample: u64) -> &str {
+        let j = sample as usize;
+        self.texts[j].get_or_init(|| instant::format(self.times[j], self.digits))
+    }
+}
+
+/// A text as a field of CSV, quoted where it must be.
+fn csv_field(text: &str) -> io::Result<Vec<u8>> {
+    let mut line = Vec::new();
+    let mut out = csv::WriterBuilder::new().buffer_capacity(256).from_writer(&mut line);
+    out.write_record([text, ""]).map_err(csv_error)?;
+    out.flush()?;
+    drop(out);
+    line.truncate(line.len() - ",\n".len());
+    Ok(line)
 }
 
 impl Totals {
+    /// Both kinds, with the shares that they have of their sum.
+    fn of(mut visible: Total, mut violated: Total, single_clear_samples: usize) -> Totals {
+        let (samples, time) = (visible.samples + violated.samples, visible.time + violated.time);
+        for total in [&mut visible, &mut violated] {
+            total.share = (samples > 0).then(|| total.samples as f64 / samples as f64);
+            total.time_share = (time > 0).then(|| total.time as f64 / time as f64);
+        }
+        Totals { samples, visible, violated, single_clear_samples }
+    }
     fn of_all<'a>(rows: impl Iterator<Item = &'a Totals> + Clone) -> Totals {
-        let samples = rows.clone().map(|row| row.samples).sum();
         let total = |kind: fn(&Totals) -> &Total| {
             let rows = rows.clone().map(kind);
-            let count = rows.clone().map(|row| row.samples).sum();
             Total {
-                samples: count,
-                share: share(count, samples),
+                samples: rows.clone().map(|row| row.samples).sum(),
                 windows: rows.clone().map(|row| row.windows).sum(),
                 seconds: rows.clone().map(|row| row.seconds).sum(),
-                longest_seconds: rows.filter_map(|row| row.longest_seconds).max(),
+                longest_seconds: rows.clone().filter_map(|row| row.longest_seconds).max(),
+                clipped_seconds: rows.clone().map(|row| row.clipped_seconds).sum(),
+                time: rows.map(|row| row.time).sum(),
+                ..Total::default()
             }
         };
-        Totals {
-            samples,
-            visible: total(|row| &row.visible),
-            violated: total(|row| &row.violated),
-            single_clear_samples: rows.map(|row| row.single_clear_samples).sum(),
-        }
+        Totals::of(total(|row| &row.visible), total(|row| &row.violated), rows.clone().map(|row| row.single_clear_samples).sum())
     }
-    fn lines(&self, out: &mut impl Write) -> io::Result<()> {
+    /// Two lines per kind, and with clipped seconds three.
+    fn lines(&self, out: &mut impl Write, clipped: bool) -> io::Result<()> {
         for (kind, total) in [(Kind::Visible, &self.visible), (Kind::Violated, &self.violated)] {
-            let share = total.share.map_or(String::new(), |s| format!(" ({:.1}%)", 100.0 * s));
+            let percent = |share: f64| format!("{:.1}%", 100.0 * share);
+            let time = total.time_share.map_or(String::new(), |s| format!("{} of the time; ", percent(s)));
+            let share = total.share.map_or(String::new(), |s| format!(" ({})", percent(s)));
             let longest = total.longest_seconds.map_or(String::new(), |s| format!(", longest {} s", grouped(s)));
-            let (samples, windows) = (counted(total.samples, "sample"), counted(total.windows, "window"));
-            writeln!(out, "  {:8}  {}{}; {} s in {}{}", kind.word(), samples, share, grouped(total.seconds), windows, longest)?;
+            writeln!(out, "  total {}: {}{}{}", kind.word(), time, counted(total.samples, "sample"), share)?;
+            writeln!(out, "    in {}: {} s{}", counted(total.windows, "window"), grouped(total.seconds), longest)?;
+            if clipped {
+                writeln!(out, "    clipped: {} s", grouped(total.clipped_seconds))?;
+            }
         }
         Ok(())
     }
 }
 
+/// Writes a line, broken between words where it would pass 80 columns.
+fn wrapped(out: &mut impl Write, text: &str) -> io::Result<()> {
+    let mut line = String::new();
+    for word in text.split(' ') {
+        if !line.is_empty() && line.len() + 1 + word.len() > 80 {
+            writeln!(out, "{}", line)?;
+            line = "   ".into();
+        }
+        if !line.is_empty() {
+            line.push(' ');
+        }
+        line += word;
+    }
+    writeln!(out, "{}", line)
+}
+
 /// The table's columns: each as wide as its widest entry, with a space before it at least.
-struct Columns {
-    digits: usize,
+struct Columns<'a> {
+    times: Times<'a>,
     gap: &'static str,
     seconds: usize,
     /// Where there are severities; else the sample numbers, if they fit into 80 columns.
@@ -359,34 +469,33 @@ struct Columns {
     samples: Option<usize>,
 }
 
-impl Columns {
-    fn of(listing: &Listing) -> Columns {
+impl Columns<'_> {
+    fn of<'a>(listing: &'a Listing) -> Columns<'a> {
         let windows = || listing.rows.iter().flat_map(|row| &row.windows);
-        let widest = |text: fn(&Listed) -> String| windows().map(|listed| text(listed).len()).max().unwrap_or(0);
         let digits = instant::digits(windows().flat_map(|l| [l.window.first_time, l.window.last_time]));
-        let seconds = widest(|l| grouped(l.seconds));
-        let severity = if listing.has_severities() { Some(widest(severity)) } else { None };
-        let samples = widest(samples);
+        let seconds = grouped(windows().map(|l| l.seconds).max().unwrap_or(0)).len();
+        let severity = listing.has_severities().then(|| windows().map(|l| severity(l).len()).max().unwrap_or(0));
+        let samples = windows().map(|l| width(l.window.first) + 1 + width(l.window.last)).max().unwrap_or(0);
         let time = instant::format(0, digits).len();
         let width = |gap: usize, columns: usize| 2 + 8 + gap + time + gap + time + 1 + columns;
         let needed = 1 + seconds + severity.map_or(0, |w| 1 + w);
         let samples = Some(samples).filter(|w| severity.is_none() && width(2, needed + 1 + w) <= 80);
-        Columns { digits, gap: if width(2, needed) <= 80 { "  " } else { " " }, seconds, severity, samples }
+        let gap = if width(2, needed) <= 80 { "  " } else { " " };
+        Columns { times: Times::of(listing.plan, digits), gap, seconds, severity, samples }
     }
-    fn line(&self, listed: &Listed) -> String {
+    fn line(&self, out: &mut impl Write, listed: &Listed) -> io::Result<()> {
         let w = &listed.window;
-        let time = |t| instant::format(t, self.digits);
-        let mut line = format!("  {:8}{}{}{}{}", listed.kind.word(), self.gap, time(w.first_time), self.gap, time(w.last_time));
-        line.push(if w.is_last != 0 { '>' } else { ' ' });
-        line += &format!(" {:>1$}", grouped(listed.seconds), self.seconds);
-        if let Some(width) = self.severity {
-            line += &format!(" {:>1$}", severity(listed), width);
+        let (start, end, mark) = (self.times.at(w.first), self.times.at(w.last), if w.is_last != 0 { '>' } else { ' ' });
+        write!(out, "  {:8}{}{}{}{}{}", listed.kind.word(), self.gap, start, self.gap, end, mark)?;
+        write!(out, " {:>1$}", grouped(listed.seconds), self.seconds)?;
+        if let (Some(width), Kind::Violated) = (self.severity, listed.kind) {
+            write!(out, " {:>1$}", severity(listed), width)?;
         }
-        if let Some(width) = self.samples {
-            line += &format!(" {:>1$}", samples(listed), width);
+        if let Some(samples) = self.samples {
+            let blank = samples - (width(w.first) + 1 + width(w.last));
+            write!(out, " {:blank$}{}-{}", "", w.first, w.last)?;
         }
-        line.truncate(line.trim_end().len());
-        line
+        writeln!(out)
     }
     fn legend(&self) -> &'static str {
         if self.severity.is_some() {
@@ -406,8 +515,9 @@ fn severity(listed: &Listed) -> String {
     }
 }
 
-fn samples(listed: &Listed) -> String {
-    format!("{}-{}", listed.window.first, listed.window.last)
+/// How many digits a number has.
+fn width(n: u64) -> usize {
+    n.checked_ilog10().map_or(1, |log| log as usize + 1)
 }
 
 /// A setting, which may be any number: JSON has none for nan, inf and -inf, so these are texts, as TOML spells them.
@@ -452,31 +562,32 @@ struct JsonPart {
 #[derive(Serialize)]
 struct JsonRow<'a> {
     name: &'a str,
+    number: usize,
     tolerance_deg: Degrees,
     totals: &'a Totals,
-    visible: Vec<JsonWindow>,
-    violated: Vec<JsonWindow>,
+    visible: Vec<JsonWindow<'a>>,
+    violated: Vec<JsonWindow<'a>>,
 }
 
 #[derive(Serialize)]
-struct JsonWindow {
+struct JsonWindow<'a> {
     first_sample: u64,
     last_sample: u64,
-    start: String,
-    end: String,
+    start: &'a str,
+    end: &'a str,
     seconds: u64,
     severity_deg: f64,
     data_end: bool,
 }
 
-impl JsonWindow {
-    fn of(listed: &Listed) -> JsonWindow {
+impl JsonWindow<'_> {
+    fn of<'a>(listed: &Listed, times: &'a Times) -> JsonWindow<'a> {
         let w = &listed.window;
         JsonWindow {
             first_sample: w.first,
             last_sample: w.last,
-            start: instant::format(w.first_time, 9),
-            end: instant::format(w.last_time, 9),
+            start: times.at(w.first),
+            end: times.at(w.last),
             seconds: listed.seconds,
             severity_deg: w.severity,
             data_end: w.is_last != 0,
@@ -537,6 +648,9 @@ mod tests {
                 prop_assert_eq!(total.windows, windows().count());
                 prop_assert_eq!(total.seconds, windows().map(|l| (l.window.last - l.window.first) / 2).sum::<u64>());
                 prop_assert_eq!(total.longest_seconds, windows().map(|l| l.seconds).max());
+                let (first, last): (Vec<_>, Vec<_>) = windows().map(|l| (l.window.first_time, l.window.last_time)).unzip();
+                prop_assert_eq!(wilfnusk::total_violation_duration(&first, &last), Ok(total.seconds as f64));
+                prop_assert_eq!(total.clipped_seconds, total.seconds);
                 prop_assert_eq!(total.samples, mask.iter().filter(|&&m| (m == 0) == (kind == Kind::Visible)).count());
             }
 
@@ -550,6 +664,27 @@ mod tests {
             prop_assert_eq!(part.all.single_clear_samples, row.single.iter().filter(in_range).count());
             prop_assert_eq!(part.all.violated.samples, mask[from..=to].iter().filter(|&&m| m == 1).count());
             prop_assert_eq!(part.all.visible.samples + part.all.violated.samples, to - from + 1);
+        }
+        /// The samples and their time of two ranges, one after the other, are those of the whole; the clipped seconds are no more than its seconds.
+        #[test]
+        fn consecutive_ranges_add_up(mask in prop::collection::vec(0u8..2, 1..120), cut in 0i64..70_000_000_000, gap in 0i64..2) {
+            let p = half_seconds(mask.len());
+            let (from, to) = (p.times[0], p.times[0] + cut);
+            let of = |from, to| Listing::of_mask(&p, Selected { from, to, ..whole() }, &mask, 7).unwrap().all;
+            let (all, parts) = (of(None, None), [of(Some(from), Some(to)), of(Some(to + gap), None)]);
+            for kind in [|totals: &Totals| totals.visible.clone(), |totals: &Totals| totals.violated.clone()] {
+                let (whole, [a, b]) = (kind(&all), [kind(&parts[0]), kind(&parts[1])]);
+                prop_assert!(a.clipped_seconds + b.clipped_seconds <= whole.seconds);
+                prop_assert!(a.clipped_seconds <= a.seconds && b.clipped_seconds <= b.seconds);
+                // With a gap no sample is in both ranges.
+                if gap == 1 {
+                    prop_assert_eq!((a.samples + b.samples, a.time + b.time), (whole.samples, whole.time));
+                }
+            }
+            for totals in [&all, &parts[0], &parts[1]] {
+                let sum = totals.visible.time_share.zip(totals.violated.time_share).map(|(a, b)| a + b);
+                prop_assert!(sum.map_or(totals.samples == 0, |sum| (sum - 1.0).abs() < 1e-15), "{:?}", sum);
+            }
         }
     }
 }

@@ -215,7 +215,7 @@ pub fn about(plan: &Plan) -> String {
 pub struct Mask {
     #[command(flatten)]
     files: Files,
-    /// The mask at this roll, in degrees, in place of the sweep's; a configured roll overrides it
+    /// The mask at this roll, in degrees, in place of the sweep's; a configured roll overrides it, with a warning
     #[arg(long, value_name = "DEG", allow_hyphen_values = true)]
     roll: Option<f64>,
     /// The mask at this roll, which nothing overrides
@@ -241,12 +241,27 @@ impl Mask {
         let selected = self.selection.of(&plan)?;
         let at = |roll| engine::mask_at(&plan, roll).map_err(|r| explain::plan(&plan, r));
         let mask = match (self.roll, self.fixed_roll) {
-            (Some(roll), _) => at(Roll::Sweep(roll))?,
+            (Some(roll), _) => {
+                if let Some(configured) = overriding(&plan, roll) {
+                    let (configured, roll) = (number(configured), number(roll));
+                    tell!(
+                        "warning: the plan's configured_roll {0} overrides --roll {1}: this is the mask at roll {0}; use --fixed-roll {1}",
+                        configured,
+                        roll
+                    );
+                }
+                at(Roll::Sweep(roll))?
+            }
             (None, Some(roll)) => at(Roll::Fixed(roll))?,
             (None, None) => swept(&plan, &path)?.0,
         };
         buffered(io::stdout().lock(), |out| self.form.print(&plan, &selected, &mask, out)).map_err(Fault::output)
     }
+}
+
+/// The configured roll, where the plan has one that takes the place of the roll asked for and is not the same.
+fn overriding(plan: &Plan, roll: f64) -> Option<f64> {
+    plan.configured_roll.filter(|&configured| configured != roll)
 }
 
 impl Form {
@@ -292,10 +307,10 @@ pub struct Regard {
     /// A sample number, from 0
     #[arg(long, value_name = "J", conflicts_with = "time")]
     sample: Option<usize>,
-    /// The marks at this roll, in degrees; a configured roll overrides it [default: at every roll of the plan, which must then be even steps]
+    /// The marks at this roll, in degrees; a configured roll overrides it, with a warning [default: at every roll of the plan, which must then be even steps]
     #[arg(long, value_name = "DEG", allow_hyphen_values = true)]
     roll: Option<f64>,
-    /// Leave out all targets but this one; may be given again. * stands for any characters, ? for one, [ab] for a or b
+    /// List this target alone; may be given again. Where no target has exactly this name, * stands for any characters, ? for one, [ab] for a or b
     #[arg(long = "target", value_name = "NAME")]
     names: Vec<String>,
 }
@@ -309,7 +324,17 @@ impl Regard {
             (None, sample) => sample.unwrap_or(0),
         };
         let by = match (self.roll, &plan.rolls) {
-            (Some(roll), _) => Regarded::Roll(roll),
+            (Some(roll), _) => {
+                if let Some(configured) = overriding(&plan, roll) {
+                    let (configured, roll) = (number(configured), number(roll));
+                    tell!(
+                        "warning: the plan's configured_roll {0} overrides --roll {1}: these are the marks at roll {0}",
+                        configured,
+                        roll
+                    );
+                }
+                Regarded::Roll(roll)
+            }
             (None, Rolls::Even(n)) => Regarded::EvenSteps(*n),
             (None, Rolls::Table(_)) => return Err(explain::needs_even_steps(&plan, &journal)),
         };

@@ -52,7 +52,7 @@ use std::{
     name = "wilfnusk",
     version,
     about = "Sweeps a plan of targets over rolls and lists when each may be looked at. The sweep is kept in a journal: \
-        the same command goes on after a power cut, which costs at most the lines being written, those of up to 64 chunks.",
+        the same command goes on after a power cut, which costs at most the chunks being worked out, about a tenth of a second of work per job.",
     // help2man makes sections of the manual page of the two.
     after_help = "Examples:\n  \
         wilfnusk example season                            a plan to start from\n  \
@@ -156,6 +156,7 @@ fn say_json(value: &impl Serialize) -> Result<(), Fault> {
 }
 
 fn main() {
+    stop::outlive_file_limits();
     if let Err(fault) = run(Cli::parse().command) {
         let text = fault.to_string();
         if !text.is_empty() {

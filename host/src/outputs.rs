@@ -88,14 +88,20 @@ impl Outputs {
         };
         done.map_err(Fault::output)
     }
-    /// What a sweep that lacks lines leaves unwritten, in words.
+    /// What a sweep that lacks lines leaves unwritten, in words; and which of these files are older ones.
     pub fn unwritten(&self) -> Option<String> {
-        let files: Vec<_> = self.asked().iter().map(|asked| format!("{} {}", asked.option, shown(&asked.path))).collect();
-        if files.is_empty() {
-            return None;
+        let asked = self.asked();
+        let joined = |words: Vec<String>, one, more| {
+            Some((words.join(", "), if words.len() == 1 { one } else { more })).filter(|_| !words.is_empty())
+        };
+        let all = asked.iter().map(|asked| format!("{} {}", asked.option, shown(asked.path))).collect();
+        let older = asked.iter().filter(|asked| !asked.on_stdout() && asked.path.is_file()).map(|asked| shown(asked.path));
+        let (all, were) = joined(all, "was", "were")?;
+        let mut text = format!("{} {} not written, as windows are listed of a whole sweep only", all, were);
+        if let Some((older, are)) = joined(older.collect(), "is an older file", "are older files") {
+            text += &format!("\n{} {}, not of this sweep", older, are);
         }
-        let were = if files.len() == 1 { "was" } else { "were" };
-        Some(format!("{} {} not written, as windows are listed of a whole sweep only", files.join(", "), were))
+        Some(text)
     }
 }
 
@@ -160,10 +166,16 @@ mod tests {
         assert_eq!(std::fs::read_dir(folder.path()).unwrap().count(), 0);
     }
     #[test]
-    fn what_is_left_unwritten_is_named() {
+    fn outputs_that_are_not_written_are_named_with_older_files_in_their_place() {
         let words = "not written, as windows are listed of a whole sweep only";
         assert_eq!(outputs("", "").unwritten(), None);
         assert_eq!(outputs("w.csv", "").unwritten().unwrap(), format!("--csv w.csv was {}", words));
         assert_eq!(outputs("w.csv", "-").unwritten().unwrap(), format!("--csv w.csv, --json - were {}", words));
+        let older = "Cargo.toml is an older file, not of this sweep";
+        assert_eq!(outputs("Cargo.toml", "w").unwritten().unwrap(), format!("--csv Cargo.toml, --json w were {}\n{}", words, older));
+        assert!(outputs("Cargo.toml", "src/main.rs")
+            .unwritten()
+            .unwrap()
+            .ends_with("\nCargo.toml, src/main.rs are older files, not of this sweep"));
     }
 }

@@ -6,10 +6,10 @@ use std::ops::{Range, RangeInclusive};
 
 #[derive(Args, Default)]
 pub struct Selection {
-    /// Leave out all targets but this one; may be given again. * stands for any characters, ? for one, [ab] for a or b
+    /// List this target alone; may be given again. Where no target has exactly this name, * stands for any characters, ? for one, [ab] for a or b
     #[arg(long = "target", value_name = "NAME")]
     names: Vec<String>,
-    /// Leave out what ends before this time (RFC 3339); a window is never cut
+    /// Leave out what ends before this time (RFC 3339); windows that meet it are listed whole
     #[arg(long, value_name = "TIME", value_parser = time)]
     from: Option<i64>,
     /// Leave out what starts after this time
@@ -65,15 +65,15 @@ impl Selected {
     }
 }
 
-/// The targets that have one of these names or fit one of these patterns, by their numbers; all if there is none.
+/// The targets that these names select, by their numbers; all if there is none. A name that a target has exactly selects that name alone, so
+/// that one with a star or brackets is no pattern; any other is a pattern.
 pub fn targets(names: &[String], plan: &Plan) -> Result<Vec<usize>, Fault> {
     let mut chosen = vec![names.is_empty(); plan.names.len()];
     for name in names {
-        // A name with brackets or stars is also that name.
-        let pattern = Pattern::new(name);
+        let pattern = if plan.names.contains(name) { Pattern::new(&Pattern::escape(name)) } else { Pattern::new(name) };
         let mut found = false;
         for (target, chosen) in plan.names.iter().zip(&mut chosen) {
-            if target == name || pattern.as_ref().map_or(false, |p| p.matches(target)) {
+            if pattern.as_ref().map_or(false, |p| p.matches(target)) {
                 (found, *chosen) = (true, true);
             }
         }
@@ -112,19 +112,20 @@ mod tests {
     }
 
     #[test]
-    fn names_and_patterns() {
+    fn an_exact_name_goes_before_a_pattern() {
         assert_eq!(of(&[]), Ok((0..7).collect()));
         assert_eq!(of(&["M 31"]), Ok(vec![0, 6]));
         assert_eq!(of(&["M *"]), Ok(vec![0, 1, 6]));
         assert_eq!(of(&["V?ga", "M 87"]), Ok(vec![1, 5]));
-        assert_eq!(of(&["NGC [1]"]), Ok(vec![2, 3]));
+        assert_eq!(of(&["NGC [1]"]), Ok(vec![2]));
+        assert_eq!(of(&["NGC [12]"]), Ok(vec![3]));
         assert_eq!(of(&["[Mm] 31"]), Ok(vec![0, 4, 6]));
         assert_eq!(of(&["*"]), Ok((0..7).collect()));
         assert!(of(&["M 31", "Vega"]).unwrap_err().starts_with("--target Vega: no target of t.csv has that name; allowed: "));
         assert!(of(&["[1"]).unwrap_err().contains("as a pattern it is wrong"));
     }
     #[test]
-    fn samples_of_a_range() {
+    fn a_range_selects_the_samples_within_it() {
         let times = [10, 20, 30];
         let samples = |from, to| Selected { targets: vec![], all_targets: true, from, to }.samples(&times);
         assert_eq!(samples(None, None), 0..3);

@@ -1,6 +1,7 @@
-//! Ctrl-C and the signals that ask a process to end: the sweep ends after the lines it is writing.
+//! Signals. Ctrl-C and those that ask a process to end: the sweep ends after the ranges that it has begun. A limit on the size of files: the
+//! write fails, and does not end the process.
 use signal_hook::{
-    consts::{SIGHUP, SIGINT, SIGTERM},
+    consts::{SIGHUP, SIGINT, SIGTERM, SIGXFSZ},
     flag,
 };
 use std::{
@@ -33,6 +34,13 @@ pub fn listen() {
     }
 }
 
+/// Lets a write beyond the limit on the size of files fail with a reason. Without a handler the signal would end the process without a word.
+pub fn outlive_file_limits() {
+    // Where that fails, such a write still ends the process.
+    let _ = flag::register(SIGXFSZ, Arc::default());
+}
+
+/// Whether one of the signals came.
 pub fn asked() -> bool {
     flag().load(Ordering::SeqCst)
 }
@@ -48,7 +56,7 @@ mod tests {
     use super::*;
 
     #[test]
-    fn ignored_signals() {
+    fn ignored_signals_are_read_from_the_status() {
         let status = "Name:\tx\nSigBlk:\tffffffffffffffff\nSigIgn:\t0000000000001001\nSigCgt:\tffffffffffffffff\n";
         assert!(is_ignored(status, SIGHUP));
         assert!(!is_ignored(status, SIGINT) && !is_ignored(status, SIGTERM));

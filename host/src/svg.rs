@@ -107,7 +107,7 @@ fn heading_of(svg: &mut String, listing: &Listing) -> f64 {
 fn bands(svg: &mut String, listing: &Listing, axis: &Axis, row: &Row, y: f64, worst: f64) {
     let times = &listing.plan.times;
     let name = printable(row.name);
-    let tolerance = if listing.has_tolerances() { format!(": tolerance {}°", number(row.tolerance)) } else { String::new() };
+    let tolerance = if listing.has_tolerances { format!(": tolerance {}°", number(row.tolerance)) } else { String::new() };
     let _ = writeln!(
         svg,
         "<text x=\"{:.1}\" y=\"{:.1}\" text-anchor=\"end\" fill=\"{}\">{}<title>{}{}</title></text>",

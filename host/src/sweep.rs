@@ -1,8 +1,8 @@
-//! `wilfnusk sweep`: lock the journal, recover, shorten, work out what is missing, list.
+//! `wilfnusk sweep`: lock the journal, recover, shorten, work out what is missing, list the windows.
 use crate::{
     digest::{same_plan, Digest},
-    engine::{self, HEADER_BYTES, LINE_BYTES},
-    explain,
+    engine::{self, HEADER_BYTES},
+    explain::{self, zero_tail},
     fault::Fault,
     journal::{done, Journal},
     listing::Listing,
@@ -14,10 +14,11 @@ use crate::{
     source::shown,
     stop,
     text::{counted, grouped, ranges},
+    workers::{cores, Workers},
     Files,
 };
 use clap::Args;
-use std::{ops::Range, str::FromStr};
+use std::{num::NonZeroUsize, ops::Range, str::FromStr};
 
 #[derive(Args)]
 pub struct Sweep {
@@ -32,6 +33,15 @@ pub struct Sweep {
     /// Wait while another process sweeps into the journal
     #[arg(long)]
     wait: bool,
+    /// Work out on N threads [default: one per core]. The journal's bytes are the same for any N
+    #[arg(long, value_name = "N")]
+    jobs: Option<NonZeroUsize>,
+    /// Write after at most N chunks [default: as many as take about 100 ms]
+    #[arg(long, value_name = "N")]
+    range: Option<NonZeroUsize>,
+    /// Drop the zero bytes that a power cut left at the journal's end, where all that stands before them is right
+    #[arg(long)]
+    drop_zero_tail: bool,
     #[command(flatten)]
     selection: Selection,
     #[command(flatten)]
@@ -57,7 +67,7 @@ impl FromStr for Part {
 }
 
 impl Part {
-    /// The parts are runs of chunks, one after the other, as equal as can be.
+    /// The parts follow each other and are as equal as possible.
     fn of(self, chunks: u64) -> Range<u64> {
         chunks * (self.k - 1) / self.n..chunks * self.k / self.n
     }
@@ -89,24 +99,22 @@ impl Sweep {
         self.outputs.check(&plan, &path)?;
         tell_remarks(&plan);
         stop::listen();
-        let mut journal = Journal::open(&path, &plan, self.wait)?;
+        let mut journal = Journal::open(&path, self.wait)?;
+        if self.drop_zero_tail {
+            drop_zero_tail(&plan, &mut journal)?;
+        }
         start(&plan, &mut journal)?;
 
-        let has_line = done(journal.used(), plan.chunks());
-        let mut missing: Vec<u64> = asked.into_iter().filter(|&c| !has_line[c as usize]).collect();
         // A chunk that was asked for twice is worked out once.
-        let mut seen = has_line;
-        missing.retain(|&c| !std::mem::replace(&mut seen[c as usize], true));
+        let mut has_line = done(journal.used(), plan.chunks());
+        let missing: Vec<u64> = asked.into_iter().filter(|&c| !std::mem::replace(&mut has_line[c as usize], true)).collect();
         let mut progress = Progress::of(missing.len());
-        let mut left = missing.as_slice();
-        while !left.is_empty() && !stop::asked() {
-            let (used, run) = (journal.used, first_run(left));
-            let upto = engine::work(&plan, run, &mut journal.bytes, used).map_err(|r| explain::plan(&plan, r))?;
-            journal.append(upto)?;
-            let lines = (upto - used) / LINE_BYTES as usize;
-            progress.add(lines);
-            left = &left[lines..];
-        }
+        let workers = Workers { jobs: self.jobs.unwrap_or_else(cores), most: self.range };
+        workers.work(&plan, &missing, stop::asked, |range, lines| {
+            journal.append(lines)?;
+            progress.add(range.len());
+            Ok(())
+        })?;
         journal.as_left()?;
         progress.end();
         self.end(&plan, &journal, selected)
@@ -137,7 +145,7 @@ impl Sweep {
         if count < plan.chunks() {
             tell!("{}; missing: {}", about, ranges(&has_line, false));
             if let Some(what) = self.outputs.unwritten() {
-                tell!("{}: sweep the missing chunks, or merge the other parts' journals, then list them with `wilfnusk windows`", what);
+                tell!("{}\nto list the windows, sweep the missing chunks, or merge the journals of the other parts and use `wilfnusk windows`", what);
             }
             return Ok(());
         }
@@ -149,19 +157,19 @@ impl Sweep {
     }
 }
 
-/// As many chunks as are worked out before their lines are written: the journal is checked once, and synced once, for all of them.
-const AT_ONCE: u64 = 64;
-
-/// The chunks at the front of the list, as far as each follows the one before.
-pub fn first_run(chunks: &[u64]) -> Range<u64> {
-    let from = chunks[0];
-    let run = (from..from + AT_ONCE).zip(chunks).take_while(|(next, chunk)| next == *chunk);
-    from..from + run.count() as u64
+/// Shortens the journal to the lines before a tail of zero bytes.
+fn drop_zero_tail(plan: &Plan, journal: &mut Journal) -> Result<(), Fault> {
+    if let Some(tail) = zero_tail(plan, journal.used()) {
+        let bytes = journal.used().len() - tail.keep;
+        journal.shorten(tail.keep)?;
+        tell!("{}: the last {} dropped, {}", shown(&journal.path), counted(bytes, "byte"), tail.in_words());
+    }
+    Ok(())
 }
 
 /// The start-up of every sweep, after a power cut or not: recover, hold the plan against the digest, shorten, begin.
 fn start(plan: &Plan, journal: &mut Journal) -> Result<(), Fault> {
-    let found = journal.used;
+    let found = journal.used().len();
     let keep = engine::recover(plan, journal.used()).map_err(|r| explain::journal(plan, &journal.path, journal.used(), r))?;
     if keep > HEADER_BYTES as usize {
         same_plan(plan, &journal.path)?;
@@ -175,8 +183,7 @@ fn start(plan: &Plan, journal: &mut Journal) -> Result<(), Fault> {
         Digest::of(plan).write(&journal.path)?;
     }
     if keep == 0 {
-        let upto = engine::begin(plan, &mut journal.bytes).map_err(|r| explain::plan(plan, r))?;
-        journal.append(upto)?;
+        journal.append(&engine::header(plan).map_err(|r| explain::plan(plan, r))?)?;
     }
     Ok(())
 }
@@ -187,7 +194,7 @@ mod tests {
     use proptest::prelude::*;
 
     #[test]
-    fn parts_and_chunks_of_the_command_line() {
+    fn parts_and_chunks_of_the_command_line_are_read_or_refused() {
         assert_eq!("2/5".parse(), Ok(Part { k: 2, n: 5 }));
         for wrong in ["", "2", "0/5", "6/5", "-1/5", "1/0", "1/2/3"] {
             assert!(wrong.parse::<Part>().is_err(), "{}", wrong);
@@ -199,16 +206,9 @@ mod tests {
             assert!(wrong.parse::<Chunks>().is_err(), "{}", wrong);
         }
     }
-    #[test]
-    fn runs_of_chunks() {
-        assert_eq!(first_run(&[7]), 7..8);
-        assert_eq!(first_run(&[3, 4, 5, 7, 8]), 3..6);
-        assert_eq!(first_run(&[5, 4, 3]), 5..6);
-        assert_eq!(first_run(&(0..1000).collect::<Vec<_>>()), 0..AT_ONCE);
-    }
     proptest! {
         #[test]
-        fn the_parts_are_all_chunks_once(chunks in 0u64..20_000, n in 1u64..300) {
+        fn the_parts_together_are_all_chunks_once_each(chunks in 0u64..20_000, n in 1u64..300) {
             let all: Vec<_> = (1..=n).flat_map(|k| Part { k, n }.of(chunks)).collect();
             prop_assert_eq!(all, (0..chunks).collect::<Vec<_>>());
         }

@@ -1,8 +1,8 @@
 //! Chunks worked out on several threads, and handed over in the order in which they were asked for.
 //!
-//! Each thread takes the next run of chunks from the list and has the library work it out into a journal of its own, which has this plan's header
-//! and nothing else: so the check of the journal before each call stays short. A run grows until it takes about `RUN`, so that what the library
-//! and the caller do once a run, a look at the plan and a write that is synced, costs little beside it.
+//! Each thread takes the next range of chunks from the list and has the library work it out into a journal of its own, which has this plan's
+//! header and nothing else: so the check of the journal before each call stays short. A range grows until it takes about `RANGE_TIME`, so that
+//! what the library and the caller do once per range, a check of the plan and a synced write, costs little beside it.
 use crate::{
     engine::{self, Refusal, LINE_BYTES},
     explain,
@@ -18,12 +18,12 @@ use std::{
     time::{Duration, Instant},
 };
 
-/// About how long a run takes to work out.
-const RUN: Duration = Duration::from_millis(100);
-/// The first run, before it is known how long a chunk takes.
+/// About how long a range takes to work out.
+const RANGE_TIME: Duration = Duration::from_millis(100);
+/// The chunks of the first range, before it is known how long a chunk takes.
 const FIRST: usize = 64;
 
-/// The cores there are.
+/// The number of cores.
 pub fn cores() -> NonZeroUsize {
     thread::available_parallelism().unwrap_or(NonZeroUsize::MIN)
 }
@@ -31,22 +31,26 @@ pub fn cores() -> NonZeroUsize {
 /// How chunks are worked out.
 pub struct Workers {
     pub jobs: NonZeroUsize,
-    /// The most chunks of a run; as many as take about `RUN` if there is none.
+    /// The most chunks of a range; as many as take about `RANGE_TIME` if there is none.
     pub most: Option<NonZeroUsize>,
 }
 
-/// What is left to be taken, and how many chunks the next run has.
+/// What is left to be taken from a list of chunks.
 struct Left {
     /// The place in the list of the first chunk that no thread has taken.
     at: usize,
-    /// The number of the next run.
+    /// The number of the next range.
     number: usize,
+    /// How many chunks take about `RANGE_TIME`, as far as is known.
     length: usize,
+    /// A fault has ended the work.
+    ended: bool,
 }
 
 impl Workers {
-    /// Works out the lines of these chunks. `take` is handed each run of them with its lines, in the order of the list, on the caller's thread; the first
-    /// fault that it returns ends the work, and so does `stop`, which is asked before each run: runs that were begun are then still handed over.
+    /// Works out the lines of these chunks. `take` is called on the caller's thread with each range of the list and its lines, in the order of the
+    /// list. The first fault that it returns ends the work. So does `stop`, which is asked before each range: ranges that were begun are still
+    /// handed over.
     pub fn work(
         &self,
         plan: &Plan,
@@ -57,57 +61,72 @@ impl Workers {
         let refused = |refusal| explain::plan(plan, refusal);
         let header = engine::header(plan).map_err(refused)?;
         let most = self.most.map_or(usize::MAX, NonZeroUsize::get);
-        let left = Mutex::new(Left { at: 0, number: 0, length: FIRST.min(most) });
-        let jobs = self.jobs.get().min(chunks.len()).max(1);
-        // A thread whose lines the caller does not take yet waits, so that a stop loses little.
+        let left = Mutex::new(Left { at: 0, number: 0, length: FIRST.min(most), ended: false });
+        let locked = || left.lock().expect("no thread panics while it holds this");
+        let jobs = self.jobs.get().min(chunks.len());
+        // A thread whose lines the caller has not taken yet waits, so that a stop loses little.
         let (sender, receiver) = mpsc::sync_channel(jobs);
         let next = || {
-            let mut left = left.lock().expect("no thread panics with it");
-            if left.at == chunks.len() || stop() {
+            let mut left = locked();
+            if left.at == chunks.len() || left.ended || stop() {
                 return None;
             }
-            // The last runs are shared among all threads.
-            let length = left.length.min((chunks.len() - left.at + jobs - 1) / jobs);
-            let run = left.at..left.at + length;
-            left.at = run.end;
+            let range = left.at..left.at + next_length(left.length, chunks.len() - left.at, jobs);
+            left.at = range.end;
             left.number += 1;
-            Some((left.number - 1, run))
+            Some((left.number - 1, range))
         };
         let took = |length: usize, time: Duration| {
-            let fitting = (length as f64 * RUN.as_secs_f64() / time.as_secs_f64().max(1e-6)) as usize;
-            let mut left = left.lock().expect("no thread panics with it");
-            left.length = fitting.clamp(1, 4 * length).min(most);
+            let fitting = (length as f64 * RANGE_TIME.as_secs_f64() / time.as_secs_f64().max(1e-6)) as usize;
+            locked().length = fitting.clamp(1, 4 * length).min(most);
+        };
+        let work = |sender: mpsc::SyncSender<_>| {
+            while let Some((number, range)) = next() {
+                let begun = Instant::now();
+                let lines = lines_of(plan, &header, &chunks[range.clone()]);
+                took(range.len(), begun.elapsed());
+                // Nobody receives it where the caller has ended with a fault.
+                if sender.send((number, range, lines)).is_err() {
+                    return;
+                }
+            }
         };
         thread::scope(|scope| {
-            for _ in 0..jobs {
-                let (sender, header, next, took) = (sender.clone(), &header, &next, &took);
-                scope.spawn(move || {
-                    while let Some((number, run)) = next() {
-                        let begun = Instant::now();
-                        let lines = lines_of(plan, header, &chunks[run.clone()]);
-                        took(run.len(), begun.elapsed());
-                        // The caller has ended with a fault.
-                        if sender.send((number, run, lines)).is_err() {
-                            return;
-                        }
-                    }
-                });
+            for started in 0..jobs {
+                let (sender, work) = (sender.clone(), &work);
+                match thread::Builder::new().spawn_scoped(scope, move || work(sender)) {
+                    Ok(_) => {}
+                    // Fewer threads do the same work.
+                    Err(_) if started > 0 => break,
+                    Err(e) => return Err(Fault::Files(format!("no thread can be started to work chunks out: {}", e))),
+                }
             }
             drop(sender);
-            // Dropped where a fault ends this, so that no thread waits for it to be read.
+            // Moved here, so that it is dropped where a fault ends this, and no thread waits for it to be read.
             let receiver = receiver;
             let mut early = BTreeMap::new();
             let mut number = 0;
-            while let Ok((n, run, lines)) = receiver.recv() {
-                early.insert(n, (run, lines));
-                while let Some((run, lines)) = early.remove(&number) {
-                    take(&chunks[run], &lines.map_err(refused)?)?;
+            while let Ok((n, range, lines)) = receiver.recv() {
+                early.insert(n, (range, lines));
+                while let Some((range, lines)) = early.remove(&number) {
+                    let taken = lines.map_err(refused).and_then(|lines: Vec<u8>| take(&chunks[range], &lines));
+                    if taken.is_err() {
+                        locked().ended = true;
+                        return taken;
+                    }
                     number += 1;
                 }
             }
             Ok(())
         })
     }
+}
+
+/// How many chunks the next range has, of those that are left: as many as take about `RANGE_TIME`, and towards the end fewer, so that all threads
+/// end at about the same time.
+fn next_length(length: usize, left: usize, jobs: usize) -> usize {
+    let share = (left + jobs - 1) / jobs;
+    length.min(share.max(length / 4)).clamp(1, left)
 }
 
 /// The lines of these chunks, in their order.
@@ -125,8 +144,8 @@ fn lines_of(plan: &Plan, header: &[u8], chunks: &[u64]) -> Result<Vec<u8>, Refus
     Ok(lines)
 }
 
-/// The chunks at the front of the list, as far as each follows the one before.
-fn first_run(chunks: &[u64]) -> Range<u64> {
+/// The chunks at the front of the list, as long as each follows the one before.
+pub fn first_run(chunks: &[u64]) -> Range<u64> {
     let from = chunks[0];
     let run = (from..).zip(chunks).take_while(|(next, chunk)| next == *chunk);
     from..from + run.count() as u64

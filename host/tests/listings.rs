@@ -1,11 +1,23 @@
 //! Listings: what a terminal is shown, totals, selection, how far a sweep is.
 mod common;
 
-use common::{json, Folder};
+use common::{done, json, Folder};
 use serde_json::{json, Value};
+use std::{collections::HashMap, sync::OnceLock};
 
 fn folder() -> Folder {
     Folder::new(&["Vega", "M 31"], "0010110", "tolerance = 10\n")
+}
+
+/// The example, swept once for all tests.
+fn demo() -> &'static Folder {
+    static SWEPT: OnceLock<Folder> = OnceLock::new();
+    SWEPT.get_or_init(|| {
+        let f = Folder::new(&[], "", "");
+        f.run(&["example", "season"]).says(0, &[]);
+        f.run(&["sweep", "season/plan.toml", "-q"]).says(0, &[]);
+        f
+    })
 }
 
 #[test]
@@ -42,7 +54,7 @@ fn control_characters_are_escaped_for_a_terminal_and_exact_in_files() {
 }
 
 #[test]
-fn settings_that_are_no_numbers_of_json() {
+fn nan_and_infinite_settings_are_texts_in_json() {
     for (setting, tolerance, roll) in [
         ("tolerance = inf\n", json!("inf"), json!(null)),
         ("tolerance = -inf\nconfigured_roll = nan\n", json!("-inf"), json!("nan")),
@@ -58,14 +70,14 @@ fn settings_that_are_no_numbers_of_json() {
 }
 
 #[test]
-fn a_tolerance_that_has_no_severities_is_told_by_its_key() {
+fn a_tolerance_without_severities_is_refused_with_the_place_of_its_key() {
     let f = Folder::new(&["A"], "01", "tolerance = -inf\nconfigured_roll = 0\n");
     let ended = f.run(&["windows", "plan.toml", "--evaluate"]);
     ended.says(1, &["refused with 14: plan.toml, line 4, column 13: tolerance reads -inf", "allowed with --evaluate"]);
 }
 
 #[test]
-fn columns_are_never_glued() {
+fn columns_have_a_space_between_them_however_wide() {
     let f = Folder::new(&["A"], "0110", "tolerance = -1e9\nconfigured_roll = 0\n");
     let table = f.run(&["windows", "plan.toml", "--evaluate"]).stdout;
     let line = table.lines().find(|line| line.contains("violated  2026")).unwrap();
@@ -74,35 +86,44 @@ fn columns_are_never_glued() {
 }
 
 #[test]
-fn one_is_not_many() {
+fn one_target_one_time_and_one_window_are_in_the_singular() {
     let f = Folder::new(&["A"], "0", "tolerance = 10\n").swept();
     let status = f.run(&["status", "plan.toml"]).stdout;
     assert!(status.contains("plan.toml: 1 target, 1 time, 1 cell in 1 chunk\nsettings 1 roll, tolerance 10,"), "{}", status);
     assert!(f.run(&["windows", "plan.toml", "--svg", "-"]).stdout.contains(">1 target, 1 time, 1 roll, tolerance 10°<"));
-    assert!(f.run(&["windows", "plan.toml"]).stdout.contains("  visible   1 sample (100.0%); 0 s in 1 window, longest 0 s\n"));
+    let table = f.run(&["windows", "plan.toml"]).stdout;
+    assert!(table.contains("  total visible: 100.0% of the time; 1 sample (100.0%)\n    in 1 window: 0 s, longest 0 s\n"), "{}", table);
 }
 
 #[test]
-fn totals() {
+fn totals_agree_in_table_summary_and_json() {
     let f = folder().swept();
     let table = f.run(&["windows", "plan.toml"]).stdout;
     assert_eq!(
-        table.lines().take(7).collect::<Vec<_>>(),
+        table.lines().take(9).collect::<Vec<_>>(),
         [
             "Vega",
-            "  visible   4 samples (57.1%); 60 s in 2 windows, longest 60 s",
-            "  violated  3 samples (42.9%); 60 s in 2 windows, longest 60 s",
+            "  total visible: 57.1% of the time; 4 samples (57.1%)",
+            "    in 2 windows: 60 s, longest 60 s",
+            "  total violated: 42.9% of the time; 3 samples (42.9%)",
+            "    in 2 windows: 60 s, longest 60 s",
             "  visible   2026-03-20T00:00:00Z  2026-03-20T00:01:00Z  60 0-1",
             "  violated  2026-03-20T00:02:00Z  2026-03-20T00:02:00Z   0 2-2",
             "  violated  2026-03-20T00:04:00Z  2026-03-20T00:05:00Z  60 4-5",
             "  visible   2026-03-20T00:06:00Z  2026-03-20T00:06:00Z>  0 6-6",
         ]
     );
-    let all = "in all: 2 targets, 14 samples\n  visible   8 samples (57.1%); 120 s in 4 windows, longest 60 s\n  \
-        violated  6 samples (42.9%); 120 s in 4 windows, longest 60 s\n";
+    let all =
+        "in all: 2 targets, 14 samples\n  total visible: 57.1% of the time; 8 samples (57.1%)\n    in 4 windows: 120 s, longest 60 s\n  \
+        total violated: 42.9% of the time; 6 samples (42.9%)\n    in 4 windows: 120 s, longest 60 s\n";
     assert!(table.contains(all), "{}", table);
-    assert!(table.contains("\n2 clear samples stand alone and are in no window: a single one is listed only if it is the last\n"));
-    assert!(table.contains("\nseconds: from a window's first sample to its last, cut to whole; 0 for a single one\n"));
+    let unwrapped = table.split_whitespace().collect::<Vec<_>>().join(" ");
+    for words in [
+        "2 clear samples stand alone and are in no window: a single one is listed only if it is the last",
+        "seconds: from a window's first sample to its last, cut to whole ones",
+    ] {
+        assert!(unwrapped.contains(words), "{}", table);
+    }
 
     let ended = f.run(&["windows", "plan.toml", "--summary", "-"]);
     let (visible, violated) = (4.0 / 7.0, 3.0 / 7.0);
@@ -110,44 +131,42 @@ fn totals() {
         ended.stdout,
         format!(
             "of,target,samples,visible_samples,visible_share,visible_windows,visible_seconds,visible_longest_seconds,violated_samples,\
-             violated_share,violated_windows,violated_seconds,violated_longest_seconds,single_clear_samples\n\
-             target,Vega,7,4,{0},2,60,60,3,{1},2,60,60,1\ntarget,M 31,7,4,{0},2,60,60,3,{1},2,60,60,1\nall,,14,8,{0},4,120,60,6,{1},4,120,60,2\n",
+             violated_share,violated_windows,violated_seconds,violated_longest_seconds,single_clear_samples,visible_clipped_seconds,\
+             visible_time_share,violated_clipped_seconds,violated_time_share,from,to,target_number\n\
+             target,Vega,7,4,{0},2,60,60,3,{1},2,60,60,1,60,{0},60,{1},,,1\n\
+             target,M 31,7,4,{0},2,60,60,3,{1},2,60,60,1,60,{0},60,{1},,,2\n\
+             all,,14,8,{0},4,120,60,6,{1},4,120,60,2,120,{0},120,{1},,,\n",
             visible, violated
         )
     );
     assert!(ended.stderr.contains("2 clear samples stand alone"));
 
     let told = json(&f.run(&["windows", "plan.toml", "--json", "-"]).stdout);
-    let totals = json!({
-        "samples": 7,
-        "visible": {"samples": 4, "share": visible, "windows": 2, "seconds": 60, "longest_seconds": 60},
-        "violated": {"samples": 3, "share": violated, "windows": 2, "seconds": 60, "longest_seconds": 60},
-        "single_clear_samples": 1
-    });
+    let of_kind = |samples: usize, share: f64| json!({"samples": samples, "share": share, "windows": 2, "seconds": 60, "longest_seconds": 60, "clipped_seconds": 60, "time_share": share});
+    let totals = json!({"samples": 7, "visible": of_kind(4, visible), "violated": of_kind(3, violated), "single_clear_samples": 1});
     assert_eq!(told["targets"][1]["totals"], totals);
     assert_eq!(told["totals"]["violated"]["seconds"], 120);
     assert_eq!(told["part"], Value::Null);
 }
 
-/// Each window has its duration, and its flag is of one type in both files.
 #[test]
-fn windows_as_csv_and_json() {
+fn csv_and_json_have_each_window_with_its_seconds_and_number() {
     let f = folder().swept();
     f.run(&["windows", "plan.toml", "--target", "Vega", "--csv", "w.csv", "--json", "w.json"]).says(0, &[]);
     assert_eq!(
         f.read("w.csv"),
-        "target,kind,first_sample,last_sample,start,end,seconds,severity_deg,data_end\n\
-         Vega,visible,0,1,2026-03-20T00:00:00.000000000Z,2026-03-20T00:01:00.000000000Z,60,0,false\n\
-         Vega,violated,2,2,2026-03-20T00:02:00.000000000Z,2026-03-20T00:02:00.000000000Z,0,0,false\n\
-         Vega,violated,4,5,2026-03-20T00:04:00.000000000Z,2026-03-20T00:05:00.000000000Z,60,0,false\n\
-         Vega,visible,6,6,2026-03-20T00:06:00.000000000Z,2026-03-20T00:06:00.000000000Z,0,0,true\n"
+        "target,kind,first_sample,last_sample,start,end,seconds,severity_deg,data_end,target_number\n\
+         Vega,visible,0,1,2026-03-20T00:00:00.000000000Z,2026-03-20T00:01:00.000000000Z,60,0,false,1\n\
+         Vega,violated,2,2,2026-03-20T00:02:00.000000000Z,2026-03-20T00:02:00.000000000Z,0,0,false,1\n\
+         Vega,violated,4,5,2026-03-20T00:04:00.000000000Z,2026-03-20T00:05:00.000000000Z,60,0,false,1\n\
+         Vega,visible,6,6,2026-03-20T00:06:00.000000000Z,2026-03-20T00:06:00.000000000Z,0,0,true,1\n"
     );
     let last = &json(&f.read("w.json"))["targets"][0]["visible"][1];
     assert_eq!((&last["seconds"], &last["data_end"], &last["first_sample"]), (&json!(0), &json!(true), &json!(6)));
 }
 
 #[test]
-fn a_second_is_cut_to_whole_ones_in_each_window() {
+fn the_seconds_of_each_window_are_cut_to_whole_ones() {
     let f = Folder::new(&["A"], "0", "tolerance = 10\n");
     let row = |time: &str, sun: &str| format!("2026-03-20T00:00:{}Z,{},0,0,0\n", time, sun);
     let rows = [("00", "0,1,0"), ("01.9", "0,1,0"), ("02", "0,0,1"), ("03", "0,1,0"), ("04.999999999", "0,1,0")];
@@ -159,7 +178,7 @@ fn a_second_is_cut_to_whole_ones_in_each_window() {
 }
 
 #[test]
-fn selected_targets_and_times() {
+fn windows_of_selected_targets_and_times_are_whole() {
     let f = folder().swept();
     let csv = |words: &[&str]| {
         let ended = f.run(&[&["windows", "plan.toml", "--csv", "-"], words].concat());
@@ -177,13 +196,22 @@ fn selected_targets_and_times() {
     assert_eq!(between("2026-03-20T00:00:30Z", "2026-03-20T00:00:31Z"), ["Vega visible 0 1"]);
     assert_eq!(between("2026-03-20T00:02:30Z", "2026-03-20T00:03:30Z"), Vec::<String>::new());
 
-    let part =
-        ["part of the plan: 1 of 2 targets; windows that meet the times from 2026-03-20T00:05:00Z", "in this part: 1 target, 2 samples"];
+    let part = [
+        "part of the plan: 1 of 2 targets; windows that meet the times from\n    2026-03-20T00:05:00Z\n",
+        "in this part: 1 target, 2 samples",
+    ];
     let table = f.run(&[&["windows", "plan.toml"], &one[..]].concat()).stdout;
     assert!(part.iter().all(|words| table.contains(words)), "{}", table);
-    // Of the samples in the range one is violated; its window is whole and has 60 s.
-    assert!(table.contains("  violated  1 sample (50.0%); 60 s in 1 window, longest 60 s\n"), "{}", table);
-    assert!(table.contains("samples are counted from 2026-03-20T00:05:00Z, seconds over whole windows\n"));
+    // Of the samples in the range one is violated; its window is whole and has 60 s, of which none is within the range.
+    let violated = "  total violated: 50.0% of the time; 1 sample (50.0%)\n    in 1 window: 60 s, longest 60 s\n    clipped: 0 s\n";
+    assert!(table.contains(violated), "{}", table);
+    for words in [
+        "samples and % of the time: from 2026-03-20T00:05:00Z\n",
+        "seconds of windows: of whole windows, also where they leave these times\n",
+        "clipped: the seconds of each window within these times\n",
+    ] {
+        assert!(table.contains(words), "{}", table);
+    }
     let told = json(&f.run(&[&["windows", "plan.toml", "--json", "-"], &one[..]].concat()).stdout);
     assert_eq!(told["part"], json!({"targets": 1, "of_targets": 2, "from": "2026-03-20T00:05:00.000000000Z", "to": null}));
     let svg = f.run(&[&["windows", "plan.toml", "--svg", "-"], &one[..]].concat()).stdout;
@@ -200,7 +228,7 @@ fn selected_targets_and_times() {
 }
 
 #[test]
-fn an_unfinished_sweep_has_a_status_of_its_own() {
+fn an_unfinished_sweep_exits_with_4() {
     let f = Folder::new(&["A", "B"], &"01".repeat(48), "tolerance = 10\n");
     let status = |json: bool| f.run(&["status", "plan.toml", "--json"][..if json { 3 } else { 2 }]);
     let unfinished = || {
@@ -226,4 +254,186 @@ fn an_unfinished_sweep_has_a_status_of_its_own() {
     let ended = f.run(&["status", "plan.toml", "--json"]);
     assert_eq!((ended.status, &json(&ended.stdout)["finished"]), (0, &json!(true)));
     assert_eq!(f.run(&["status", "plan.toml"]).status, 0);
+}
+
+/// The months of the demo, which no window respects: the seconds of whole windows add up to more than there are, the clipped ones do not.
+#[test]
+fn clipped_seconds_of_consecutive_ranges_never_add_up_to_more_than_the_whole() {
+    let f = demo();
+    let months = ["2026-03-20", "2026-04-01", "2026-05-01", "2026-06-01", "2026-07-01"].map(|day| format!("{}T00:00:00Z", day));
+    let summary = |words: &[&str]| {
+        let text = f.run(&[&["windows", "season/plan.toml", "--summary", "-"], words].concat()).stdout;
+        let mut reader = csv::Reader::from_reader(text.as_bytes());
+        reader.deserialize::<HashMap<String, String>>().collect::<Result<Vec<_>, _>>().unwrap()
+    };
+    let number = |line: &HashMap<String, String>, column: &str| line[column].parse::<u64>().unwrap();
+    let whole = summary(&[]);
+    assert_eq!(whole.len(), 17);
+    let parts: Vec<_> = months.windows(2).map(|ends| summary(&["--from", &ends[0], "--to", &ends[1]])).collect();
+    for kind in ["visible", "violated"] {
+        let (seconds, clipped) = (format!("{}_seconds", kind), format!("{}_clipped_seconds", kind));
+        assert!(whole.iter().all(|line| line[&seconds] == line[&clipped] && line["from"].is_empty() && line["to"].is_empty()));
+        for (i, line) in whole.iter().enumerate() {
+            let sum = |column: &str| parts.iter().map(|part| number(&part[i], column)).sum::<u64>();
+            assert!(sum(&clipped) <= number(line, &seconds), "{} of {}", clipped, line["target"]);
+        }
+        let all = whole.last().unwrap();
+        let sum = |column: &str| parts.iter().map(|part| number(part.last().unwrap(), column)).sum::<u64>();
+        // Every edge of a month is a whole second, so the cut loses nothing either; a whole window counts in each month that it meets.
+        assert_eq!(sum(&clipped), number(all, &seconds), "{}", clipped);
+        assert!(sum(&seconds) > number(all, &seconds), "{}", seconds);
+    }
+}
+
+/// Months of the demo, whole and in part: the same numbers in JSON, in the summary and in the table.
+#[test]
+fn totals_of_a_range_agree_in_table_summary_and_json() {
+    let f = demo();
+    for range in
+        [&[][..], &["--from", "2026-04-01T00:00:00Z", "--to", "2026-05-01T12:34:56.5Z"], &["--to", "2026-03-21T00:00:00.000000001Z"]]
+    {
+        let output = |option: &[&str]| {
+            let ended = f.run(&[&["windows", "season/plan.toml"], range, option].concat());
+            assert_eq!(ended.status, 0, "{:?}", ended);
+            ended.stdout
+        };
+        let (table, told) = (output(&[]), json(&output(&["--json", "-"])));
+        let summary = output(&["--summary", "-"]);
+        let mut reader = csv::Reader::from_reader(summary.as_bytes());
+        let lines: Vec<HashMap<String, String>> = reader.deserialize().collect::<Result<_, _>>().unwrap();
+        let mut shown = table.lines().filter(|line| line.starts_with("  total ") || line.starts_with("    "));
+        for (i, line) in lines.iter().enumerate() {
+            let totals = if i < 16 { &told["targets"][i]["totals"] } else { &told["totals"] };
+            assert_eq!(line["from"], told["part"]["from"].as_str().unwrap_or(""), "{:?}", line);
+            assert_eq!(line["to"], told["part"]["to"].as_str().unwrap_or(""), "{:?}", line);
+            for kind in ["visible", "violated"] {
+                for key in ["samples", "share", "windows", "seconds", "longest_seconds", "clipped_seconds", "time_share"] {
+                    let column = line[&format!("{}_{}", kind, key)].parse().unwrap_or(f64::NAN);
+                    let due = totals[kind][key].as_f64().unwrap_or(f64::NAN);
+                    assert!(
+                        column.is_nan() && due.is_nan() || (column - due).abs() <= 1e-15 * due,
+                        "{} {}: {} and {}",
+                        kind,
+                        key,
+                        column,
+                        due
+                    );
+                }
+                let next = shown.by_ref().find(|line| line.starts_with("  total ")).unwrap();
+                let percent = format!("{:.1}%", 100.0 * totals[kind]["time_share"].as_f64().unwrap());
+                assert!(next.starts_with(&format!("  total {}: {} of the time; ", kind, percent)), "{}", next);
+                let windows = shown.next().unwrap().replace(',', "");
+                assert!(windows.contains(&format!(": {} s", totals[kind]["seconds"])), "{}", windows);
+                if !range.is_empty() {
+                    assert_eq!(shown.next().unwrap().replace(',', ""), format!("    clipped: {} s", totals[kind]["clipped_seconds"]));
+                }
+            }
+            let sum = totals["visible"]["time_share"].as_f64().unwrap() + totals["violated"]["time_share"].as_f64().unwrap();
+            assert!((sum - 1.0).abs() < 1e-15, "{}", sum);
+        }
+    }
+}
+
+/// Steps of 1, 8, 1 and 2 minutes; the last sample weighs as much as the one before it.
+#[test]
+fn the_time_share_weighs_each_sample_by_the_step_to_the_next_one() {
+    let f = Folder::new(&["A"], "", "tolerance = 10\n");
+    let row = |minute: u32, mark: bool| format!("2026-03-20T00:{:02}:00Z,0,{},0,0,0\n", minute, if mark { "0,1" } else { "1,0" });
+    let rows = [(0, false), (1, true), (9, false), (10, true), (12, false)].map(|(minute, mark)| row(minute, mark));
+    f.write("e.csv", &format!("time,sun_x,sun_y,sun_z,observer_x,observer_y,observer_z\n{}", rows.concat()));
+    let f = f.swept();
+    let shares = |words: &[&str]| {
+        let told = json(&f.run(&[&["windows", "plan.toml", "--json", "-"], words].concat()).stdout);
+        ["visible", "violated"].map(|kind| {
+            let total = &told["totals"][kind];
+            (total["share"].as_f64(), total["time_share"].as_f64())
+        })
+    };
+    let some = |share: f64, by_time: f64| (Some(share), Some(by_time));
+    assert_eq!(shares(&[]), [some(0.6, 4.0 / 14.0), some(0.4, 10.0 / 14.0)]);
+    // The last sample of a range reaches to the next one of the ephemeris, so that ranges add up.
+    assert_eq!(shares(&["--to", "2026-03-20T00:01:00Z"]), [some(0.5, 1.0 / 9.0), some(0.5, 8.0 / 9.0)]);
+    assert_eq!(shares(&["--from", "2026-03-20T00:12:00Z"]), [some(1.0, 1.0), some(0.0, 0.0)]);
+    assert_eq!(shares(&["--from", "2026-03-20T00:02:00Z", "--to", "2026-03-20T00:03:00Z"]), [(None, None), (None, None)]);
+    let one = Folder::new(&["A"], "1", "tolerance = 10\n").swept();
+    let told = json(&one.run(&["windows", "plan.toml", "--json", "-"]).stdout);
+    assert_eq!((&told["totals"]["visible"]["time_share"], &told["totals"]["violated"]["time_share"]), (&json!(0.0), &json!(1.0)));
+}
+
+#[test]
+fn the_demo_table_fits_into_80_columns_and_its_totals_do_not_look_like_windows() {
+    let f = demo();
+    let nano = "2026-04-01T00:00:00.000000001Z";
+    for words in ["", " --from 2026-04-01T00:00:00Z", &format!(" --target M* --from {} --to {}", nano, nano.replace("04", "05"))] {
+        let table = done(f, &format!("windows season/plan.toml{}", words));
+        for line in table.lines() {
+            assert!(line.chars().count() <= 80, "{}", line);
+        }
+        let csv = done(f, &format!("windows season/plan.toml --csv -{}", words));
+        for kind in ["visible", "violated"] {
+            let due = csv.lines().filter(|line| line.contains(&format!(",{},", kind))).count();
+            let found = |line: &&str| line.contains(&format!(" {} ", kind));
+            assert!(due > 0 && table.lines().filter(found).count() == due, "{}", table);
+            assert!(table.lines().filter(found).all(|line| line.starts_with(&format!("  {} ", kind))), "{}", table);
+        }
+    }
+}
+
+#[test]
+fn targets_of_one_name_are_told_apart_by_their_number() {
+    let f = Folder::new(&["A", "B", "A"], "01", "tolerance = 10\n").swept();
+    for words in ["", " --target A"] {
+        let csv = done(&f, &format!("windows plan.toml --csv -{}", words));
+        let lines: Vec<_> = csv.lines().filter(|line| line.starts_with("A,")).collect();
+        assert!(lines.len() == 2 && lines[0].ends_with(",1") && lines[1].ends_with(",3"), "{}", csv);
+        let told = json(&done(&f, &format!("windows plan.toml --json -{}", words)));
+        let numbers: Vec<_> =
+            told["targets"].as_array().unwrap().iter().filter(|t| t["name"] == "A").map(|t| t["number"].clone()).collect();
+        assert_eq!(numbers, [json!(1), json!(3)]);
+        let summary = done(&f, &format!("windows plan.toml --summary -{}", words));
+        let lines: Vec<_> = summary.lines().filter(|line| line.starts_with("target,A,")).collect();
+        assert!(lines.len() == 2 && lines[0].ends_with(",1") && lines[1].ends_with(",3"), "{}", summary);
+    }
+}
+
+/// Any name that CSV must quote reads back as it is.
+#[test]
+fn names_in_csv_are_quoted_where_they_must_be() {
+    let f = Folder::new(&[], "01", "tolerance = 10\n");
+    f.write("t.csv", "name,x,y,z\n\"Crab, M 1\",1,0,0\n\"a \"\"b\"\"\",1,0,0\n\"two\nlines\",1,0,0\nplain,1,0,0\n");
+    let text = done(&f.swept(), "windows plan.toml --csv -");
+    let mut reader = csv::Reader::from_reader(text.as_bytes());
+    let names: Vec<_> = reader.records().map(|record| record.unwrap()[0].to_owned()).collect();
+    assert_eq!(names, ["Crab, M 1", "a \"b\"", "two\nlines", "plain"]);
+    assert!(text.contains("\nplain,violated,"), "{}", text);
+}
+
+#[test]
+fn a_configured_roll_that_overrides_the_roll_asked_for_is_reported() {
+    let f = Folder::new(&["A"], "01", "tolerance = 10\nconfigured_roll = 30\n");
+    f.run(&["mask", "plan.toml", "--roll", "100"])
+        .says(0, &["warning: the plan's configured_roll 30 overrides --roll 100: this is the mask at roll 30; use --fixed-roll 100\n"]);
+    f.run(&["regard", "plan.toml", "--sample", "1", "--roll", "100"])
+        .says(0, &["warning: the plan's configured_roll 30 overrides --roll 100: these are the marks at roll 30\n"]);
+    for words in [
+        "mask plan.toml --fixed-roll 100",
+        "mask plan.toml --roll 30",
+        "regard plan.toml --sample 1",
+        "regard plan.toml --sample 1 --roll 30",
+    ] {
+        assert_eq!(common::run(&f, words).stderr, "", "{}", words);
+    }
+    let none = Folder::new(&["A"], "01", "tolerance = 10\n");
+    assert_eq!(none.run(&["mask", "plan.toml", "--roll", "100"]).stderr, "");
+}
+
+/// A name with a star or brackets, as catalogues have them, is a pattern only where no target has it.
+#[test]
+fn an_exact_name_selects_that_name_alone() {
+    let f = Folder::new(&["* R Lyr", "V* R Lyr", "[HB89] 1", "H 1"], "01", "tolerance = 10\n").swept();
+    let names = |name: &str| f.run(&["regard", "plan.toml", "--sample", "0", "--target", name]).stdout;
+    assert_eq!(names("* R Lyr"), "clear    * R Lyr\n");
+    assert_eq!(names("[HB89] 1"), "clear    [HB89] 1\n");
+    assert_eq!(names("*R Lyr"), "clear    * R Lyr\nclear    V* R Lyr\n");
+    assert_eq!(names("[H] 1"), "clear    H 1\n");
 }

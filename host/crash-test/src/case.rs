@@ -141,7 +141,7 @@ impl Case {
     }
     /// The windows of the whole sweep as the program's CSV says them.
     pub fn windows_csv(&self) -> String {
-        let mut csv = String::from("target,kind,first_sample,last_sample,start,end,seconds,severity_deg,data_end\n");
+        let mut csv = String::from("target,kind,first_sample,last_sample,start,end,seconds,severity_deg,data_end,target_number\n");
         let times = self.times.len();
         let room = [times; 6];
         for i in 0..self.sweep.plan.rows() {
@@ -153,7 +153,7 @@ impl Case {
             for (kind, w) in all {
                 let (start, end) = (self.clock(w.first as usize), self.clock(w.last as usize));
                 let seconds = (w.last_time - w.first_time) / 1_000_000_000;
-                let _ = writeln!(csv, "T{},{},{},{},{},{},{},0,{}", i, kind, w.first, w.last, start, end, seconds, w.is_last);
+                let _ = writeln!(csv, "T{},{},{},{},{},{},{},0,{},{}", i, kind, w.first, w.last, start, end, seconds, w.is_last, i + 1);
             }
         }
         csv

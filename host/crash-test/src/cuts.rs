@@ -1,7 +1,7 @@
 //! Power cuts: at every byte of the journal, at every system call, at any moment.
 use crate::{
     case::Case,
-    machine::{sweep_words, Ended, Machine},
+    machine::{Ended, Machine, Way, WAYS},
     trace::{run_to, Stop},
     Tally,
 };
@@ -22,7 +22,7 @@ pub fn words(order: &[usize]) -> String {
     order.iter().map(usize::to_string).collect::<Vec<_>>().join(",")
 }
 
-/// An order in which runs of chunks are shuffled, mostly runs of one: up to 64 chunks that follow each other are one write.
+/// An order in which runs of chunks are shuffled, mostly runs of one.
 pub fn shuffled(seeded: &mut Seeded, n: usize) -> Vec<usize> {
     let longest = [1, 1, 1, 1, 1, 1, 4, 100][seeded.index(8)];
     let mut runs = Vec::new();
@@ -81,8 +81,8 @@ pub fn whole(machine: &Machine, ended: &Ended) {
 
 /// For every byte: the power fails there; the journal is looked at; the next start loses power between recovery and shortening, and
 /// once more directly after it; then the sweep goes on to its end, in the same order or from the first chunk on.
-pub fn every_byte(case: &Case, order: &[usize], folder: &Path, tally: &mut Tally) {
-    let machine = Machine::new(case, folder);
+pub fn every_byte(case: &Case, order: &[usize], way: Way, folder: &Path, tally: &mut Tally) {
+    let machine = Machine::new(case, folder).sweeping(way);
     let said = words(order);
     let said = if order.is_empty() { None } else { Some(said.as_str()) };
     whole(&machine, &machine.sweep(said));
@@ -93,13 +93,13 @@ pub fn every_byte(case: &Case, order: &[usize], folder: &Path, tally: &mut Tally
         machine.without_journal();
         let mut ledger = Ledger::new(&case.sweep);
         let ended = machine.sweep_to_byte(said, byte);
-        assert_eq!(ended.status, if byte < length { -libc::SIGXFSZ } else { 0 }, "{}", ended.stderr);
+        assert_eq!(ended.status, if byte < length { -libc::SIGKILL } else { 0 }, "{}", ended.stderr);
         swept(&mut ledger, order, byte);
         assert_eq!(ledger.length(), byte);
         tally.cut(&machine, (byte < length) as u64);
         looked_at(&machine, &ledger);
 
-        let again = |stop| run_to(&machine, &sweep_words(said), stop, 0).killed;
+        let again = |stop| run_to(&machine, machine.sweep_command(said), stop, 0).killed;
         let to_shorten = {
             let mut recovered = Ledger::new(&case.sweep);
             swept(&mut recovered, order, byte);
@@ -132,7 +132,7 @@ pub fn every_byte_of_the_digest(case: &Case, folder: &Path, tally: &mut Tally) {
     for byte in 0..text.len() {
         machine.without_journal();
         fs::remove_file(&digest).unwrap();
-        assert_eq!(machine.sweep_to_byte(None, byte).status, -libc::SIGXFSZ);
+        assert_eq!(machine.sweep_to_byte(None, byte).status, -libc::SIGKILL);
         assert!(machine.journal().is_empty() && !digest.exists());
         tally.cut(&machine, 1);
         whole(&machine, &machine.sweep(None));
@@ -153,7 +153,7 @@ pub fn every_call_over_an_old_digest(case: &Case, folder: &Path, tally: &mut Tal
         for number in 1.. {
             fs::write(machine.path(), &journal[..left]).unwrap();
             fs::write(&digest, &old).unwrap();
-            let killed = run_to(&machine, &sweep_words(None), Stop::Call(number), left).killed;
+            let killed = run_to(&machine, machine.sweep_command(None), Stop::Call(number), left).killed;
             let beside = fs::read_to_string(&digest).unwrap();
             assert!(beside == new || beside == old && machine.journal().len() <= HEADER, "a line beside an earlier program's digest");
             whole(&machine, &machine.sweep(None));
@@ -169,32 +169,40 @@ pub fn every_call_over_an_old_digest(case: &Case, folder: &Path, tally: &mut Tal
 
 /// The power fails on entry to each system call of a sweep, the first to the last; then on entry to another of the run after it. Of bytes
 /// that were not synced when it failed, it may have taken any number from the end: each is tried.
-pub fn every_call(case: &Case, folder: &Path, seeded: &mut Seeded, tally: &mut Tally) {
-    let machine = Machine::new(case, folder);
-    let all: Vec<_> = (0..case.chunks()).collect();
+pub fn every_call(case: &Case, ways: &[Way], folder: &Path, seeded: &mut Seeded, tally: &mut Tally) {
+    // The lengths of journals that were tried, which are the same in each way.
     let mut tried = BTreeSet::new();
+    for way in ways {
+        let machine = Machine::new(case, folder).sweeping(*way);
+        every_call_of(&machine, &mut tried, seeded, tally);
+    }
+}
+
+fn every_call_of(machine: &Machine, tried: &mut BTreeSet<usize>, seeded: &mut Seeded, tally: &mut Tally) {
+    let case = machine.case;
+    let all: Vec<_> = (0..case.chunks()).collect();
     let mut number = 0;
     loop {
         number += 1;
         let _ = fs::remove_file(machine.folder.join("plan.journal.plan"));
         machine.without_journal();
-        let first = run_to(&machine, &sweep_words(None), Stop::Call(number), 0);
-        tally.cut(&machine, first.killed as u64);
-        between_entries(&machine, &all);
+        let first = run_to(machine, machine.sweep_command(None), Stop::Call(number), 0);
+        tally.cut(machine, first.killed as u64);
+        between_entries(machine, &all);
         let before = machine.journal();
-        let second = run_to(&machine, &sweep_words(None), Stop::Call(1 + seeded.below(number + 1)), first.durable);
-        tally.cut(&machine, second.killed as u64);
-        between_entries(&machine, &all);
+        let second = run_to(machine, machine.sweep_command(None), Stop::Call(1 + seeded.below(number + 1)), first.durable);
+        tally.cut(machine, second.killed as u64);
+        between_entries(machine, &all);
         let after = machine.journal();
         assert!(after.starts_with(&before), "a whole line was lost");
-        whole(&machine, &machine.sweep(None));
+        whole(machine, &machine.sweep(None));
         for (journal, durable) in [(before, first.durable), (after, second.durable)] {
             for bytes in (durable..journal.len()).filter(|&bytes| tried.insert(bytes)) {
                 fs::write(machine.path(), &journal[..bytes]).unwrap();
                 let mut ledger = Ledger::new(&case.sweep);
                 swept(&mut ledger, &all, bytes);
                 assert!(machine.journal() == ledger.journal(), "the journal is not the ledger's");
-                whole(&machine, &machine.sweep(None));
+                whole(machine, &machine.sweep(None));
                 tally.unsynced += 1;
             }
         }
@@ -216,9 +224,9 @@ fn between_entries(machine: &Machine, order: &[usize]) {
     assert!(journal == ledger.journal(), "the journal is not the ledger's");
 }
 
-/// One journal, killed at random moments and bytes, each run in another order of chunks, until it is whole.
+/// One journal, killed at random moments and bytes, each run in another order of chunks and in another way, until it is whole.
 pub fn any_moment(case: &Case, folder: &Path, seeded: &mut Seeded, until: Instant, tally: &mut Tally) {
-    let machine = Machine::new(case, folder);
+    let mut machine = Machine::new(case, folder);
     // What a start takes.
     whole(&machine, &machine.sweep(None));
     let begun = Instant::now();
@@ -232,13 +240,14 @@ pub fn any_moment(case: &Case, folder: &Path, seeded: &mut Seeded, until: Instan
         let order = shuffled(seeded, case.chunks());
         let said = words(&order);
         let before = ledger.journal();
+        machine.way = WAYS[seeded.index(WAYS.len())];
         let mut durable = usize::MAX;
         match seeded.below(5) {
             0 => drop(machine.sweep_to_byte(Some(&said), before.len() + seeded.index(4 * LINE))),
             1 => drop(machine.sweep_for(Some(&said), start.mul_f64(1.2 * seeded.unit()))),
             2 => {
-                durable =
-                    run_to(&machine, &sweep_words(Some(&said)), Stop::Of(libc::SYS_fdatasync, 1 + seeded.below(3)), before.len()).durable
+                let stop = Stop::Of(libc::SYS_fdatasync, 1 + seeded.below(3));
+                durable = run_to(&machine, machine.sweep_command(Some(&said)), stop, before.len()).durable
             }
             _ => drop(machine.sweep_beyond(Some(&said), before.len() + seeded.index(2 * LINE), Duration::from_micros(seeded.below(500)))),
         };

@@ -1,6 +1,12 @@
 //! Damage: flipped bits, zero-filled tails, doubled and lost lines. The program says what is wrong and changes nothing; what the model
-//! of document 01 calls right, it accepts.
-use crate::{case::Case, cuts::whole, machine::Machine, Tally};
+//! of document 01 calls right, it accepts. A tail of zero bytes is dropped when that is asked for.
+use crate::{
+    case::Case,
+    cuts::whole,
+    machine::{ended, Machine},
+    trace::{run_to, Stop},
+    Tally,
+};
 use cases::Seeded;
 use model::journal::{HEADER, LINE};
 use std::{fs, path::Path};
@@ -33,6 +39,50 @@ pub fn all(case: &Case, folder: &Path, seeded: &mut Seeded, tally: &mut Tally) {
     for journal in journals {
         one(&machine, &journal, tally);
     }
+    // After whole frames, within a frame and from the first byte on.
+    for length in [0, HEADER / 2, HEADER, HEADER + LINE, HEADER + 2 * LINE + 9, good.len() - 1, good.len()] {
+        for zeros in [33, 66, 2112] {
+            zero_tail(&machine, &good[..length], zeros, tally);
+        }
+    }
+}
+
+/// A journal that ends with zero bytes: where it is refused, the option that drops them is named and drops them, also if the power fails meanwhile.
+fn zero_tail(machine: &Machine, before: &[u8], zeros: usize, tally: &mut Tally) {
+    let journal = [before, &vec![0; zeros]].concat();
+    let is_right = machine.case.sweep.right(&journal);
+    one(machine, &journal, tally);
+    if is_right {
+        return;
+    }
+    const OPTION: &str = "--drop-zero-tail";
+    for words in ["sweep", "windows", "status", "check"] {
+        let ended = machine.run(&[words, "plan.toml"]);
+        assert!(ended.status == 1 && ended.stderr.contains(OPTION), "{}: {}", words, ended.stderr);
+    }
+    let command = || {
+        let mut command = machine.sweep_command(None);
+        command.arg(OPTION);
+        command
+    };
+    assert!(run_to(machine, command(), Stop::Of(libc::SYS_ftruncate, 1), journal.len()).killed);
+    assert!(machine.journal() == journal, "a start that lost power changed the journal");
+    assert!(run_to(machine, command(), Stop::After(libc::SYS_ftruncate), journal.len()).killed);
+    let keep = machine.case.sweep.recover(before, before.len() as u64).unwrap() as usize;
+    assert!(machine.journal() == before[..keep], "other bytes than the zeros were dropped");
+    tally.cut(machine, 2);
+    fs::write(machine.path(), &journal).unwrap();
+    let ended = ended(command().spawn().unwrap());
+    assert!(ended.stderr.contains(&format!("{} dropped", counted(journal.len() - keep))), "{}", ended.stderr);
+    whole(machine, &ended);
+}
+
+/// A number of bytes as the program writes it.
+fn counted(bytes: usize) -> String {
+    match bytes {
+        1..=999 => format!("{} bytes", bytes),
+        _ => format!("{},{:03} bytes", bytes / 1000, bytes % 1000),
+    }
 }
 
 fn one(machine: &Machine, journal: &[u8], tally: &mut Tally) {
@@ -46,7 +96,7 @@ fn one(machine: &Machine, journal: &[u8], tally: &mut Tally) {
         assert!(machine.journal().starts_with(&journal[..keep]), "a line of a right journal was lost");
         return;
     }
-    tally.told += 1;
+    tally.refused += 1;
     for ended in [checked, swept] {
         assert_eq!(ended.status, 1, "{}", ended.stderr);
         let place = ended.stderr.contains("refused with 11: plan.journal: ") && ended.stderr.contains("\n  line ");

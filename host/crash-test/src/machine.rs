@@ -1,10 +1,13 @@
 //! A machine: a folder with a plan and its journal, on which the program runs until its power is cut.
-use crate::case::{Case, CATALOGUE_HEAD};
+use crate::{
+    case::{Case, CATALOGUE_HEAD},
+    trace::run_to_limit,
+};
 use std::{
     env, fs, io,
     os::unix::process::{CommandExt, ExitStatusExt},
     path::{Path, PathBuf},
-    process::{Child, Command, Stdio},
+    process::{Child, Command, Output, Stdio},
     thread::sleep,
     time::Duration,
 };
@@ -12,7 +15,26 @@ use std::{
 pub struct Machine<'a> {
     pub case: &'a Case,
     pub folder: PathBuf,
+    pub way: Way,
 }
+
+/// How a sweep shares and writes its work, which must make no difference to the journal: on how many threads, and after at most how many chunks
+/// it writes.
+#[derive(Clone, Copy, Debug)]
+pub struct Way {
+    pub jobs: u32,
+    pub range: Option<u32>,
+}
+
+/// Ways to sweep. Every number of jobs is there with a write for each line, and with as many lines per write as the program chooses.
+pub const WAYS: [Way; 6] = [
+    Way { jobs: 1, range: Some(1) },
+    Way { jobs: 2, range: None },
+    Way { jobs: 5, range: Some(1) },
+    Way { jobs: 1, range: None },
+    Way { jobs: 2, range: Some(1) },
+    Way { jobs: 5, range: None },
+];
 
 /// How a run ended.
 #[derive(Debug)]
@@ -33,7 +55,11 @@ impl<'a> Machine<'a> {
     pub fn new(case: &'a Case, folder: &Path) -> Machine<'a> {
         let _ = fs::remove_dir_all(folder);
         case.write(folder);
-        Machine { case, folder: folder.to_owned() }
+        Machine { case, folder: folder.to_owned(), way: WAYS[0] }
+    }
+    /// The same machine, which sweeps in this way.
+    pub fn sweeping(self, way: Way) -> Machine<'a> {
+        Machine { way, ..self }
     }
     pub fn path(&self) -> PathBuf {
         self.folder.join("plan.journal")
@@ -62,29 +88,32 @@ impl<'a> Machine<'a> {
     pub fn run(&self, words: &[&str]) -> Ended {
         ended(self.command(words).spawn().unwrap())
     }
-    /// Sweeps these chunks in this order, or all of them.
+    /// The command of a sweep of these chunks in this order, or of all of them.
+    pub fn sweep_command(&self, order: Option<&str>) -> Command {
+        let words = self.sweep_words(order);
+        self.command(&words.iter().map(String::as_str).collect::<Vec<_>>())
+    }
+    pub fn sweep_words(&self, order: Option<&str>) -> Vec<String> {
+        let mut words: Vec<_> = ["sweep", "plan.toml", "--quiet", "--jobs"].map(str::to_owned).into();
+        words.push(self.way.jobs.to_string());
+        words.extend(self.way.range.iter().flat_map(|range| ["--range".to_owned(), range.to_string()]));
+        words.extend(order.iter().flat_map(|order| ["--chunks".to_owned(), order.to_string()]));
+        words
+    }
     pub fn sweep(&self, order: Option<&str>) -> Ended {
-        self.run(&sweep_words(order))
+        ended(self.sweep_command(order).spawn().unwrap())
     }
     /// Sweeps until the journal would grow beyond this many bytes: the kernel cuts the write there, and the next is the end.
     pub fn sweep_to_byte(&self, order: Option<&str>, bytes: usize) -> Ended {
-        ended(limited(self.command(&sweep_words(order)), bytes).spawn().unwrap())
+        run_to_limit(limited(self.sweep_command(order), bytes))
     }
     /// Sweeps until the kernel refuses to write beyond this many bytes, and lets the program answer that itself.
     pub fn sweep_to_full(&self, bytes: usize) -> Ended {
-        let mut command = limited(self.command(&sweep_words(None)), bytes);
-        // A signal that is ignored stays so in the program.
-        unsafe {
-            command.pre_exec(|| {
-                libc::signal(libc::SIGXFSZ, libc::SIG_IGN);
-                Ok(())
-            });
-        }
-        ended(command.spawn().unwrap())
+        ended(limited(self.sweep_command(None), bytes).spawn().unwrap())
     }
     /// Sweeps, and is killed after this long.
     pub fn sweep_for(&self, order: Option<&str>, time: Duration) -> Ended {
-        let mut child = self.command(&sweep_words(order)).spawn().unwrap();
+        let mut child = self.sweep_command(order).spawn().unwrap();
         sleep(time);
         // It may have ended by itself.
         let _ = child.kill();
@@ -92,7 +121,7 @@ impl<'a> Machine<'a> {
     }
     /// Sweeps, and is killed this long after the journal has grown beyond this many bytes.
     pub fn sweep_beyond(&self, order: Option<&str>, bytes: usize, time: Duration) -> Ended {
-        let mut child = self.command(&sweep_words(order)).spawn().unwrap();
+        let mut child = self.sweep_command(order).spawn().unwrap();
         while fs::metadata(self.path()).map_or(true, |m| m.len() as usize <= bytes) && child.try_wait().unwrap().is_none() {
             sleep(Duration::from_micros(50));
         }
@@ -114,12 +143,6 @@ impl<'a> Machine<'a> {
     }
 }
 
-pub fn sweep_words(order: Option<&str>) -> Vec<&str> {
-    let mut words = vec!["sweep", "plan.toml", "--quiet"];
-    words.extend(order.iter().flat_map(|order| ["--chunks", order]));
-    words
-}
-
 /// No file may grow beyond this many bytes.
 fn limited(mut command: Command, bytes: usize) -> Command {
     let limit = libc::rlimit { rlim_cur: bytes as u64, rlim_max: bytes as u64 };
@@ -136,10 +159,15 @@ fn limited(mut command: Command, bytes: usize) -> Command {
 }
 
 pub fn ended(child: Child) -> Ended {
-    let output = child.wait_with_output().unwrap();
-    Ended {
-        status: output.status.code().unwrap_or_else(|| -output.status.signal().unwrap()),
-        stdout: output.stdout,
-        stderr: String::from_utf8_lossy(&output.stderr).into_owned(),
+    Ended::of(child.wait_with_output().unwrap())
+}
+
+impl Ended {
+    pub fn of(output: Output) -> Ended {
+        Ended {
+            status: output.status.code().unwrap_or_else(|| -output.status.signal().unwrap()),
+            stdout: output.stdout,
+            stderr: String::from_utf8_lossy(&output.stderr).into_owned(),
+        }
     }
 }

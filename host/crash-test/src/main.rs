@@ -1,10 +1,12 @@
-//! Pulls the plug of `wilfnusk sweep` on purpose, and often, and holds what is left against document 01's ledger.
+//! Cuts the power of `wilfnusk sweep` on purpose, and often, and compares what is left with document 01's ledger. Sweeps run on 1, 2 and 5 threads.
 //!
 //! `crash-test [SECONDS]`: every byte and every system call of small sweeps, damage and trouble always; random moments and splits for
-//! as many seconds. `crash-test --without-syncs` lets the syncs of every traced run do nothing, and must fail. What a journal, a mask and a window must be comes from the model of documents 01 and 02, never from the program itself.
+//! as many seconds. `crash-test --without-syncs` lets the syncs of every traced run do nothing, and must fail. What a journal, a mask and a window
+//! must be comes from the model of documents 01 and 02, never from the program itself.
 mod case;
 mod cuts;
 mod damage;
+mod evidence;
 mod machine;
 mod split;
 mod syncs;
@@ -13,7 +15,7 @@ mod trouble;
 
 use case::{Case, Told};
 use cases::Seeded;
-use machine::Machine;
+use machine::{Machine, WAYS};
 use std::{
     env, fs,
     path::{Path, PathBuf},
@@ -43,9 +45,9 @@ pub struct Tally {
     pub longest: u64,
     /// Sweeps that were split over machines and merged.
     pub splits: u64,
-    /// Damaged journals, and how many of them were told from right ones.
+    /// Damaged journals, and how many of them were refused.
     pub damaged: u64,
-    pub told: u64,
+    pub refused: u64,
 }
 
 impl Tally {
@@ -93,7 +95,7 @@ fn main() {
         tally.longest,
         tally.splits,
         tally.damaged,
-        tally.told
+        tally.refused
     );
 }
 
@@ -117,6 +119,7 @@ fn run(folder: &Path, seconds: u64, seed: u64) -> Tally {
         .with_tolerances(Told::Column, &[30.0, -1.0, f64::INFINITY, 75.0]);
     let table = Case::drawn("5 targets, 14 times, a table of 7 rolls", 10, 5, 14, 7, 12.0, None)
         .over(&[0.0, 15.5, 47.0, 90.0, 200.125, 240.0, 305.25]);
+    let mut ways = WAYS.into_iter().cycle();
     for case in [&example, &four, &fixed, &none, &catalogue, &list, &column, &table] {
         let chunks = case.chunks();
         let mut orders = vec![(0..chunks).collect::<Vec<_>>()];
@@ -126,23 +129,34 @@ fn run(folder: &Path, seconds: u64, seed: u64) -> Tally {
         if chunks > 2 {
             orders.push(cuts::shuffled(&mut seeded, chunks));
         }
+        let orders: Vec<_> = orders.into_iter().zip(&mut ways).collect();
         let (writes, syncs) = syncs::watched(case, &orders, &syncs::LEFT, &at("watched"));
         done(format!("watched: {}, {} writes, {} syncs", case.name, writes, syncs));
         let before = tally.cuts;
-        for order in &orders {
-            cuts::every_byte(case, order, &at("bytes"), &mut tally);
+        for (order, way) in &orders {
+            cuts::every_byte(case, order, *way, &at("bytes"), &mut tally);
         }
-        done(format!("every byte: {}, orders of chunks: {}, cuts: {}", case.name, orders.len(), tally.cuts - before));
+        let jobs: Vec<_> = orders.iter().map(|(_, way)| way.jobs.to_string()).collect();
+        done(format!(
+            "every byte: {}, orders of chunks: {}, jobs: {}, cuts: {}",
+            case.name,
+            orders.len(),
+            jobs.join(" "),
+            tally.cuts - before
+        ));
     }
     assert!(tally.catalogue > 0, "no plan by right ascension and declination was cut");
     assert!(tally.by_target > 0, "no plan with a tolerance for each target was cut");
     assert!(tally.by_table > 0, "no plan over a table of rolls was cut");
-    let missed = syncs::missed(&four, &at("missed"));
-    done(format!("a sync that is missing: {} of {} told", missed, missed));
+    let missed: u64 = [WAYS[0], WAYS[5]].into_iter().map(|way| syncs::missed(&four, way, &at("missed"))).sum();
+    done(format!("a sync that is missing: {} of {} reported", missed, missed));
     cuts::every_byte_of_the_digest(&example, &at("digest"), &mut tally);
     done("every byte of the digest".into());
-    cuts::every_call(&fixed, &at("calls"), &mut seeded, &mut tally);
-    done(format!("every system call: {} of them; {} cuts took bytes that were not synced", tally.calls, tally.unsynced));
+    cuts::every_call(&fixed, &WAYS[..3], &at("calls"), &mut seeded, &mut tally);
+    done(format!(
+        "every system call with 1, 2 and 5 jobs: {} of them; {} cuts took bytes that were not synced",
+        tally.calls, tally.unsynced
+    ));
     let before = tally.calls;
     cuts::every_call_over_an_old_digest(&fixed, &at("old"), &mut tally);
     done(format!("every system call over an earlier program's digest: {} of them", tally.calls - before));
@@ -150,7 +164,10 @@ fn run(folder: &Path, seconds: u64, seed: u64) -> Tally {
     split::every_call_of_merge(&four, &at("merge"), &mut tally);
     done(format!("every system call of a merge: {} of them", tally.calls - before));
     damage::all(&four, &at("damage"), &mut seeded, &mut tally);
-    done(format!("damage: {} journals", tally.damaged));
+    done(format!("damage, and tails of zero bytes: {} journals", tally.damaged));
+    let others = Case::drawn("other targets and Suns", 12, 3, 70, 8, 15.0, None);
+    let refused = evidence::all(&four, &others, &at("evidence"));
+    done(format!("lines that are right and not the plan's: {} journals, each refused", refused));
     for what in trouble::all(&four, &at("trouble")) {
         done(what);
     }
@@ -164,7 +181,7 @@ fn run(folder: &Path, seconds: u64, seed: u64) -> Tally {
     }
 
     let large = Case::drawn("40 targets, 1,000 times, 3,600 rolls", 5, 40, 1000, 3600, 0.03, None);
-    let (writes, syncs) = syncs::watched(&large, &[(0..large.chunks()).collect()], &[None], &at("watched"));
+    let (writes, syncs) = syncs::watched(&large, &[((0..large.chunks()).collect(), WAYS[1])], &[None], &at("watched"));
     done(format!("watched: {}, {} writes, {} syncs", large.name, writes, syncs));
     let until = Instant::now() + Duration::from_secs(seconds);
     let half = Instant::now() + Duration::from_secs(seconds) / 2;

@@ -2,7 +2,8 @@
 use crate::{
     case::Case,
     cuts::{pause, whole},
-    machine::{ended, program, sweep_words, Machine},
+    evidence::still_right,
+    machine::{ended, program, Machine, WAYS},
     trace::{run_to, Stop},
     Tally,
 };
@@ -17,13 +18,14 @@ use std::{
 
 pub fn split(case: &Case, machines: usize, folder: &Path, seeded: &mut Seeded, tally: &mut Tally) {
     let _ = fs::remove_dir_all(folder);
-    let all: Vec<_> = (0..machines).map(|k| Machine::new(case, &folder.join(format!("machine{}", k)))).collect();
+    let mut all: Vec<_> = (0..machines).map(|k| Machine::new(case, &folder.join(format!("machine{}", k)))).collect();
     let part = |k: usize| format!("{}/{}", k + 1, machines);
     let mut going: Vec<_> = (0..machines).collect();
     while !going.is_empty() {
         let i = seeded.index(going.len());
-        let (k, machine) = (going[i], &all[going[i]]);
-        let mut command = machine.command(&sweep_words(None));
+        let (k, machine) = (going[i], &mut all[going[i]]);
+        machine.way = WAYS[seeded.index(WAYS.len())];
+        let mut command = machine.sweep_command(None);
         command.args(["--part", &part(k)]);
         if seeded.once_in(3) {
             let ended = ended(command.spawn().unwrap());
@@ -48,7 +50,7 @@ pub fn with_parallel(case: &Case, machines: usize, folder: &Path, seeded: &mut S
         let mut command = Command::new("timeout");
         let seconds = if killed { 0.15 + 0.1 * seeded.unit() } else { 600.0 };
         command.args(["-s", "KILL", &seconds.to_string(), "parallel", "--will-cite", "--jobs", "2"]);
-        command.arg(format!("cd {{}} && {} sweep plan.toml --quiet --wait --part {{#}}/{}", program().display(), machines));
+        command.arg(format!("cd {{}} && {} sweep plan.toml --quiet --range 4 --wait --part {{#}}/{}", program().display(), machines));
         command.arg(":::").args(all.iter().map(|m| &m.folder));
         let run = command.stdin(Stdio::null()).stdout(Stdio::null()).stderr(Stdio::null()).status();
         let status = run.expect("timeout and GNU parallel");
@@ -74,7 +76,7 @@ fn merged(case: &Case, folder: &Path, all: &[Machine], tally: &mut Tally) {
     assert_eq!(target.run(&words).status, 0);
     assert!(fs::read(target.folder.join("again.journal")).unwrap() == target.journal());
     let good = target.journal();
-    let other = still_right(&good);
+    let other = (0..case.chunks()).find_map(|line| still_right(&good, line)).expect("a mask of some cells");
     fs::write(target.folder.join("other.journal"), &other).unwrap();
     fs::copy(target.folder.join("plan.journal.plan"), target.folder.join("other.journal.plan")).unwrap();
     let words = ["merge", "plan.toml", "-o", "never.journal", "plan.journal", "other.journal"];
@@ -122,7 +124,7 @@ pub fn every_call_of_merge(case: &Case, folder: &Path, tally: &mut Tally) {
             let _ = fs::remove_file(file("all.journal"));
             fs::write(file("all.journal.plan"), if all_known { &other } else { &digest }).unwrap();
             let words = ["merge", "plan.toml", "part1.journal", "part2.journal", "-o", "all.journal"];
-            let killed = run_to(&machine, &words, Stop::Call(number), 0).killed;
+            let killed = run_to(&machine, machine.command(&words), Stop::Call(number), 0).killed;
             if file("all.journal").exists() {
                 assert!(fs::read(file("all.journal")).unwrap() == whole, "a part of the merged journal");
                 let beside = fs::read_to_string(file("all.journal.plan")).ok();
@@ -137,14 +139,4 @@ pub fn every_call_of_merge(case: &Case, folder: &Path, tally: &mut Tally) {
             tally.calls += 1;
         }
     }
-}
-
-/// The journal with one line that is another and still right: as many of its cells are marked.
-fn still_right(journal: &[u8]) -> Vec<u8> {
-    let mut journal = journal.to_vec();
-    let digit = |at: usize| char::from(journal[at]).to_digit(16).unwrap();
-    let masks = (HEADER..journal.len()).filter(|at| (8..24).contains(&((at - HEADER) % LINE)));
-    let at = masks.into_iter().find(|&at| ![0, 15].contains(&digit(at))).expect("a mask of some cells");
-    journal[at] = char::from_digit((digit(at) << 1 | digit(at) >> 3) & 15, 16).unwrap() as u8;
-    journal
 }

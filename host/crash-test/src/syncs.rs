@@ -1,8 +1,8 @@
-//! Syncs: the tracer sees that each write lasts before the next one, that a missing sync is told, and what a cut may take is tried.
+//! Syncs: the tracer sees that each write is synced before the next one, and reports a sync that is missing.
 use crate::{
     case::Case,
     cuts::{whole, words},
-    machine::{sweep_words, Machine},
+    machine::{Machine, Way},
     trace::{run_to, trace, Lost, Stop},
 };
 use model::journal::{HEADER, LINE};
@@ -11,11 +11,11 @@ use std::{fs, path::Path};
 /// What a cut may leave of a journal: no file, or this many bytes.
 pub const LEFT: [Option<usize>; 5] = [None, Some(0), Some(HEADER / 2), Some(HEADER), Some(HEADER + LINE - 1)];
 
-/// Sweeps to the end in these orders from what is left, watched. How often the journals were written and synced.
-pub fn watched(case: &Case, orders: &[Vec<usize>], left: &[Option<usize>], folder: &Path) -> (u64, u64) {
+/// Sweeps to the end in these orders and ways from what is left, watched. How often the journals were written and synced.
+pub fn watched(case: &Case, orders: &[(Vec<usize>, Way)], left: &[Option<usize>], folder: &Path) -> (u64, u64) {
     let (mut writes, mut syncs) = (0, 0);
-    for order in orders {
-        let machine = Machine::new(case, folder);
+    for (order, way) in orders {
+        let machine = Machine::new(case, folder).sweeping(*way);
         let said = words(order);
         let said = if order.is_empty() { None } else { Some(said.as_str()) };
         for &left in left {
@@ -24,10 +24,19 @@ pub fn watched(case: &Case, orders: &[Vec<usize>], left: &[Option<usize>], folde
                 None => machine.without_journal(),
                 Some(left) => fs::write(machine.path(), &journal[..left.min(journal.len())]).unwrap(),
             }
-            let traced = run_to(&machine, &sweep_words(said), Stop::Never, 0);
+            let traced = run_to(&machine, machine.sweep_command(said), Stop::Never, 0);
             assert_eq!(traced.durable, HEADER + LINE * case.chunks(), "the sweep did not reach its end");
             if left.is_none() {
-                assert_eq!(traced.writes, 1 + ranges(order), "the header and each range of up to 64 chunks is one write");
+                // How many chunks the program chooses to write at once depends on the machine.
+                let ranges = match way.range {
+                    Some(1) => case.chunks()..=case.chunks(),
+                    _ => case.chunks().min(1)..=case.chunks(),
+                };
+                assert!(
+                    ranges.contains(&(traced.writes as usize - 1)),
+                    "the header and each range is one write, and not {}",
+                    traced.writes
+                );
             }
             whole(&machine, &machine.sweep(None));
             writes += traced.writes;
@@ -37,21 +46,9 @@ pub fn watched(case: &Case, orders: &[Vec<usize>], left: &[Option<usize>], folde
     (writes, syncs)
 }
 
-/// How many runs of up to 64 chunks that follow each other an order has.
-fn ranges(order: &[usize]) -> u64 {
-    let mut ranges = 0;
-    let mut length = 0;
-    for (i, &chunk) in order.iter().enumerate() {
-        length = if i > 0 && order[i - 1] + 1 == chunk && length < 64 { length + 1 } else { 1 };
-        ranges += (length == 1) as u64;
-    }
-    ranges
-}
-
-/// The syncs of a sweep do nothing, each by itself and all together: the tracer tells. How many were tried.
-pub fn missed(case: &Case, folder: &Path) -> u64 {
-    let machine = Machine::new(case, folder);
-    let words = sweep_words(None);
+/// The syncs of a sweep do nothing, each by itself and all together: the tracer reports each. How many were tried.
+pub fn missed(case: &Case, way: Way, folder: &Path) -> u64 {
+    let machine = Machine::new(case, folder).sweeping(way);
     let mut tried = 0;
     // From nothing, where the first sync of file and folder may be missing, as the digest's comes before the first byte; and from a journal
     // that was found.
@@ -64,12 +61,18 @@ pub fn missed(case: &Case, folder: &Path) -> u64 {
             } else {
                 fs::write(machine.path(), &journal[..left]).unwrap();
             }
-            trace(&machine, &words, Stop::Never, lost, 0)
+            trace(&machine, machine.sweep_command(None), Stop::Never, lost, 0)
         };
         let good = start(Lost::None);
         assert!(good.faults.is_empty(), "{:?}", good.faults);
         for lost in (needed_from..=good.syncs).map(Lost::One).chain([Lost::All]) {
-            assert!(!start(lost).faults.is_empty(), "a sync was missing and not told: {:?} of {}, {} bytes found", lost, good.syncs, left);
+            assert!(
+                !start(lost).faults.is_empty(),
+                "a sync was missing and not reported: {:?} of {}, {} bytes found",
+                lost,
+                good.syncs,
+                left
+            );
             tried += 1;
         }
         whole(&machine, &machine.sweep(None));

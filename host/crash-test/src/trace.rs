@@ -1,12 +1,16 @@
-//! Runs the program under a tracer, which watches its system calls: what was written must last before the journal is written on, and all
-//! of it when the program says that it is done. It can kill the program on entry to a call, and let its syncs do nothing.
-use crate::machine::Machine;
+//! Runs the program under a tracer, which watches its system calls: what was written must be synced before the journal is written again, and all
+//! of it when the program ends with status 0. It can kill the program on entry to a call, and let its syncs do nothing.
+//!
+//! Calls are those of the main thread, which is the only one that may write. The threads that work chunks out are watched too: one that writes, syncs
+//! or renames is a fault.
+use crate::machine::{Ended, Machine};
 use std::{
-    collections::BTreeSet,
-    fs, io,
-    os::unix::process::CommandExt,
+    collections::{BTreeMap, BTreeSet},
+    fs,
+    io::{self, Read},
+    os::unix::process::{CommandExt, ExitStatusExt},
     path::{Path, PathBuf},
-    process::{Command, Stdio},
+    process::{Child, Command, ExitStatus, Output, Stdio},
     sync::atomic::{AtomicBool, Ordering},
 };
 
@@ -14,7 +18,7 @@ use std::{
 #[derive(Clone, Copy, Debug)]
 pub enum Stop {
     Never,
-    /// The call with this number in the run, from 1.
+    /// The call with this number in the run, from 1. Calls that wait for other threads are not counted, as their number is left to chance.
     Call(u64),
     /// The call with this number, from 1, among those of this kind.
     Of(i64, u64),
@@ -22,7 +26,7 @@ pub enum Stop {
     After(i64),
 }
 
-/// Which syncs do nothing, though the program is told that they did.
+/// Which syncs do nothing, though they answer as if they had.
 #[derive(Clone, Copy, Debug, PartialEq)]
 pub enum Lost {
     None,
@@ -31,7 +35,7 @@ pub enum Lost {
     One(u64),
 }
 
-/// `crash-test --without-syncs`: none of the syncs of a traced run does anything, and the tracer must tell.
+/// `crash-test --without-syncs`: none of the syncs of a traced run does anything, and the tracer must report it.
 pub static WITHOUT_SYNCS: AtomicBool = AtomicBool::new(false);
 
 #[derive(Debug)]
@@ -41,52 +45,46 @@ pub struct Traced {
     /// How often the journal was written, and anything synced.
     pub writes: u64,
     pub syncs: u64,
-    /// How many bytes of the journal are sure to last.
+    /// How many bytes of the journal are synced.
     pub durable: usize,
     /// What was not synced when it had to be.
     pub faults: Vec<String>,
 }
 
-/// Runs under the tracer until the stop, on a journal of which this many bytes last. What it finds unsynced is a fault.
-pub fn run_to(machine: &Machine, words: &[&str], stop: Stop, durable: usize) -> Traced {
+/// Runs under the tracer until the stop, on a journal of which this many bytes are synced. What it finds unsynced is a fault.
+pub fn run_to(machine: &Machine, command: Command, stop: Stop, durable: usize) -> Traced {
     let lost = if WITHOUT_SYNCS.load(Ordering::Relaxed) { Lost::All } else { Lost::None };
-    let traced = trace(machine, words, stop, lost, durable);
+    let traced = trace(machine, command, stop, lost, durable);
     assert!(traced.faults.is_empty(), "a power cut may take more than the last write:\n  {}", traced.faults.join("\n  "));
     traced
 }
 
-pub fn trace(machine: &Machine, words: &[&str], stop: Stop, lost: Lost, durable: usize) -> Traced {
+pub fn trace(machine: &Machine, mut command: Command, stop: Stop, lost: Lost, durable: usize) -> Traced {
     let mut watch = Watch::of(machine, durable);
-    let mut command: Command = machine.command(words);
-    unsafe {
-        command.stdout(Stdio::null()).stderr(Stdio::null()).pre_exec(|| match libc::ptrace(libc::PTRACE_TRACEME, 0, 0, 0) {
-            0 => Ok(()),
-            _ => Err(io::Error::last_os_error()),
-        });
-    }
-    let mut child = command.spawn().unwrap();
-    let pid = child.id() as libc::pid_t;
-    let mut status = 0;
-    let (mut calls, mut of_kind, mut passed, mut first) = (0, 0, false, true);
-    // The call that the program is in, and whether it was made to do nothing.
-    let mut inside: Option<(Call, bool)> = None;
+    command.stdout(Stdio::null()).stderr(Stdio::null());
+    let mut child = Tracee::start(command, libc::PTRACE_O_TRACECLONE | libc::PTRACE_O_TRACEFORK | libc::PTRACE_O_TRACEVFORK);
+    let (mut calls, mut of_kind, mut passed) = (0, 0, false);
+    // The calls that the threads are in, and whether each was made to do nothing.
+    let mut inside: BTreeMap<libc::pid_t, (Call, bool)> = BTreeMap::new();
     let killed = loop {
-        assert_eq!(unsafe { libc::waitpid(pid, &mut status, 0) }, pid);
-        if !libc::WIFSTOPPED(status) {
-            break false;
-        }
-        if first {
-            first = false;
-            let options = libc::PTRACE_O_TRACESYSGOOD | libc::PTRACE_O_EXITKILL;
-            assert_eq!(unsafe { libc::ptrace(libc::PTRACE_SETOPTIONS, pid, 0, options) }, 0);
-        }
+        let (thread, status) = match child.next() {
+            Some(stopped) => stopped,
+            None => break false,
+        };
+        let is_main = thread == child.main;
         let mut signal = 0;
-        if libc::WSTOPSIG(status) == libc::SIGTRAP | 0x80 {
-            let mut registers = registers(pid);
-            match inside.take() {
-                None => {
-                    let call = Call::of(pid, &registers);
-                    calls += 1;
+        match libc::WSTOPSIG(status) {
+            // A thread that is gone by now was ended by the program's end.
+            CALL => match (registers(thread), inside.remove(&thread)) {
+                (None, _) => {}
+                (Some(registers), None) if !is_main => {
+                    let call = Call::of(thread, &registers);
+                    watch.beside(&call);
+                    inside.insert(thread, (call, false));
+                }
+                (Some(mut registers), None) => {
+                    let call = Call::of(thread, &registers);
+                    calls += u64::from(!waits(call.kind));
                     let here = match stop {
                         Stop::Never => false,
                         Stop::Call(number) => calls == number,
@@ -98,32 +96,111 @@ pub fn trace(machine: &Machine, words: &[&str], stop: Stop, lost: Lost, durable:
                     };
                     passed |= matches!(stop, Stop::After(kind) if call.kind == kind);
                     if here {
-                        child.kill().unwrap();
-                        assert_eq!(unsafe { libc::waitpid(pid, &mut status, 0) }, pid);
+                        child.kill();
                         break true;
                     }
                     watch.enters(&call);
                     let does_nothing = call.syncs() && (lost == Lost::All || lost == Lost::One(watch.syncs));
                     if does_nothing {
                         registers.orig_rax = u64::MAX;
-                        set_registers(pid, &registers);
+                        set_registers(thread, &registers);
                     }
-                    inside = Some((call, does_nothing));
+                    inside.insert(thread, (call, does_nothing));
                 }
-                Some((_, true)) => {
+                (Some(_), Some(_)) if !is_main => {}
+                (Some(mut registers), Some((_, true))) => {
                     registers.rax = 0;
-                    set_registers(pid, &registers);
+                    set_registers(thread, &registers);
                 }
-                Some((call, false)) => watch.leaves(pid, &call, registers.rax as i64),
+                (Some(registers), Some((call, false))) => watch.leaves(thread, &call, registers.rax as i64),
+            },
+            libc::SIGTRAP => {
+                if [libc::PTRACE_EVENT_FORK, libc::PTRACE_EVENT_VFORK].contains(&(status >> 16)) {
+                    watch.faults.push("the program starts another process".into());
+                }
             }
-        } else if libc::WSTOPSIG(status) != libc::SIGTRAP {
-            signal = libc::WSTOPSIG(status);
+            // How a new thread starts.
+            libc::SIGSTOP if !is_main => {}
+            other => signal = other,
         }
-        assert_eq!(unsafe { libc::ptrace(libc::PTRACE_SYSCALL, pid, 0, signal) }, 0);
+        go_on(thread, libc::PTRACE_SYSCALL, signal);
     };
-    // It is waited for already.
-    let _ = child.try_wait();
     Traced { killed, writes: watch.writes, syncs: watch.syncs, durable: watch.durable, faults: watch.faults }
+}
+
+/// What a stop at a system call says.
+const CALL: i32 = libc::SIGTRAP | 0x80;
+
+/// Runs until the kernel refuses to let a file grow further, and is killed there.
+pub fn run_to_limit(command: Command) -> Ended {
+    let mut tracee = Tracee::start(command, 0);
+    while let Some((thread, status)) = tracee.next() {
+        match libc::WSTOPSIG(status) {
+            libc::SIGXFSZ => {
+                tracee.kill();
+                break;
+            }
+            signal => go_on(thread, libc::PTRACE_CONT, signal),
+        }
+    }
+    let (mut stdout, mut stderr) = (Vec::new(), Vec::new());
+    tracee.child.stdout.take().unwrap().read_to_end(&mut stdout).unwrap();
+    tracee.child.stderr.take().unwrap().read_to_end(&mut stderr).unwrap();
+    Ended::of(Output { status: tracee.ended, stdout, stderr })
+}
+
+/// A program that is traced from its first call on, in a process group of its own.
+struct Tracee {
+    child: Child,
+    main: libc::pid_t,
+    ended: ExitStatus,
+}
+
+impl Tracee {
+    fn start(mut command: Command, options: i32) -> Tracee {
+        unsafe {
+            command.process_group(0).pre_exec(|| match libc::ptrace(libc::PTRACE_TRACEME, 0, 0, 0) {
+                0 => Ok(()),
+                _ => Err(io::Error::last_os_error()),
+            });
+        }
+        let child = command.spawn().unwrap();
+        let main = child.id() as libc::pid_t;
+        let mut tracee = Tracee { child, main, ended: ExitStatus::default() };
+        let (thread, status) = tracee.next().expect("it stops when it is loaded");
+        assert_eq!((thread, libc::WSTOPSIG(status)), (main, libc::SIGTRAP));
+        let options = options | libc::PTRACE_O_TRACESYSGOOD | libc::PTRACE_O_EXITKILL;
+        assert_eq!(unsafe { libc::ptrace(libc::PTRACE_SETOPTIONS, main, 0, options) }, 0);
+        go_on(main, if options & libc::PTRACE_O_TRACECLONE != 0 { libc::PTRACE_SYSCALL } else { libc::PTRACE_CONT }, 0);
+        tracee
+    }
+    /// The next thread that stops, and its status; none where the process has ended.
+    fn next(&mut self) -> Option<(libc::pid_t, i32)> {
+        loop {
+            let mut status = 0;
+            let thread = unsafe { libc::waitpid(-self.main, &mut status, libc::__WALL) };
+            assert!(thread > 0, "{}", io::Error::last_os_error());
+            if libc::WIFSTOPPED(status) {
+                return Some((thread, status));
+            }
+            // The kernel has the main thread end last.
+            if thread == self.main {
+                self.ended = ExitStatus::from_raw(status);
+                return None;
+            }
+        }
+    }
+    /// Kills the process, and waits until it is gone.
+    fn kill(&mut self) {
+        assert_eq!(unsafe { libc::kill(self.main, libc::SIGKILL) }, 0);
+        while self.next().is_some() {}
+    }
+}
+
+/// Lets a thread run on, with this signal; one that was ended by the program's end is gone.
+fn go_on(thread: libc::pid_t, how: libc::c_uint, signal: i32) {
+    let done = unsafe { libc::ptrace(how, thread, 0, signal) };
+    assert!(done == 0 || io::Error::last_os_error().raw_os_error() == Some(libc::ESRCH));
 }
 
 /// A system call, and the file of its first argument.
@@ -148,6 +225,11 @@ fn linked(pid: libc::pid_t, descriptor: i32) -> PathBuf {
     fs::read_link(format!("/proc/{}/fd/{}", pid, descriptor)).unwrap_or_default()
 }
 
+/// Calls that wait for other threads.
+fn waits(kind: i64) -> bool {
+    [libc::SYS_futex, libc::SYS_sched_yield].contains(&kind)
+}
+
 fn writes(kind: i64) -> bool {
     use libc::*;
     [SYS_write, SYS_pwrite64, SYS_writev, SYS_pwritev, SYS_pwritev2, SYS_ftruncate, SYS_fallocate, SYS_sendfile, SYS_copy_file_range]
@@ -164,7 +246,7 @@ fn names(kind: i64) -> bool {
     [SYS_rename, SYS_renameat, SYS_renameat2, SYS_link, SYS_linkat, SYS_symlink, SYS_symlinkat, SYS_unlink, SYS_unlinkat].contains(&kind)
 }
 
-/// What would not survive a power cut now, of the machine's folder.
+/// What a power cut would take now, of the machine's folder.
 struct Watch {
     folder: PathBuf,
     journal: PathBuf,
@@ -209,7 +291,7 @@ impl Watch {
     fn ours(&self, file: &Path) -> bool {
         file != self.folder && file.starts_with(&self.folder)
     }
-    /// Nothing is left unsynced when this happens.
+    /// A fault if anything is not synced when this happens.
     fn lasts(&mut self, when: &str) {
         let mut left: Vec<_> =
             self.unsynced.iter().map(|file| format!("{}", file.file_name().unwrap_or_default().to_string_lossy())).collect();
@@ -235,10 +317,13 @@ impl Watch {
                 self.made = made;
             }
             libc::SYS_exit_group | libc::SYS_exit if call.arguments[0] == 0 => self.lasts("the program ends with status 0"),
-            libc::SYS_clone | libc::SYS_clone3 | libc::SYS_fork | libc::SYS_vfork => {
-                self.faults.push("the program starts a thread or a process, which the tracer does not see".into());
-            }
             _ => {}
+        }
+    }
+    /// A call of another thread than the main one.
+    fn beside(&mut self, call: &Call) {
+        if writes(call.kind) && self.ours(&call.file) || syncs(call.kind) || names(call.kind) {
+            self.faults.push(format!("system call {} of another thread than the main one", call.kind));
         }
     }
     fn leaves(&mut self, pid: libc::pid_t, call: &Call, answer: i64) {
@@ -280,14 +365,17 @@ impl Watch {
     }
 }
 
+/// The registers of a thread that is stopped; none if it is gone.
 #[cfg(target_arch = "x86_64")]
-fn registers(pid: libc::pid_t) -> libc::user_regs_struct {
+fn registers(thread: libc::pid_t) -> Option<libc::user_regs_struct> {
     let mut registers: libc::user_regs_struct = unsafe { std::mem::zeroed() };
-    assert_eq!(unsafe { libc::ptrace(libc::PTRACE_GETREGS, pid, 0, &mut registers) }, 0);
-    registers
+    match unsafe { libc::ptrace(libc::PTRACE_GETREGS, thread, 0, &mut registers) } {
+        0 => Some(registers),
+        _ => None,
+    }
 }
 
 #[cfg(target_arch = "x86_64")]
-fn set_registers(pid: libc::pid_t, registers: &libc::user_regs_struct) {
-    assert_eq!(unsafe { libc::ptrace(libc::PTRACE_SETREGS, pid, 0, registers) }, 0);
+fn set_registers(thread: libc::pid_t, registers: &libc::user_regs_struct) {
+    assert_eq!(unsafe { libc::ptrace(libc::PTRACE_SETREGS, thread, 0, registers) }, 0);
 }

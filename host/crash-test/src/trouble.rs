@@ -1,9 +1,9 @@
 //! Trouble that is no power cut: a limit or a full disk, a read-only file, a second process, a file that grows, an edited plan.
-//! A clear sentence each time, and every whole line stays.
+//! A clear sentence each time, and every whole line is kept.
 use crate::{
     case::Case,
     cuts::{pause, whole, words},
-    machine::{ended, sweep_words, Ended, Machine},
+    machine::{ended, Ended, Machine},
 };
 use model::journal::{HEADER, LINE};
 use std::{
@@ -19,7 +19,7 @@ use std::{
 pub fn all(case: &Case, folder: &Path) -> Vec<String> {
     let machine = Machine::new(case, folder);
     full(&machine);
-    let mut done = vec!["a write that the kernel refuses, at every byte".to_owned()];
+    let mut done = vec!["a limit on the size of files, at every byte".to_owned()];
     done.push(full_disk(case, folder));
     done.push(read_only(&machine));
     second_process(&machine);
@@ -54,7 +54,7 @@ fn full(machine: &Machine) {
     let length = machine.journal().len();
     for bytes in 0..length {
         machine.without_journal();
-        says(&machine.sweep_to_full(bytes), 3, &["plan.journal: ", "every whole line stays"]);
+        says(&machine.sweep_to_full(bytes), 3, &["plan.journal: ", "every whole line is kept"]);
         assert!(machine.journal().len() == bytes && unbroken(machine, &machine.journal()));
     }
     whole(machine, &machine.sweep(None));
@@ -88,7 +88,7 @@ fn read_only(machine: &Machine) -> String {
     let last = machine.journal().len() - LINE;
     fs::write(machine.path(), &machine.journal()[..last]).unwrap();
     fs::set_permissions(machine.path(), Permissions::from_mode(0o444)).unwrap();
-    let mut command = machine.command(&sweep_words(None));
+    let mut command = machine.sweep_command(None);
     let root = unsafe { libc::geteuid() } == 0;
     if root {
         // Root may write anything: somebody else tries.
@@ -105,9 +105,10 @@ fn read_only(machine: &Machine) -> String {
 fn stopped(machine: &Machine) -> Child {
     loop {
         machine.without_journal();
-        // One write a line, as no chunk follows the one before it.
         let backwards: Vec<_> = (0..machine.case.chunks()).rev().collect();
-        let child = machine.command(&sweep_words(Some(&words(&backwards)))).spawn().unwrap();
+        // One write per line.
+        assert_eq!(machine.way.range, Some(1));
+        let child = machine.sweep_command(Some(&words(&backwards))).spawn().unwrap();
         let begun = Instant::now();
         while machine.journal().len() <= HEADER && begun.elapsed() < Duration::from_secs(5) {}
         signal(&child, libc::SIGSTOP);
@@ -130,7 +131,7 @@ fn second_process(machine: &Machine) {
     let journal = machine.journal();
     says(&machine.sweep(None), 3, &["plan.journal: another process sweeps into it", "--wait"]);
     assert!(machine.journal() == journal);
-    let mut waiting = machine.command(&sweep_words(None));
+    let mut waiting = machine.sweep_command(None);
     let waiting = waiting.arg("--wait").spawn().unwrap();
     signal(&first, libc::SIGCONT);
     whole(machine, &ended(first));
@@ -159,7 +160,7 @@ fn renamed(machine: &Machine) {
             fs::write(machine.path(), &journal).unwrap();
         }
         signal(&first, libc::SIGCONT);
-        says(&ended(first), 3, &["plan.journal: the file was renamed or replaced", "every whole line stays in it"]);
+        says(&ended(first), 3, &["plan.journal: the file was renamed or replaced", "every whole line is still in it"]);
         assert!(unbroken_backwards(machine, &fs::read(&other).unwrap()));
         assert!(!replaced || machine.journal() == journal);
         fs::rename(&other, machine.path()).unwrap();
@@ -195,8 +196,8 @@ fn edited(machine: &Machine) {
     whole(machine, &machine.sweep(None));
 }
 
-/// The header holds the first tolerance and the number of rolls alone, so J.plan must tell that the last number of a list was edited, and the message
-/// name the file it stands in: at the end of the key's list, or of the file where it is a column.
+/// The header has the first tolerance and the number of rolls alone, so only J.plan shows that the last number of a list was edited; the message names
+/// the file that it stands in. It is at the end of the key's list, or of the file where it is a column.
 pub fn edited_last(case: &Case, file: &str, key: &str, folder: &Path) {
     let machine = Machine::new(case, folder);
     whole(&machine, &machine.sweep(None));

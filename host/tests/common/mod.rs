@@ -55,8 +55,11 @@ impl Folder {
     }
     /// The same from a shell's line, where $W is the program.
     pub fn shell(&self, line: &str) -> Ended {
+        Ended::of(self.shell_output(line))
+    }
+    pub fn shell_output(&self, line: &str) -> Output {
         let mut command = Command::new("sh");
-        Ended::of(command.args(["-c", line]).env("W", program()).current_dir(self.0.path()).output().unwrap())
+        command.args(["-c", line]).env("W", program()).current_dir(self.0.path()).output().unwrap()
     }
     pub fn swept(self) -> Folder {
         assert_eq!(self.run(&["sweep", "plan.toml", "-q"]).status, 0);
@@ -120,6 +123,14 @@ pub fn told_of_another_plan(f: &Folder, changed: &str) {
         run(f, words).says(3, &[&says]);
     }
     assert!(f.all() == before, "a file was changed");
+}
+/// A number as messages write it.
+pub fn grouped(number: usize) -> String {
+    if number < 1000 {
+        number.to_string()
+    } else {
+        format!("{},{:03}", grouped(number / 1000), number % 1000)
+    }
 }
 pub fn json(text: &str) -> serde_json::Value {
     serde_json::from_str(text).unwrap()
