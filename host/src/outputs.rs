@@ -1,11 +1,12 @@
 //! Where a listing goes: files, which are whole or not written at all, and then standard output.
 use crate::{
-    digest::Digest,
+    digest::{Digest, TITLE},
+    engine::HEADER_BYTES,
     fault::Fault,
     files::{self, buffered, write_output, Place},
     listing::Listing,
     plan::Plan,
-    svg,
+    stop, svg,
 };
 use clap::Args;
 use std::{
@@ -74,6 +75,11 @@ impl Outputs {
             write_output(path, |out| write(listing, out))?;
             tell!("wrote {}", path.display());
         }
+        // What follows can be left at any byte.
+        stop::end_at_once();
+        if stop::asked() {
+            return Err(Fault::Stopped("stopped".into()));
+        }
         let table = !self.quiet && on_stdout.is_empty();
         if !table && !self.asked().is_empty() {
             if let Some(note) = listing.single_note() {
@@ -121,10 +127,32 @@ pub fn can_be_written<'a>(outputs: impl Iterator<Item = (&'static str, &'a Path)
         if let Some((what, _)) = streams.iter().find(|(_, file)| file.as_ref().map_or(false, |file| place.is_open(file))) {
             return usage(format!("{} goes into this file; name another, or \"-\" for standard output", what));
         }
+        if let Some(what) = begins_as(&place.head(HEADER_BYTES).map_err(|e| files::fault(path, &e))?) {
+            return usage(format!("this file begins as {} does, and is not overwritten; name another, or remove it first", what));
+        }
         place.try_write().map_err(|e| files::fault(path, &e))?;
+        if stop::asked() {
+            return Err(Fault::Stopped("stopped".into()));
+        }
         taken.push((option, place));
     }
     Ok(())
+}
+
+/// The fewest digits that are taken for the start of a journal's header where the file ends with them.
+const HEADER_START: usize = 24;
+
+/// What a file that begins so is, if it belongs to a sweep. No CSV, JSON or SVG begins so.
+fn begins_as(head: &[u8]) -> Option<&'static str> {
+    let digits = head.iter().take_while(|b| matches!(b, b'0'..=b'9' | b'a'..=b'f')).count();
+    let is_header = digits + 1 == HEADER_BYTES as usize && head.ends_with(b"\n");
+    if is_header || digits == head.len() && (HEADER_START..HEADER_BYTES as usize).contains(&digits) {
+        Some("a journal")
+    } else if head.starts_with(TITLE.as_bytes()) {
+        Some("the digest of a journal (J.plan)")
+    } else {
+        None
+    }
 }
 
 #[cfg(test)]
@@ -138,7 +166,7 @@ mod tests {
     }
 
     #[test]
-    fn what_cannot_be_written_is_refused_before_any_work() {
+    fn outputs_that_cannot_be_written_are_refused_before_any_work() {
         let plan = small();
         let folder = tempfile::tempdir().unwrap();
         let at = |name: &str| folder.path().join(name).to_str().unwrap().to_owned();
@@ -159,7 +187,7 @@ mod tests {
         assert_eq!(std::fs::read_dir(folder.path()).unwrap().count(), 0);
     }
     #[test]
-    fn what_is_left_unwritten_is_named() {
+    fn outputs_of_an_unfinished_sweep_are_named_as_not_written() {
         let words = "not written, as windows are listed of a whole sweep only";
         assert_eq!(outputs("", "").unwritten(), None);
         assert_eq!(outputs("w.csv", "").unwritten().unwrap(), format!("--csv w.csv was {}", words));
