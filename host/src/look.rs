@@ -41,7 +41,7 @@ impl Windows {
     pub fn run(&self) -> Result<(), Fault> {
         let (plan, path) = self.files.read()?;
         let selected = self.selection.of(&plan)?;
-        self.outputs.check(&plan, &path)?;
+        self.outputs.check(&plan, &path, &selected)?;
         if self.evaluate {
             if plan.configured_roll.is_none() {
                 return Err(Fault::Usage(format!("--evaluate: {} has no configured_roll", plan.path().display())));

@@ -6,7 +6,9 @@ use crate::{
     files::{self, buffered, write_output, Place},
     listing::Listing,
     plan::Plan,
+    selection::Selected,
     stop, svg,
+    text::grouped,
 };
 use clap::Args;
 use std::{
@@ -24,7 +26,7 @@ pub struct Outputs {
     /// Write the windows and totals as JSON
     #[arg(long, value_name = "FILE")]
     json: Option<PathBuf>,
-    /// Write a timeline as SVG
+    /// Write a timeline as SVG, of at most 400 targets
     #[arg(long, value_name = "FILE")]
     svg: Option<PathBuf>,
     /// Write the totals of each target and of all as CSV
@@ -60,11 +62,20 @@ impl Outputs {
         all.into_iter().filter_map(|(option, path, write)| path.as_deref().map(|path| Asked { option, path, write })).collect()
     }
     /// Refuses, before any work, what could not be written or would overwrite a file that the command needs.
-    pub fn check(&self, plan: &Plan, journal: &Path) -> Result<(), Fault> {
+    pub fn check(&self, plan: &Plan, journal: &Path, selected: &Selected) -> Result<(), Fault> {
         let (on_stdout, to_files): (Vec<_>, Vec<_>) = self.asked().into_iter().partition(Asked::on_stdout);
         if let [first, second, ..] = &on_stdout[..] {
             let (a, b) = (first.option, second.option);
             return Err(Fault::Usage(format!("{} - and {} -: only one can go to standard output; name a file for the other", a, b)));
+        }
+        if let (Some(path), true) = (&self.svg, selected.targets.len() > svg::MOST_TARGETS) {
+            return Err(Fault::Usage(format!(
+                "--svg {}: a picture of {} targets would be too tall to read; allowed: at most {}; select some with --target, which takes names and \
+                 patterns such as 'M *'",
+                path.display(),
+                grouped(selected.targets.len()),
+                svg::MOST_TARGETS
+            )));
         }
         can_be_written(to_files.iter().map(|asked| (asked.option, asked.path)), plan, journal)
     }
@@ -158,7 +169,7 @@ fn begins_as(head: &[u8]) -> Option<&'static str> {
 #[cfg(test)]
 mod tests {
     use super::*;
-    use crate::testing::small;
+    use crate::{selection::Selection, testing::small};
 
     fn outputs(csv: &str, json: &str) -> Outputs {
         let path = |text: &str| if text.is_empty() { None } else { Some(PathBuf::from(text)) };
@@ -171,7 +182,8 @@ mod tests {
         let folder = tempfile::tempdir().unwrap();
         let at = |name: &str| folder.path().join(name).to_str().unwrap().to_owned();
         let journal = folder.path().join("j");
-        let status = |csv: &str, json: &str| outputs(csv, json).check(&plan, &journal).map_err(|fault| fault.status());
+        let selected = Selection::default().of(&plan).unwrap();
+        let status = |csv: &str, json: &str| outputs(csv, json).check(&plan, &journal, &selected).map_err(|fault| fault.status());
         assert_eq!(status("", ""), Ok(()));
         assert_eq!(status("-", &at("a")), Ok(()));
         assert_eq!(status("-", "-"), Err(2));

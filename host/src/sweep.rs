@@ -85,7 +85,7 @@ impl Sweep {
         let (plan, path) = self.files.read()?;
         let asked = self.asked(&plan)?;
         let selected = self.selection.of(&plan)?;
-        self.outputs.check(&plan, &path)?;
+        self.outputs.check(&plan, &path, &selected)?;
         if let Some(text) = nothing_violated(&plan) {
             tell!("{}", text);
         }
