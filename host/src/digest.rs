@@ -17,7 +17,7 @@ use std::{
 };
 
 /// The first line: this and the version.
-const TITLE: &str = "wilfnusk plan ";
+pub const TITLE: &str = "wilfnusk plan ";
 /// The version that is written. An older one says that the lines rest on rolls that were not yet folded: it is known as a digest, and speaks
 /// for no line.
 const VERSION: u64 = 3;

@@ -1,8 +1,8 @@
 //! What the program asks of the file system beside reading.
-use crate::{fault::Fault, source::shown};
+use crate::{fault::Fault, source::shown, stop};
 use std::{
     fs::{self, File, Metadata, OpenOptions},
-    io::{self, BufWriter, Write},
+    io::{self, BufWriter, Read, Write},
     os::unix::{
         ffi::OsStrExt,
         fs::{FileTypeExt, MetadataExt},
@@ -50,7 +50,15 @@ impl Place {
     pub fn is_open(&self, file: &File) -> bool {
         matches!((&self.now, file.metadata()), (Some(a), Ok(b)) if a.is_file() && same_file(a, &b))
     }
-    /// A pipe or a device, which is written as it is; a disk is not for us.
+    /// The first bytes of a plain file that stands there, at most so many.
+    pub fn head(&self, most: u64) -> io::Result<Vec<u8>> {
+        let mut head = Vec::new();
+        if self.now.as_ref().map_or(false, Metadata::is_file) {
+            File::open(&self.path)?.take(most).read_to_end(&mut head)?;
+        }
+        Ok(head)
+    }
+    /// A pipe or a device, which is written as it is; a disk is refused.
     fn is_stream(&self) -> bool {
         self.now.as_ref().map_or(false, |now| !now.is_file())
     }
@@ -59,17 +67,23 @@ impl Place {
         match &self.now {
             Some(now) if now.file_type().is_block_device() => Err(io::Error::new(io::ErrorKind::InvalidInput, "it is a disk")),
             Some(now) if !now.is_file() => Ok(()),
-            Some(_) => OpenOptions::new().write(true).open(&self.path).and_then(|_| self.aside()?.close()),
-            None => self.aside()?.close(),
+            Some(_) => OpenOptions::new().write(true).open(&self.path).and_then(|_| self.try_aside()),
+            None => self.try_aside(),
         }
+    }
+    fn try_aside(&self) -> io::Result<()> {
+        stop::held(|| self.aside()?.close())
     }
     /// A folder of a random name beside the file.
     fn aside(&self) -> io::Result<TempDir> {
         tempfile::Builder::new().prefix(".wilfnusk-").tempdir_in(folder_of(&self.path))
     }
     /// The new file is made in a folder of its own, where no other process can have put anything, with the permissions that
-    /// a new file gets or those of the file that it replaces. Synced, it takes the name.
+    /// a new file gets or those of the file that it replaces. Synced, it takes the name. No signal leaves the folder behind.
     fn replace(&self, write: impl FnOnce(&mut dyn Write) -> io::Result<()>) -> io::Result<()> {
+        stop::held(|| self.replace_held(write))
+    }
+    fn replace_held(&self, write: impl FnOnce(&mut dyn Write) -> io::Result<()>) -> io::Result<()> {
         let aside = self.aside()?;
         let new = aside.path().join("new");
         let file = OpenOptions::new().write(true).create_new(true).open(&new)?;
@@ -101,13 +115,31 @@ pub fn write_whole(path: &Path, bytes: &[u8]) -> Result<(), Fault> {
     done.map_err(|e| fault(path, &e))
 }
 
-/// The same with what the function writes, which may go into a pipe or a device too.
+/// The same with what the function writes, which may go into a pipe or a device too. A signal ends the writing, and the file is as it was.
 pub fn write_output(path: &Path, write: impl FnOnce(&mut dyn Write) -> io::Result<()>) -> Result<(), Fault> {
     let done = Place::of(path).and_then(|place| match place.is_stream() {
         true => buffered(OpenOptions::new().write(true).open(&place.path)?, write),
-        false => place.replace(write),
+        false => place.replace(|out| buffered(Stoppable(out), write)),
     });
-    done.map_err(|e| fault(path, &e))
+    match done {
+        Err(_) if stop::asked() => Err(Fault::Stopped(format!("stopped; {} was not written", shown(path)))),
+        done => done.map_err(|e| fault(path, &e)),
+    }
+}
+
+/// Writes until a signal asks to stop.
+struct Stoppable<'a>(&'a mut dyn Write);
+
+impl Write for Stoppable<'_> {
+    fn write(&mut self, bytes: &[u8]) -> io::Result<usize> {
+        if stop::asked() {
+            return Err(io::Error::new(io::ErrorKind::Other, "stopped"));
+        }
+        self.0.write(bytes)
+    }
+    fn flush(&mut self) -> io::Result<()> {
+        self.0.flush()
+    }
 }
 
 /// Writes in few large pieces.

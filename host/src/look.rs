@@ -43,7 +43,7 @@ impl Windows {
     pub fn run(&self) -> Result<(), Fault> {
         let (plan, path) = self.files.read()?;
         let selected = self.selection.of(&plan)?;
-        self.outputs.check(&plan, &path)?;
+        self.outputs.check(&plan, &path, &selected)?;
         tell_remarks(&plan);
         if self.evaluate {
             if plan.configured_roll.is_none() {

@@ -1,12 +1,15 @@
 //! Where a listing goes: files, which are whole or not written at all, and then standard output.
 use crate::{
-    digest::Digest,
+    digest::{Digest, TITLE},
+    engine::HEADER_BYTES,
     fault::Fault,
     files::{self, buffered, write_output, Place},
     listing::Listing,
     plan::Plan,
+    selection::Selected,
     source::shown,
-    svg,
+    stop, svg,
+    text::grouped,
 };
 use clap::Args;
 use std::{
@@ -24,7 +27,7 @@ pub struct Outputs {
     /// Write the windows and totals as JSON
     #[arg(long, value_name = "FILE")]
     json: Option<PathBuf>,
-    /// Write a timeline as SVG
+    /// Write a timeline as SVG, of at most 400 targets
     #[arg(long, value_name = "FILE")]
     svg: Option<PathBuf>,
     /// Write the totals of each target and of all as CSV
@@ -60,11 +63,20 @@ impl Outputs {
         all.into_iter().filter_map(|(option, path, write)| path.as_deref().map(|path| Asked { option, path, write })).collect()
     }
     /// Refuses, before any work, what could not be written or would overwrite a file that the command needs.
-    pub fn check(&self, plan: &Plan, journal: &Path) -> Result<(), Fault> {
+    pub fn check(&self, plan: &Plan, journal: &Path, selected: &Selected) -> Result<(), Fault> {
         let (on_stdout, to_files): (Vec<_>, Vec<_>) = self.asked().into_iter().partition(Asked::on_stdout);
         if let [first, second, ..] = &on_stdout[..] {
             let (a, b) = (first.option, second.option);
             return Err(Fault::Usage(format!("{} - and {} -: only one can go to standard output; name a file for the other", a, b)));
+        }
+        if let (Some(path), true) = (&self.svg, selected.targets.len() > svg::MOST_TARGETS) {
+            return Err(Fault::Usage(format!(
+                "--svg {}: a picture of {} targets would be too tall to read; allowed: at most {}; select some with --target, which takes names and \
+                 patterns such as 'M *'",
+                shown(path),
+                grouped(selected.targets.len()),
+                svg::MOST_TARGETS
+            )));
         }
         can_be_written(to_files.iter().map(|asked| (asked.option, asked.path)), plan, journal)
     }
@@ -74,6 +86,11 @@ impl Outputs {
         for Asked { path, write, .. } in &to_files {
             write_output(path, |out| write(listing, out))?;
             tell!("wrote {}", shown(path));
+        }
+        // What follows can be left at any byte.
+        stop::end_at_once();
+        if stop::asked() {
+            return Err(Fault::Stopped("stopped".into()));
         }
         let table = !self.quiet && on_stdout.is_empty();
         if !table && !self.asked().is_empty() {
@@ -128,16 +145,38 @@ pub fn can_be_written<'a>(outputs: impl Iterator<Item = (&'static str, &'a Path)
         if let Some((what, _)) = streams.iter().find(|(_, file)| file.as_ref().map_or(false, |file| place.is_open(file))) {
             return usage(format!("{} goes into this file; name another, or \"-\" for standard output", what));
         }
+        if let Some(what) = begins_as(&place.head(HEADER_BYTES).map_err(|e| files::fault(path, &e))?) {
+            return usage(format!("this file begins as {} does, and is not overwritten; name another, or remove it first", what));
+        }
         place.try_write().map_err(|e| files::fault(path, &e))?;
+        if stop::asked() {
+            return Err(Fault::Stopped("stopped".into()));
+        }
         taken.push((option, place));
     }
     Ok(())
 }
 
+/// The fewest digits that are taken for the start of a journal's header where the file ends with them.
+const HEADER_START: usize = 24;
+
+/// What a file that begins so is, if it belongs to a sweep. No CSV, JSON or SVG begins so.
+fn begins_as(head: &[u8]) -> Option<&'static str> {
+    let digits = head.iter().take_while(|b| matches!(b, b'0'..=b'9' | b'a'..=b'f')).count();
+    let is_header = digits + 1 == HEADER_BYTES as usize && head.ends_with(b"\n");
+    if is_header || digits == head.len() && (HEADER_START..HEADER_BYTES as usize).contains(&digits) {
+        Some("a journal")
+    } else if head.starts_with(TITLE.as_bytes()) {
+        Some("the digest of a journal (J.plan)")
+    } else {
+        None
+    }
+}
+
 #[cfg(test)]
 mod tests {
     use super::*;
-    use crate::testing::small;
+    use crate::{selection::Selection, testing::small};
 
     fn outputs(csv: &str, json: &str) -> Outputs {
         let path = |text: &str| if text.is_empty() { None } else { Some(PathBuf::from(text)) };
@@ -145,12 +184,13 @@ mod tests {
     }
 
     #[test]
-    fn what_cannot_be_written_is_refused_before_any_work() {
+    fn outputs_that_cannot_be_written_are_refused_before_any_work() {
         let plan = small();
         let folder = tempfile::tempdir().unwrap();
         let at = |name: &str| folder.path().join(name).to_str().unwrap().to_owned();
         let journal = folder.path().join("j");
-        let status = |csv: &str, json: &str| outputs(csv, json).check(&plan, &journal).map_err(|fault| fault.status());
+        let selected = Selection::default().of(&plan).unwrap();
+        let status = |csv: &str, json: &str| outputs(csv, json).check(&plan, &journal, &selected).map_err(|fault| fault.status());
         assert_eq!(status("", ""), Ok(()));
         assert_eq!(status("-", &at("a")), Ok(()));
         assert_eq!(status("-", "-"), Err(2));

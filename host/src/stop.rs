@@ -1,5 +1,5 @@
-//! Signals. Ctrl-C and those that ask a process to end: the sweep ends after the ranges that it has begun. A limit on the size of files: the
-//! write fails, and does not end the process.
+//! Signals. Ctrl-C and those that ask a process to end: the sweep ends after the ranges that it has begun, and an output that is not whole is
+//! removed. A limit on the size of files: the write fails, and does not end the process.
 use signal_hook::{
     consts::{SIGHUP, SIGINT, SIGTERM, SIGXFSZ},
     flag,
@@ -8,27 +8,57 @@ use std::{
     fs,
     sync::{
         atomic::{AtomicBool, Ordering},
-        Arc, OnceLock,
+        Arc, Once, OnceLock,
     },
 };
 
 static ASKED: OnceLock<Arc<AtomicBool>> = OnceLock::new();
+static AT_ONCE: OnceLock<Arc<AtomicBool>> = OnceLock::new();
 
 fn flag() -> &'static Arc<AtomicBool> {
     ASKED.get_or_init(Arc::default)
 }
 
-/// Listens for the signals. The second one ends the process at once. One that was ignored when the program was started stays so: that is
-/// how `nohup` protects what it runs.
+/// Whether a signal ends the process at once, as it does where nothing would be left half done.
+fn at_once() -> &'static Arc<AtomicBool> {
+    AT_ONCE.get_or_init(|| Arc::new(AtomicBool::new(true)))
+}
+
+/// From now on the first signal only asks, and the second one ends the process.
 pub fn listen() {
+    at_once().store(false, Ordering::SeqCst);
+    register();
+}
+
+/// From now on a signal ends the process, unless one has asked for that already.
+pub fn end_at_once() {
+    at_once().store(true, Ordering::SeqCst);
+}
+
+/// While this works the first signal only asks.
+pub fn held<T>(work: impl FnOnce() -> T) -> T {
+    let before = at_once().swap(false, Ordering::SeqCst);
+    register();
+    let done = work();
+    at_once().store(before, Ordering::SeqCst);
+    done
+}
+
+/// A signal that was ignored when the program was started stays so: that is how `nohup` protects what it runs.
+fn register() {
+    static ONCE: Once = Once::new();
+    ONCE.call_once(register_all);
+}
+
+fn register_all() {
     let status = fs::read_to_string("/proc/self/status").unwrap_or_default();
     for signal in [SIGHUP, SIGINT, SIGTERM] {
         if is_ignored(&status, signal) {
             continue;
         }
         // In this order: the first signal finds the flag not yet set.
-        let set = flag::register_conditional_shutdown(signal, 130, flag().clone()).and_then(|_| flag::register(signal, flag().clone()));
-        if let Err(e) = set {
+        let ends = |when: &Arc<AtomicBool>| flag::register_conditional_shutdown(signal, 130, when.clone());
+        if let Err(e) = ends(at_once()).and_then(|_| ends(flag())).and_then(|_| flag::register(signal, flag().clone())) {
             tell!("warning: signal {} will end the program at once ({})", signal, e);
         }
     }

@@ -1,11 +1,13 @@
-//! A timeline as SVG: targets down, time across, an axis above and below. A sample is drawn as wide as its step.
+//! A timeline as SVG: targets down, time across, an axis above and below. Each sample is drawn as wide as its step, to scale: the painted area
+//! of a kind is its share of the time. Where windows are narrower than a pixel, a column has the shares of its kinds as heights.
 use crate::{
     instant::{self, date_of, days_of, days_since_1970},
-    listing::{Kind, Listed, Listing, Row},
+    listing::{step, Kind, Listed, Listing, Row},
     text::{counted, grouped, number, printable},
     tolerance::in_words,
 };
 use std::{
+    collections::BTreeMap,
     fmt::Write as _,
     io::{self, Write},
 };
@@ -23,14 +25,19 @@ const NAME_MOST: f64 = 300.0;
 /// A digit of a label, and the least space between two labels.
 const DIGIT: f64 = 7.7;
 const BETWEEN: f64 = 12.0;
-const VISIBLE: &str = "#3a8f7b";
-const SINGLE: &str = "#a5d8c9";
-const VIOLATED: &str = "#d9643a";
+/// Light and dark, so that they differ in grey print too. Severities go from the violated colour to a darker one.
+const VISIBLE: &str = "#66c2a5";
+const SINGLE: &str = "#d6efe7";
+const VIOLATED: [u8; 3] = [0x9c, 0x32, 0x10];
+const WORST: [u8; 3] = [0x32, 0x0c, 0x02];
 const INK: &str = "#222222";
 const GREY: &str = "#555555";
 
 const SECOND: i64 = 1_000_000_000;
 const DAY: i64 = 86_400 * SECOND;
+
+/// More targets than this make a picture that nothing shows and nobody reads.
+pub const MOST_TARGETS: usize = 400;
 
 pub fn write(listing: &Listing, mut out: impl Write) -> io::Result<()> {
     out.write_all(picture(listing).as_bytes())
@@ -38,13 +45,15 @@ pub fn write(listing: &Listing, mut out: impl Write) -> io::Result<()> {
 
 fn picture(listing: &Listing) -> String {
     let mut heading = String::new();
-    let top = heading_of(&mut heading, listing) + 3.0 * LINE;
-    let bottom = top + ROW * listing.rows.len() as f64;
     let axis = Axis::of(listing);
+    let top = heading_of(&mut heading, listing, &axis) + 3.0 * LINE;
+    let bottom = top + ROW * listing.rows.len() as f64;
     let mut svg = format!(
         "<svg xmlns=\"http://www.w3.org/2000/svg\" width=\"{w}\" height=\"{h}\" viewBox=\"0 0 {w} {h}\" \
          font-family=\"DejaVu Sans, Helvetica, Arial, sans-serif\" font-size=\"12\">\n\
+         <title>{title}</title>\n\
          <rect width=\"100%\" height=\"100%\" fill=\"#ffffff\"/>\n{heading}",
+        title = title_of(listing),
         w = WIDTH,
         h = bottom + 2.0 * LINE + 12.0,
         heading = heading
@@ -62,10 +71,18 @@ fn worst(listing: &Listing) -> f64 {
     listing.rows.iter().flat_map(|r| &r.windows).map(|l| l.window.severity).fold(0.0, f64::max)
 }
 
+fn title_of(listing: &Listing) -> &'static str {
+    if listing.has_severities() {
+        "Windows at the configured roll"
+    } else {
+        "Windows of the roll sweep"
+    }
+}
+
 /// Title, settings, times, what part it is, and the colours. Where they end.
-fn heading_of(svg: &mut String, listing: &Listing) -> f64 {
+fn heading_of(svg: &mut String, listing: &Listing, axis: &Axis) -> f64 {
     let plan = listing.plan;
-    let title = if listing.has_severities() { "Windows at the configured roll" } else { "Windows of the roll sweep" };
+    let title = title_of(listing);
     let mut y = EDGE;
     let _ = writeln!(svg, "<text x=\"{}\" y=\"{}\" font-size=\"16\" font-weight=\"bold\" fill=\"{}\">{}</text>", EDGE, y, INK, title);
     let mut about = format!("{}, {}", counted(plan.names.len(), "target"), counted(plan.times.len(), "time"));
@@ -86,13 +103,17 @@ fn heading_of(svg: &mut String, listing: &Listing) -> f64 {
     if let Some(part) = listing.part() {
         lines.push((format!("Part of the plan: {}", part), INK));
     }
+    let is_narrow = |piece: &Piece| axis.is_narrow(&plan.times, piece);
+    if listing.rows.iter().any(|row| pieces(row).iter().any(is_narrow)) {
+        lines.push(("Where windows are narrower than a pixel, heights show their shares of the time.".into(), INK));
+    }
     for (line, color) in lines {
         y += LINE;
         let _ = writeln!(svg, "<text x=\"{}\" y=\"{}\" fill=\"{}\">{}</text>", EDGE, y, color, escaped(&line));
     }
-    let mut legend = vec![(VISIBLE, "visible"), (VIOLATED, "violated")];
+    let mut legend = vec![(VISIBLE.to_owned(), "visible"), (shade(0.0, 0.0), "violated")];
     if listing.all.single_clear_samples > 0 {
-        legend.push((SINGLE, "single clear sample, in no window"));
+        legend.push((SINGLE.to_owned(), "single clear sample, in no window"));
     }
     let mut x = WIDTH - EDGE;
     for (color, word) in legend.into_iter().rev() {
@@ -103,7 +124,86 @@ fn heading_of(svg: &mut String, listing: &Listing) -> f64 {
     y
 }
 
-/// A target's name and its windows. Violated ones are drawn last, so that none is hidden.
+/// The colour of a violated window: the darker, the nearer its severity is to the worst, in 16 shades.
+fn shade(severity: f64, worst: f64) -> String {
+    let dark = if worst > 0.0 { (16.0 * severity / worst).round() / 16.0 } else { 0.0 };
+    let mixed = |k: usize| (f64::from(VIOLATED[k]) * (1.0 - dark) + f64::from(WORST[k]) * dark).round() as u8;
+    format!("#{:02x}{:02x}{:02x}", mixed(0), mixed(1), mixed(2))
+}
+
+/// What is drawn of a row: a window, or a clear sample that is in none.
+enum Piece<'a> {
+    Window(&'a Listed),
+    Single(usize),
+}
+
+/// From above in a column that has several.
+#[derive(Clone, Copy)]
+enum Layer {
+    Visible,
+    Single,
+    Violated,
+}
+
+impl Piece<'_> {
+    /// Its first and last sample.
+    fn samples(&self) -> (usize, usize) {
+        match self {
+            Piece::Window(listed) => (listed.window.first as usize, listed.window.last as usize),
+            Piece::Single(j) => (*j, *j),
+        }
+    }
+    fn layer(&self) -> Layer {
+        match self {
+            Piece::Window(listed) if listed.kind == Kind::Violated => Layer::Violated,
+            Piece::Window(_) => Layer::Visible,
+            Piece::Single(_) => Layer::Single,
+        }
+    }
+    fn severity(&self) -> f64 {
+        match self {
+            Piece::Window(listed) => listed.window.severity,
+            Piece::Single(_) => 0.0,
+        }
+    }
+    /// What is shown where the pointer rests on it.
+    fn words(&self, listing: &Listing) -> String {
+        let time = |t| instant::format(t, instant::digits([t]));
+        let listed = match self {
+            Piece::Window(listed) => listed,
+            Piece::Single(j) => return format!("clear at {} alone, in no window", time(listing.plan.times[*j])),
+        };
+        let (w, is_severe) = (&listed.window, listing.has_severities() && listed.kind == Kind::Violated);
+        let severity = if is_severe { format!(", severity {}°", w.severity) } else { String::new() };
+        format!("{} {} to {}, {} s{}", listed.kind.word(), time(w.first_time), time(w.last_time), grouped(listed.seconds), severity)
+    }
+}
+
+impl Layer {
+    fn colour(self, severity: f64, worst: f64) -> String {
+        match self {
+            Layer::Visible => VISIBLE.into(),
+            Layer::Single => SINGLE.into(),
+            Layer::Violated => shade(severity, worst),
+        }
+    }
+    fn word(self) -> &'static str {
+        match self {
+            Layer::Visible => "visible",
+            Layer::Single => "clear alone, in no window",
+            Layer::Violated => "violated",
+        }
+    }
+}
+
+/// A row's pieces in the order of time; none overlaps another.
+fn pieces<'a>(row: &'a Row) -> Vec<Piece<'a>> {
+    let mut pieces: Vec<_> = row.windows.iter().map(Piece::Window).chain(row.single.iter().copied().map(Piece::Single)).collect();
+    pieces.sort_by_key(|piece| piece.samples().0);
+    pieces
+}
+
+/// A target's name and its windows.
 fn bands(svg: &mut String, listing: &Listing, axis: &Axis, row: &Row, y: f64, worst: f64) {
     let times = &listing.plan.times;
     let name = printable(row.name);
@@ -118,47 +218,101 @@ fn bands(svg: &mut String, listing: &Listing, axis: &Axis, row: &Row, y: f64, wo
         escaped(&name),
         tolerance
     );
-    let mut band = |first: usize, last: usize, color, strength: f64, what: String| {
-        let (from, to) = (axis.x(times[first]), axis.x(end_of(times, last)));
+    let top = y + (ROW - BAND) / 2.0;
+    let mut narrow = Narrow { top, worst, column: None, paths: BTreeMap::new() };
+    for piece in pieces(row) {
+        let (from, to) = axis.ends(times, &piece);
+        if axis.is_narrow(times, &piece) {
+            narrow.add(from, to, &piece);
+            continue;
+        }
+        let (from, to) = (rounded(from), rounded(to));
         let _ = writeln!(
             svg,
-            "<rect x=\"{:.2}\" y=\"{:.1}\" width=\"{:.2}\" height=\"{}\" fill=\"{}\" fill-opacity=\"{:.2}\"><title>{}</title></rect>",
+            "<rect x=\"{}\" y=\"{}\" width=\"{}\" height=\"{}\" fill=\"{}\"><title>{}</title></rect>",
             from,
-            y + (ROW - BAND) / 2.0,
-            (to - from).max(0.5),
+            top,
+            rounded(to - from),
             BAND,
-            color,
-            strength,
-            escaped(&format!("{}: {}", name, what))
+            piece.layer().colour(piece.severity(), worst),
+            escaped(&format!("{}: {}", name, piece.words(listing)))
         );
-    };
-    let time = |t| instant::format(t, instant::digits([t]));
-    let between =
-        |l: &Listed| format!("{} {} to {}, {} s", l.kind.word(), time(l.window.first_time), time(l.window.last_time), grouped(l.seconds));
-    for l in row.windows.iter().filter(|l| l.kind == Kind::Visible) {
-        band(l.window.first as usize, l.window.last as usize, VISIBLE, 1.0, between(l));
     }
-    for &j in &row.single {
-        band(j, j, SINGLE, 1.0, format!("clear at {} alone, in no window", time(times[j])));
+    for ((_, colour), (layer, path)) in narrow.paths() {
+        let words = format!("{}: {}, in windows narrower than a pixel", name, layer.word());
+        let _ = writeln!(svg, "<path fill=\"{}\" d=\"{}\"><title>{}</title></path>", colour, path, escaped(&words));
     }
-    for l in row.windows.iter().filter(|l| l.kind == Kind::Violated) {
-        // The worst severity is drawn full, the others paler.
-        let strength = if worst > 0.0 { 0.35 + 0.65 * l.window.severity / worst } else { 1.0 };
-        let severity = if listing.has_severities() { format!(", severity {}°", l.window.severity) } else { String::new() };
-        band(l.window.first as usize, l.window.last as usize, VIOLATED, strength, between(l) + &severity);
+}
+
+/// Pieces of a row that are narrower than a pixel, gathered by columns of pixels. In each the layers' heights are their shares of the time.
+struct Narrow {
+    top: f64,
+    worst: f64,
+    column: Option<Column>,
+    /// The boxes of each layer and colour.
+    paths: BTreeMap<(usize, String), (Layer, String)>,
+}
+
+/// A column of pixels, or the part of it between two pieces that are wider.
+struct Column {
+    left: f64,
+    right: f64,
+    widths: [f64; 3],
+    /// The sum of the violated widths, each times its severity.
+    severity: f64,
+}
+
+impl Narrow {
+    fn add(&mut self, from: f64, to: f64, piece: &Piece) {
+        let edge = (from.floor() + 1.0).min(to);
+        self.add_within(from, edge, piece);
+        if edge < to {
+            self.add_within(edge, to, piece);
+        }
     }
+    fn add_within(&mut self, from: f64, to: f64, piece: &Piece) {
+        let follows = |column: &Column| column.right == from && from.floor() == column.left.floor();
+        if !self.column.as_ref().map_or(false, follows) {
+            self.end_column();
+        }
+        let column = self.column.get_or_insert(Column { left: from, right: from, widths: [0.0; 3], severity: 0.0 });
+        column.right = to;
+        column.widths[piece.layer() as usize] += to - from;
+        column.severity += (to - from) * piece.severity();
+    }
+    fn end_column(&mut self) {
+        let Some(Column { left, right, widths, severity }) = self.column.take() else { return };
+        let (left, width) = (rounded(left), rounded(rounded(right) - rounded(left)));
+        let all: f64 = widths.iter().sum();
+        let mut above = 0.0;
+        for layer in [Layer::Visible, Layer::Single, Layer::Violated] {
+            let share = widths[layer as usize];
+            let (from, to) = (rounded(BAND * above / all), rounded(BAND * (above + share) / all));
+            above += share;
+            if width > 0.0 && to > from {
+                let colour = layer.colour(severity / share, self.worst);
+                let (_, path) = self.paths.entry((layer as usize, colour)).or_insert((layer, String::new()));
+                let _ = write!(path, "M{} {}h{}v{}h-{}z", left, rounded(self.top + from), width, rounded(to - from), width);
+            }
+        }
+    }
+    fn paths(mut self) -> BTreeMap<(usize, String), (Layer, String)> {
+        self.end_column();
+        self.paths
+    }
+}
+
+/// A place to a thousandth of a pixel.
+fn rounded(x: f64) -> f64 {
+    (1000.0 * x).round() / 1000.0
 }
 
 /// No drawing ends later, so that no difference of two times overflows.
 const LATEST: i64 = 4_600_000_000_000_000_000;
 
-/// Where the drawing of a sample ends: at the next one. The last is as wide as the one before it.
+/// Where the drawing of a sample ends.
 fn end_of(times: &[i64], j: usize) -> i64 {
-    match (times.get(j + 1), j.checked_sub(1)) {
-        (Some(&next), _) => next,
-        (None, Some(before)) => times[j].saturating_add(times[j] - times[before]).min(LATEST),
-        (None, None) => times[j] + SECOND,
-    }
+    times[j].saturating_add_unsigned(step(times, j)).min(LATEST)
 }
 
 /// The time axis.
@@ -182,7 +336,7 @@ impl Axis {
     fn of(listing: &Listing) -> Axis {
         let times = &listing.plan.times;
         let longest = listing.rows.iter().map(|row| width_of(&printable(row.name))).fold(0.0, f64::max);
-        let left = EDGE + 10.0 + longest.clamp(30.0, NAME_MOST);
+        let left = (EDGE + 10.0 + longest.clamp(30.0, NAME_MOST)).ceil();
         let (mut first, mut end) = match times.len() {
             0 => (0, SECOND),
             n => (times[0], end_of(times, n - 1)),
@@ -198,6 +352,15 @@ impl Axis {
     }
     fn x(&self, time: i64) -> f64 {
         self.left + (time - self.first) as f64 / (self.end - self.first) as f64 * (WIDTH - RIGHT - self.left)
+    }
+    /// Where a piece begins and ends.
+    fn ends(&self, times: &[i64], piece: &Piece) -> (f64, f64) {
+        let (first, last) = piece.samples();
+        (self.x(times[first]), self.x(end_of(times, last)))
+    }
+    fn is_narrow(&self, times: &[i64], piece: &Piece) -> bool {
+        let (from, to) = self.ends(times, piece);
+        to - from < 1.0
     }
     /// What lies outside the selected times is shaded.
     fn outside(&self, svg: &mut String, listing: &Listing, top: f64, bottom: f64) {
@@ -411,7 +574,7 @@ mod tests {
     use proptest::prelude::*;
 
     #[test]
-    fn calendar_days() {
+    fn steps_of_days_and_months_follow_the_calendar() {
         let at = |text: &str| instant::parse(text).unwrap();
         let of = |step: Step, first, end| {
             let times = step.times(at(first), at(end));
@@ -433,7 +596,7 @@ mod tests {
         assert_eq!(end_of(&[-most, most], 1), LATEST);
     }
     #[test]
-    fn only_characters_of_xml() {
+    fn characters_that_xml_lacks_are_replaced() {
         let text: String = ('\0'..='\u{10ffff}').collect();
         for c in escaped(&text).chars() {
             assert!(matches!(c, '\t' | '\n' | '\r' | ' '..='\u{d7ff}' | '\u{e000}'..='\u{fffd}' | '\u{10000}'..), "{:?}", c);

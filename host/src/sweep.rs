@@ -96,7 +96,7 @@ impl Sweep {
         let (plan, path) = self.files.read()?;
         let asked = self.asked(&plan)?;
         let selected = self.selection.of(&plan)?;
-        self.outputs.check(&plan, &path)?;
+        self.outputs.check(&plan, &path, &selected)?;
         tell_remarks(&plan);
         stop::listen();
         let mut journal = Journal::open(&path, self.wait)?;

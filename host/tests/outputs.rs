@@ -29,7 +29,7 @@ fn closed() -> Stdio {
 }
 
 #[test]
-fn a_closed_pipe_loses_no_file() {
+fn files_are_written_though_nobody_reads_standard_output() {
     let f = folder();
     let lines = |name: &str| f.read(name).lines().count();
     for (words, files) in [
@@ -48,7 +48,7 @@ fn a_closed_pipe_loses_no_file() {
 }
 
 #[test]
-fn no_output_takes_the_place_of_a_file_that_is_needed() {
+fn an_output_never_overwrites_a_file_of_the_plan_or_another_output() {
     let f = folder().swept();
     fs::hard_link(f.path("t.csv"), f.path("hard")).unwrap();
     symlink("e.csv", f.path("soft")).unwrap();
@@ -69,7 +69,7 @@ fn no_output_takes_the_place_of_a_file_that_is_needed() {
 }
 
 #[test]
-fn what_can_be_refused_is_refused_before_the_sweep() {
+fn outputs_that_cannot_be_written_are_refused_before_the_sweep() {
     let f = folder();
     fs::create_dir(f.path("d")).unwrap();
     symlink("nowhere", f.path("loose")).unwrap();
@@ -91,7 +91,7 @@ fn what_can_be_refused_is_refused_before_the_sweep() {
 }
 
 #[test]
-fn a_part_says_what_it_does_not_write() {
+fn a_partial_sweep_names_the_outputs_it_does_not_write() {
     let f = Folder::new(&["A", "B"], &"01".repeat(40), "tolerance = 10\n");
     let ended = f.run(&["sweep", "plan.toml", "--part", "1/2", "--csv", "w.csv", "--svg", "w.svg"]);
     ended.says(0, &["--csv w.csv, --svg w.svg were not written, as windows are listed of a whole sweep only", "wilfnusk windows"]);
@@ -180,11 +180,88 @@ fn calls(mut command: Command) -> Vec<i64> {
     }
 }
 
-/// The new file is synced before it takes the name, and the folder after.
 #[test]
-fn a_file_lasts() {
+fn a_file_is_synced_before_it_takes_the_name_and_its_folder_after() {
     let f = folder().swept();
     let calls = calls(f.command(&["windows", "plan.toml", "-q", "--csv", "w.csv"]));
     let told: Vec<_> = calls.into_iter().filter(|call| [libc::SYS_fsync, libc::SYS_rename].contains(call)).collect();
     assert_eq!(told, [libc::SYS_fsync, libc::SYS_rename, libc::SYS_fsync]);
+}
+
+/// A journal or its digest under any name is no output, whole or as a power cut left its header; other files are replaced.
+#[test]
+fn an_output_never_overwrites_a_journal_or_a_digest_whatever_its_name() {
+    let f = folder().swept();
+    let (journal, digest) = (f.read("plan.journal"), f.read("plan.journal.plan"));
+    let refused = [
+        ("part1.journal", &journal[..]),
+        ("w.csv", &journal),
+        ("header", &journal[..107]),
+        ("cut", &journal[..106]),
+        ("shorter", &journal[..24]),
+        ("part1.journal.plan", &digest),
+        ("w.json", &digest),
+    ];
+    for (name, text) in refused {
+        f.write(name, text);
+    }
+    symlink("part1.journal", f.path("link")).unwrap();
+    let before = f.all();
+    let what = |text: &str| if text.starts_with("wilfnusk plan ") { "the digest of a journal (J.plan)" } else { "a journal" };
+    for (name, text) in refused.into_iter().chain([("link", &journal[..])]) {
+        let says =
+            format!(" {}: this file begins as {} does, and is not overwritten; name another, or remove it first\n", name, what(text));
+        for command in ["windows", "sweep"] {
+            for option in ["--csv", "--json", "--svg", "--summary"] {
+                f.run(&[command, "plan.toml", option, name]).says(2, &[&format!("{}{}", option, says)]);
+            }
+        }
+        f.run(&["rolls", "plan.toml", "--csv", name]).says(2, &[&format!("--csv{}", says)]);
+    }
+    assert!(f.all() == before, "a refused command changed a file");
+    let hexadecimal = "0123456789abcdef".repeat(8);
+    for old in ["", "x", &hexadecimal[..23], &hexadecimal, &hexadecimal[..107], &journal[..106].to_uppercase(), "wilfnusk plans\n"] {
+        f.write("old", old);
+        f.run(&["windows", "plan.toml", "--csv", "old"]).says(0, &["wrote old\n"]);
+    }
+    // What the program writes itself is replaced.
+    for option in ["--csv", "--json", "--svg", "--summary"] {
+        for _ in 0..2 {
+            f.run(&["windows", "plan.toml", option, "own"]).says(0, &["wrote own\n"]);
+        }
+        fs::remove_file(f.path("own")).unwrap();
+    }
+}
+
+/// Whether the folder in which an output is made is there, with the output in it if it is to be.
+fn aside(f: &Folder, with_file: bool) -> bool {
+    let entries = fs::read_dir(f.path(".")).unwrap().map(|entry| entry.unwrap());
+    let mut aside = entries.filter(|entry| entry.file_name().to_string_lossy().starts_with(".wilfnusk-"));
+    aside.any(|entry| !with_file || entry.path().join("new").exists())
+}
+
+/// The signal comes while the file is being written; a machine on which the writing ends first tries again.
+#[test]
+fn a_signal_while_an_output_is_written_leaves_no_folder_and_the_old_file() {
+    let names: Vec<_> = (0..2000).map(|i| format!("T{}", i)).collect();
+    let f = Folder::new(&names.iter().map(String::as_str).collect::<Vec<_>>(), &"0011".repeat(16), "tolerance = 10\n").swept();
+    for signal in [libc::SIGINT, libc::SIGTERM] {
+        let mut stopped = None;
+        for _ in 0..20 {
+            f.write("w.json", "old\n");
+            let mut child = f.command(&["windows", "plan.toml", "-q", "--json", "w.json"]).stderr(Stdio::piped()).spawn().unwrap();
+            while !aside(&f, true) && child.try_wait().unwrap().is_none() {}
+            assert_eq!(unsafe { libc::kill(child.id() as libc::pid_t, signal) }, 0);
+            let ended = child.wait_with_output().unwrap();
+            assert!(!aside(&f, false), "signal {} left a folder behind", signal);
+            if ended.status.code() != Some(0) {
+                stopped = Some(ended);
+                break;
+            }
+        }
+        let ended = stopped.expect("the writing always ended before the signal");
+        assert_eq!(ended.status.code(), Some(130));
+        assert!(String::from_utf8(ended.stderr).unwrap().ends_with("wilfnusk: stopped; w.json was not written\n"));
+        assert_eq!(f.read("w.json"), "old\n");
+    }
 }

@@ -1,8 +1,9 @@
 //! The timeline: well-formed, with an axis that can be read over any span and samples as wide as their steps.
 mod common;
 
-use common::Folder;
+use common::{json, Folder};
 use roxmltree::{Document, Node};
+use std::{collections::HashMap, fs, time::Duration};
 
 /// A picture of one target with a sample at each of these times, marked where a time has an exclamation mark.
 fn picture(name: &str, times: &[&str]) -> String {
@@ -12,6 +13,68 @@ fn picture(name: &str, times: &[&str]) -> String {
     f.write("e.csv", &format!("time,sun_x,sun_y,sun_z,observer_x,observer_y,observer_z\n{}", rows.collect::<String>()));
     f.run(&["sweep", "plan.toml", "--svg", "w.svg"]).says(0, &["wrote w.svg"]);
     f.read("w.svg")
+}
+
+/// Each row's painted area by colour, as shares of what the row has painted, and how many elements it is drawn with.
+fn painted(svg: &Document) -> Vec<(HashMap<String, f64>, usize)> {
+    let labels = svg.descendants().filter(|n| n.attribute("text-anchor") == Some("end"));
+    let rows: Vec<_> = labels.map(|n| number(n, "y")).collect();
+    let mut painted = vec![(HashMap::new(), 0); rows.len()];
+    for n in svg.descendants().filter(|n| n.children().any(|c| c.has_tag_name("title"))) {
+        let (y, area) = match n.tag_name().name() {
+            "rect" => (number(n, "y"), number(n, "width") * number(n, "height")),
+            "path" => outline(n.attribute("d").unwrap()),
+            _ => continue,
+        };
+        // A row's band begins 11 above the line of its name and is 14 high.
+        let row = rows.iter().position(|line| (line - 12.0..line + 4.0).contains(&y)).unwrap();
+        *painted[row].0.entry(n.attribute("fill").unwrap().to_owned()).or_insert(0.0) += area;
+        painted[row].1 += 1;
+    }
+    for (areas, _) in &mut painted {
+        let all: f64 = areas.values().sum();
+        areas.values_mut().for_each(|area| *area /= all);
+    }
+    painted
+}
+
+/// The least height and the area of boxes such as M1 2h3v4h-3z.
+fn outline(d: &str) -> (f64, f64) {
+    let boxes: Vec<Vec<f64>> = d
+        .split('M')
+        .skip(1)
+        .map(|one| one.trim_end_matches('z').split([' ', 'h', 'v']).map(|number| number.parse().unwrap()).collect())
+        .collect();
+    assert!(boxes.iter().all(|b| b.len() == 5 && b[2] == -b[4] && b[2] > 0.0 && b[3] > 0.0), "{}", d);
+    (boxes.iter().map(|b| b[1]).fold(f64::INFINITY, f64::min), boxes.iter().map(|b| b[2] * b[3]).sum())
+}
+
+/// The relative luminance of a colour such as #3a8f7b, and the contrast of two: as the guidelines for readable web pages (WCAG 2) define them.
+fn luminance(colour: &str) -> f64 {
+    let part = |i: usize| {
+        let c = f64::from(u8::from_str_radix(&colour[i..i + 2], 16).unwrap()) / 255.0;
+        if c <= 0.04045 {
+            c / 12.92
+        } else {
+            ((c + 0.055) / 1.055).powf(2.4)
+        }
+    };
+    0.2126 * part(1) + 0.7152 * part(3) + 0.0722 * part(5)
+}
+fn contrast(a: &str, b: &str) -> f64 {
+    let (a, b) = (luminance(a), luminance(b));
+    (a.max(b) + 0.05) / (a.min(b) + 0.05)
+}
+
+/// The colour beside a word of the legend.
+fn colour_of(svg: &Document, word: &str) -> String {
+    let text = svg.descendants().find(|n| n.has_tag_name("text") && n.text() == Some(word)).unwrap();
+    let swatch = text.prev_siblings().find(|n| n.has_tag_name("rect")).unwrap();
+    swatch.attribute("fill").unwrap().to_owned()
+}
+
+fn of_docs(name: &str) -> String {
+    fs::read_to_string(format!("{}/../docs/{}", env!("CARGO_MANIFEST_DIR"), name)).unwrap()
 }
 
 fn number(node: Node, name: &str) -> f64 {
@@ -42,12 +105,14 @@ const DIGIT: f64 = 7.64;
 
 /// The example is the same on every machine, and so is its picture.
 #[test]
-fn the_picture_of_the_documents() {
+fn the_picture_in_the_documents_is_the_demo_s() {
     let f = Folder::new(&[], "", "");
     f.run(&["example", "season"]).says(0, &[]);
     f.run(&["sweep", "season/plan.toml", "--svg", "w.svg"]).says(0, &["wrote w.svg"]);
-    let of_docs = std::fs::read_to_string(concat!(env!("CARGO_MANIFEST_DIR"), "/../docs/windows.svg")).unwrap();
-    assert!(f.read("w.svg") == of_docs, "docs/windows.svg is not what ./demo draws: put build/demo/windows.svg in its place");
+    assert!(
+        f.read("w.svg") == of_docs("windows.svg"),
+        "docs/windows.svg is not what ./demo draws: put build/demo/windows.svg in its place"
+    );
 }
 
 #[test]
@@ -71,7 +136,7 @@ fn an_axis_above_and_below_with_labels_that_leave_each_other_room() {
     ] {
         let text = picture("A", &[first, second]);
         let svg = Document::parse(&text).unwrap();
-        let row = svg.descendants().find(|n| n.children().any(|c| c.has_tag_name("title"))).map(|n| number(n, "y")).unwrap();
+        let row = svg.descendants().find(|n| n.attribute("text-anchor") == Some("end")).map(|n| number(n, "y")).unwrap();
         let lines = labels(&svg);
         for line in [lines.iter().filter(|line| line.0 < row).last(), lines.iter().find(|line| line.0 > row)] {
             let (_, near) = line.unwrap_or_else(|| panic!("{}: an axis is missing", second));
@@ -129,7 +194,7 @@ fn a_sample_is_as_wide_as_its_step() {
 }
 
 #[test]
-fn a_single_sample() {
+fn a_single_sample_fills_the_picture_and_has_one_label() {
     let text = picture("A", &["2026-03-20T00:00:00Z!"]);
     let svg = Document::parse(&text).unwrap();
     assert!(bands(&svg).len() == 1 && bands(&svg)[0].2 > 500.0);
@@ -139,7 +204,7 @@ fn a_single_sample() {
 }
 
 #[test]
-fn any_name_is_well_formed() {
+fn any_name_makes_well_formed_xml() {
     let minute = ["2026-03-20T00:00:00Z", "2026-03-20T00:01:00Z"];
     for name in ["\u{fffe}", "\u{ffff}x", "<a>&amp;]]>'", "\u{1b}[31m\u{7f}\u{85}", "a\n\tb", "\u{1f680}\u{1fffe}"] {
         let text = picture(name, &minute);
@@ -153,7 +218,7 @@ fn any_name_is_well_formed() {
 }
 
 #[test]
-fn a_long_name_is_cut_and_told_whole() {
+fn a_long_name_is_cut_and_shown_whole_under_the_pointer() {
     let name = "a name that is far too long for any picture of a thousand pixels ".repeat(4);
     let text = picture(name.trim(), &["2026-03-20T00:00:00Z"]);
     let svg = Document::parse(&text).unwrap();
@@ -165,4 +230,125 @@ fn a_long_name_is_cut_and_told_whole() {
         shown
     );
     assert!(label.children().any(|n| n.has_tag_name("title") && n.text() == Some(name.trim())));
+}
+
+/// In the demo, where windows are days long: every row is painted by its shares of the time.
+#[test]
+fn each_row_of_the_demo_is_painted_by_its_time_shares() {
+    let f = Folder::new(&[], "", "");
+    f.run(&["example", "season"]).says(0, &[]);
+    f.run(&["sweep", "season/plan.toml", "-q", "--svg", "w.svg", "--json", "w.json"]).says(0, &[]);
+    let (text, told) = (f.read("w.svg"), json(&f.read("w.json")));
+    let svg = Document::parse(&text).unwrap();
+    let rows = painted(&svg);
+    assert_eq!(rows.len(), 16);
+    let violated = colour_of(&svg, "violated");
+    for (row, target) in rows.iter().zip(told["targets"].as_array().unwrap()) {
+        let due = target["totals"]["violated"]["time_share"].as_f64().unwrap();
+        assert!((row.0.get(&violated).copied().unwrap_or(0.0) - due).abs() < 1e-4, "{}: {:?} and {}", target["name"], row, due);
+    }
+}
+
+/// As many samples as a plan may have, far more than the picture has columns: two clear and one violated, or one of each. Each row is painted by
+/// its shares of the time, with few elements.
+#[test]
+fn windows_narrower_than_a_pixel_are_painted_by_their_time_shares() {
+    let sun = |mark: bool| if mark { "0,0,1" } else { "0,1,0" };
+    for (pattern, visible) in [("001", 2.0 / 3.0), ("01", 0.0)] {
+        let f = Folder::new(&["A", "B"], "", "tolerance = 10\n");
+        let mut text = String::from("time,sun_x,sun_y,sun_z,observer_x,observer_y,observer_z\n");
+        for j in 0..65_536 {
+            let (hours, minute, second) = (j / 3600, j / 60 % 60, j % 60);
+            let mark = pattern.as_bytes()[j % pattern.len()] == b'1';
+            text += &format!("2026-03-20T{:02}:{:02}:{:02}Z,{},0,0,0\n", hours, minute, second, sun(mark));
+        }
+        f.write("e.csv", &text);
+        f.run(&["sweep", "plan.toml", "-q", "--svg", "w.svg"]).says(0, &[]);
+        let text = f.read("w.svg");
+        assert!(text.len() < 300_000, "{} bytes", text.len());
+        let svg = Document::parse(&text).unwrap();
+        let share = |row: &HashMap<String, f64>, word: &str| row.get(&colour_of(&svg, word)).copied().unwrap_or(0.0);
+        for (row, elements) in painted(&svg) {
+            assert!((share(&row, "visible") - visible).abs() < 0.01, "{:?}", row);
+            assert!((share(&row, "violated") - 1.0 / pattern.len() as f64).abs() < 0.01, "{:?}", row);
+            assert!(elements < 1000, "{} elements", elements);
+        }
+        assert!(text.contains("heights show their shares of the time"));
+    }
+}
+
+/// Windows of all widths: the area is the share of the time, and the elements of a row are no more than its columns and some.
+#[test]
+fn windows_of_mixed_widths_are_painted_by_their_time_shares() {
+    // Runs of 1, 2, 3, .. samples of each kind, then single ones, then long ones.
+    let runs = (1..60).chain([1; 400]).chain([300, 1, 500, 2, 1, 1, 4]);
+    let marks: String = runs.enumerate().map(|(i, length)| ["0", "1"][i % 2].repeat(length)).collect();
+    let f = Folder::new(&["A"], "", "tolerance = 10\n");
+    let mut text = String::from("time,sun_x,sun_y,sun_z,observer_x,observer_y,observer_z\n");
+    for (j, mark) in marks.chars().enumerate() {
+        // Steps of 1 and of 3 seconds.
+        let at = Duration::from_secs(2 * j as u64 + j as u64 % 2).as_secs();
+        let sun = if mark == '1' { "0,0,1" } else { "0,1,0" };
+        text += &format!("2026-03-20T{:02}:{:02}:{:02}Z,{},0,0,0\n", at / 3600, at / 60 % 60, at % 60, sun);
+    }
+    f.write("e.csv", &text);
+    f.run(&["sweep", "plan.toml", "-q", "--svg", "w.svg", "--json", "w.json"]).says(0, &[]);
+    let (text, told) = (f.read("w.svg"), json(&f.read("w.json")));
+    let svg = Document::parse(&text).unwrap();
+    let (row, elements) = &painted(&svg)[0];
+    let due = told["totals"]["violated"]["time_share"].as_f64().unwrap();
+    assert!((row[&colour_of(&svg, "violated")] - due).abs() < 0.001, "{:?} and {}", row, due);
+    assert!(*elements < 1000, "{} elements", elements);
+}
+
+#[test]
+fn the_two_kinds_differ_in_grey_print_and_every_text_is_dark_enough() {
+    let text = of_docs("windows.svg");
+    let svg = Document::parse(&text).unwrap();
+    let (visible, violated) = (colour_of(&svg, "visible"), colour_of(&svg, "violated"));
+    assert!(contrast(&visible, &violated) >= 3.0, "{} and {}: {:.2}", visible, violated, contrast(&visible, &violated));
+    for name in ["windows.svg", "frame.svg"] {
+        let text = of_docs(name);
+        let svg = Document::parse(&text).unwrap();
+        let title = svg.root_element().first_element_child().unwrap();
+        assert!(title.has_tag_name("title") && title.text().map_or(false, |text| !text.is_empty()), "{} has no title", name);
+        for n in svg.descendants().filter(|n| n.has_tag_name("text")) {
+            let colour = n.attribute("fill").unwrap();
+            assert!(contrast(colour, "#ffffff") >= 4.5, "{}: {:?} in {}: {:.2}", name, n.text(), colour, contrast(colour, "#ffffff"));
+        }
+    }
+}
+
+/// The mildest severity is as far from the visible colour in grey print, and the worst is darker.
+#[test]
+fn severities_are_darker_than_the_violated_colour() {
+    let f = Folder::new(&["A"], "", "tolerance = 10\nconfigured_roll = 0\n");
+    let turn =
+        |j: usize, angle: f64| format!("2026-03-20T00:0{}:00Z,0,{},{},0,0,0\n", j, angle.to_radians().cos(), angle.to_radians().sin());
+    let rows = [11.0, 0.0, 0.0, 90.0, 0.0, 0.0, 180.0].iter().enumerate().map(|(j, &angle)| turn(j, angle));
+    f.write("e.csv", &format!("time,sun_x,sun_y,sun_z,observer_x,observer_y,observer_z\n{}", rows.collect::<String>()));
+    let text = f.run(&["windows", "plan.toml", "--evaluate", "--svg", "-"]).stdout;
+    let svg = Document::parse(&text).unwrap();
+    let visible = colour_of(&svg, "visible");
+    let shades: Vec<_> = bands(&svg).into_iter().map(|(colour, ..)| colour).filter(|colour| *colour != visible).collect();
+    assert_eq!(shades.len(), 3);
+    assert!(shades.iter().all(|colour| contrast(colour, &visible) >= 3.0), "{:?}", shades);
+    assert!(shades.windows(2).all(|pair| luminance(pair[0]) > luminance(pair[1])), "{:?}", shades);
+}
+
+#[test]
+fn a_picture_of_more_than_400_targets_is_refused_before_any_work() {
+    let names: Vec<_> = (0..401).map(|i| format!("T{:03}", i)).collect();
+    let f = Folder::new(&names.iter().map(String::as_str).collect::<Vec<_>>(), "01", "tolerance = 10\n");
+    let before = f.all();
+    let says = "--svg w.svg: a picture of 401 targets would be too tall to read; allowed: at most 400; select some with --target, \
+        which takes names and patterns such as 'M *'";
+    f.run(&["sweep", "plan.toml", "--svg", "w.svg"]).says(2, &[says]);
+    assert!(f.all() == before, "the sweep was begun");
+    let f = f.swept();
+    f.run(&["windows", "plan.toml", "--svg", "w.svg"]).says(2, &[says]);
+    f.run(&["windows", "plan.toml", "--svg", "-"]).says(2, &["--svg -: a picture of 401 targets"]);
+    f.run(&["windows", "plan.toml", "-q", "--svg", "w.svg", "--target", "T[0123]*"]).says(0, &["wrote w.svg"]);
+    let text = f.read("w.svg");
+    assert_eq!(painted(&Document::parse(&text).unwrap()).len(), 400);
 }
