@@ -23,7 +23,26 @@ static uint64_t bits_of(double x)
     return bits;
 }
 
-/* The quarter turns at declination 0, and a pole; a place beyond them; each refusal leaves every place as it was. */
+/* Each name is its number, and an answer below 0 is minus one of them. */
+static void reasons(void)
+{
+    const wilfnusk_reason by_number[20] = {
+        WILFNUSK_LENGTHS_DO_NOT_FIT, WILFNUSK_TOO_LARGE, WILFNUSK_ROLL_COUNT_OUT_OF_RANGE, WILFNUSK_POSITION_OUT_OF_RANGE,
+        WILFNUSK_TARGET_OUT_OF_RANGE, WILFNUSK_PANEL_OUT_OF_RANGE, WILFNUSK_OUTPUT_TOO_SHORT, WILFNUSK_TIME_OUT_OF_RANGE,
+        WILFNUSK_NO_SUCH_INDEX, WILFNUSK_CHUNK_HAS_LINE, WILFNUSK_JOURNAL_NOT_RIGHT, WILFNUSK_JOURNAL_TORN,
+        WILFNUSK_JOURNAL_NOT_EMPTY, WILFNUSK_SAMPLE_INVALID, WILFNUSK_CHUNK_LACKS_LINE, WILFNUSK_RADEC_OUT_OF_RANGE,
+        WILFNUSK_TOLERANCE_COUNT_DIFFERS, WILFNUSK_ROLL_TABLE_LENGTH, WILFNUSK_ROLL_TABLE_ENTRY, WILFNUSK_TARGET_NOT_UNIT};
+    uint64_t out[3];
+    int k;
+
+    for (k = 0; k < 20; k++)
+        expect((int)by_number[k] == k + 1, "a reason's name is its number");
+    expect(wilfnusk_cost(70000, 1, 1, out, 3) == -WILFNUSK_TOO_LARGE, "too many targets, by name");
+    expect(wilfnusk_cost(1, 1, 0, out, 3) == -WILFNUSK_ROLL_COUNT_OUT_OF_RANGE, "no rolls, by name");
+    expect(wilfnusk_cost(1, 1, 1, out, 2) == -WILFNUSK_OUTPUT_TOO_SHORT, "two places for three numbers, by name");
+}
+
+/* The quarter turns at declination 0, and a pole; an element beyond them; each refusal leaves every element as it was. */
 static void catalogue(void)
 {
     const double eighth = 0.78539816339744828; /* P/4 */
@@ -47,11 +66,11 @@ static void catalogue(void)
     expect(memcmp(out, untouched, sizeof out) == 0, "positions: refused, and every byte as it was");
     expect(wilfnusk_radec_to_unit_vectors_batch(ra, 5, dec, 5, out, 16) == 0, "five positions");
     expect(memcmp(out, vectors, sizeof vectors) == 0, "their vectors, byte by byte");
-    expect(memcmp(&out[15], &untouched[15], sizeof out[15]) == 0, "the place beyond the vectors as it was");
+    expect(memcmp(&out[15], &untouched[15], sizeof out[15]) == 0, "the element beyond the vectors as it was");
 }
 
-/* The example's target twice, the second with a tolerance that no cell is beyond; then lists that are not one a target, to every call with a plan:
- * each leaves every byte as it was. */
+/* The example's target twice, the second with a tolerance that no cell exceeds; then lists of tolerances that are too short or too long, to every
+ * call with a plan: each leaves every byte as it was. */
 static void tolerances(void)
 {
     const double targets[6] = {1, 0, 0, 1, 0, 0};
@@ -65,17 +84,17 @@ static void tolerances(void)
     uint64_t stopped = 7;
     size_t length;
 
-#define LENT(length, has_roll) targets, 6, suns, 6, observers, 6, list, length, has_roll, 0.0, 0.0, 1.0, 0.0
-    expect(wilfnusk_in_constraint_batch(LENT(2, 1), mask, 4) == 0 && memcmp(mask, marks, 4) == 0, "marks by each target's tolerance");
-    expect(wilfnusk_in_constraint_batch_at_roll(LENT(2, 0), 0, 0.0, mask, 4) == 0 && memcmp(mask, marks, 4) == 0, "marks at a roll");
-    expect(wilfnusk_constrained_at_every_roll(LENT(2, 0), 1, mask, 4) == 0 && memcmp(mask, marks, 4) == 0, "marks at every roll");
-    expect(wilfnusk_evaluate(LENT(2, 1), 0, mask, 2, values, 2) == 0 && memcmp(values, severe, sizeof severe) == 0, "severities of target 0");
-    expect(wilfnusk_evaluate(LENT(2, 1), 1, mask, 2, values, 2) == 0 && memcmp(values, none, sizeof none) == 0, "severities of target 1");
-    expect(wilfnusk_field_of_regard_violated_batch(LENT(2, 0), 1, 1, mask, 2) == 0 && memcmp(mask, field, 2) == 0, "field of regard");
-    expect(wilfnusk_field_of_regard_violated_at_roll(LENT(2, 0), 1, 0.0, mask, 2) == 0 && memcmp(mask, field, 2) == 0, "field of regard at a roll");
-    expect(wilfnusk_begin(LENT(2, 0), 1, journal, sizeof journal, 0) == 107 && memcmp(journal + 24, "4024000000000000", 16) == 0,
+#define PASSED(length, has_roll) targets, 6, suns, 6, observers, 6, list, length, has_roll, 0.0, 0.0, 1.0, 0.0
+    expect(wilfnusk_in_constraint_batch(PASSED(2, 1), mask, 4) == 0 && memcmp(mask, marks, 4) == 0, "marks by each target's tolerance");
+    expect(wilfnusk_in_constraint_batch_at_roll(PASSED(2, 0), 0, 0.0, mask, 4) == 0 && memcmp(mask, marks, 4) == 0, "marks at a roll");
+    expect(wilfnusk_constrained_at_every_roll(PASSED(2, 0), 1, mask, 4) == 0 && memcmp(mask, marks, 4) == 0, "marks at every roll");
+    expect(wilfnusk_evaluate(PASSED(2, 1), 0, mask, 2, values, 2) == 0 && memcmp(values, severe, sizeof severe) == 0, "severities of target 0");
+    expect(wilfnusk_evaluate(PASSED(2, 1), 1, mask, 2, values, 2) == 0 && memcmp(values, none, sizeof none) == 0, "severities of target 1");
+    expect(wilfnusk_field_of_regard_violated_batch(PASSED(2, 0), 1, 1, mask, 2) == 0 && memcmp(mask, field, 2) == 0, "field of regard");
+    expect(wilfnusk_field_of_regard_violated_at_roll(PASSED(2, 0), 1, 0.0, mask, 2) == 0 && memcmp(mask, field, 2) == 0, "field of regard at a roll");
+    expect(wilfnusk_begin(PASSED(2, 0), 1, journal, sizeof journal, 0) == 107 && memcmp(journal + 24, "4024000000000000", 16) == 0,
            "the header has the first tolerance");
-    expect(wilfnusk_work(LENT(2, 0), 1, 0, journal, sizeof journal, 107) == 140, "work with a tolerance a target");
+    expect(wilfnusk_work(PASSED(2, 0), 1, 0, journal, sizeof journal, 107) == 140, "work with one tolerance per target");
     expect(memcmp(journal + 107, "00000000000000000000000200000004\n", 33) == 0, "its line");
 
     memset(bytes, 0xa5, sizeof bytes);
@@ -85,19 +104,19 @@ static void tolerances(void)
     for (length = 0; length < 4; length++) {
         if (length == 2)
             continue;
-        expect(wilfnusk_named_values(LENT(length, 1), values, 4) == -17, "named values: not one tolerance a target");
-        expect(wilfnusk_in_constraint_batch(LENT(length, 1), bytes, 4) == -17, "batch: not one tolerance a target");
-        expect(wilfnusk_in_constraint_batch_at_roll(LENT(length, 1), 1, 0.0, bytes, 4) == -17, "at a roll: not one tolerance a target");
-        expect(wilfnusk_constrained_at_every_roll(LENT(length, 1), 1, bytes, 4) == -17, "every roll: not one tolerance a target");
-        expect(wilfnusk_evaluate(LENT(length, 1), 0, bytes, 2, values, 2) == -17, "row: not one tolerance a target");
-        expect(wilfnusk_evaluate(LENT(length, 1), 2, bytes, 2, values, 2) == -17, "row: 17 before 9");
-        expect(wilfnusk_field_of_regard_violated_batch(LENT(length, 1), 0, 1, bytes, 2) == -17, "field of regard: not one tolerance a target");
-        expect(wilfnusk_field_of_regard_violated_at_roll(LENT(length, 1), 0, 0.0, bytes, 2) == -17, "field at a roll: not one tolerance a target");
-        expect(wilfnusk_begin(LENT(length, 1), 1, bytes, sizeof bytes, 0) == -17, "begin: not one tolerance a target");
-        expect(wilfnusk_work(LENT(length, 0), 1, 0, bytes, sizeof bytes, 107) == -17, "work: 17 before 11");
-        expect(wilfnusk_work_range(LENT(length, 0), 1, 0, 1, bytes, sizeof bytes, 107, &stopped) == -17 && stopped == 7, "work over a range: 17 before 11");
-        expect(wilfnusk_recover(LENT(length, 0), 1, journal, sizeof journal, 140) == -17, "recover: not one tolerance a target");
-        expect(wilfnusk_collect(LENT(length, 0), 1, journal, sizeof journal, 140, bytes, 0) == -17, "collect: 17 before 7");
+        expect(wilfnusk_named_values(PASSED(length, 1), values, 4) == -17, "named values: a tolerance too few or too many");
+        expect(wilfnusk_in_constraint_batch(PASSED(length, 1), bytes, 4) == -17, "batch: a tolerance too few or too many");
+        expect(wilfnusk_in_constraint_batch_at_roll(PASSED(length, 1), 1, 0.0, bytes, 4) == -17, "at a roll: a tolerance too few or too many");
+        expect(wilfnusk_constrained_at_every_roll(PASSED(length, 1), 1, bytes, 4) == -17, "every roll: a tolerance too few or too many");
+        expect(wilfnusk_evaluate(PASSED(length, 1), 0, bytes, 2, values, 2) == -17, "row: a tolerance too few or too many");
+        expect(wilfnusk_evaluate(PASSED(length, 1), 2, bytes, 2, values, 2) == -17, "row: 17 before 9");
+        expect(wilfnusk_field_of_regard_violated_batch(PASSED(length, 1), 0, 1, bytes, 2) == -17, "field of regard: a tolerance too few or too many");
+        expect(wilfnusk_field_of_regard_violated_at_roll(PASSED(length, 1), 0, 0.0, bytes, 2) == -17, "field at a roll: a tolerance too few or too many");
+        expect(wilfnusk_begin(PASSED(length, 1), 1, bytes, sizeof bytes, 0) == -17, "begin: a tolerance too few or too many");
+        expect(wilfnusk_work(PASSED(length, 0), 1, 0, bytes, sizeof bytes, 107) == -17, "work: 17 before 11");
+        expect(wilfnusk_work_range(PASSED(length, 0), 1, 0, 1, bytes, sizeof bytes, 107, &stopped) == -17 && stopped == 7, "work over a range: 17 before 11");
+        expect(wilfnusk_recover(PASSED(length, 0), 1, journal, sizeof journal, 140) == -17, "recover: a tolerance too few or too many");
+        expect(wilfnusk_collect(PASSED(length, 0), 1, journal, sizeof journal, 140, bytes, 0) == -17, "collect: 17 before 7");
     }
     expect(memcmp(bytes, same, sizeof bytes) == 0 && memcmp(values, same_values, sizeof values) == 0, "17, and every byte as it was");
     /* The list without targets is empty, its pointer is not NULL. */
@@ -108,14 +127,14 @@ static void tolerances(void)
 
 #define PLACES 41
 
-/* One of both plans with thirteen times, into the lists of which so many places are lent. */
-static int64_t write_plan(int costliest, uint64_t targets, uint64_t n, double lists[5][PLACES], const size_t lent[5])
+/* One of both plans with thirteen times, into lists of these lengths. */
+static int64_t write_plan(int costliest, uint64_t targets, uint64_t n, double lists[5][PLACES], const size_t lengths[5])
 {
     if (costliest)
-        return wilfnusk_costliest_plan(targets, 13, n, lists[0], lent[0], lists[1], lent[1], lists[2], lent[2], lists[3], lent[3], lists[4],
-                                       lent[4]);
-    return wilfnusk_cheapest_plan(targets, 13, n, lists[0], lent[0], lists[1], lent[1], lists[2], lent[2], lists[3], lent[3], lists[4],
-                                  lent[4]);
+        return wilfnusk_costliest_plan(targets, 13, n, lists[0], lengths[0], lists[1], lengths[1], lists[2], lengths[2], lists[3], lengths[3], lists[4],
+                                       lengths[4]);
+    return wilfnusk_cheapest_plan(targets, 13, n, lists[0], lengths[0], lists[1], lengths[1], lists[2], lengths[2], lists[3], lengths[3], lists[4],
+                                  lengths[4]);
 }
 
 /* Five targets and thirteen times, a cell more than a chunk holds: the cost, and both plans, each swept as it was written. Each refusal
@@ -127,7 +146,7 @@ static void costs(void)
     uint64_t cost[4] = {7, 7, 7, 7}, stopped;
     double lists[5][PLACES], expected[5][PLACES];
     uint8_t journal[256], mask[65];
-    size_t lent[5], list, k;
+    size_t lengths[5], list, k;
     int costliest;
 
     expect(wilfnusk_cost(wild, wild, 0, cost, 0) == -2, "cost: too many targets and times, before 3 and 7");
@@ -138,7 +157,7 @@ static void costs(void)
     expect(cost[0] == 173 && cost[1] == 65 && cost[2] == 4680, "a journal of 173 bytes, and 65 to 4,680 rolls");
     expect(cost[3] == 7, "the place beyond the cost as it was");
 
-    memcpy(lent, needed, sizeof lent);
+    memcpy(lengths, needed, sizeof lengths);
     for (costliest = 0; costliest < 2; costliest++) {
         const double tolerance = costliest ? -1 : 180;
         const double repeated[5][3] = {{1, 0, 0}, {0, 1, 0}, {0, 0, 0}, {tolerance, tolerance, tolerance}, {0, 1, 0}};
@@ -150,9 +169,9 @@ static void costs(void)
         expect(write_plan(costliest, wild, 0, lists, none) == -2, "plan: too many targets, before 3 and 7");
         expect(write_plan(costliest, 5, 0, lists, none) == -3, "plan: no rolls, before 7");
         for (list = 0; list < 5; list++) {
-            lent[list]--;
-            expect(write_plan(costliest, 5, 72, lists, lent) == -7, "plan: a list one short");
-            lent[list]++;
+            lengths[list]--;
+            expect(write_plan(costliest, 5, 72, lists, lengths) == -7, "plan: a list one short");
+            lengths[list]++;
         }
         expect(memcmp(lists, expected, sizeof lists) == 0, "plan: refused, and every byte as it was");
         for (list = 0; list < 5; list++)
@@ -207,12 +226,12 @@ static void rolls(void)
 
     wilfnusk_begin_rolls(SWEPT(1, table), bytes, sizeof bytes, 0);
     expect(wilfnusk_work_rolls(SWEPT(1, table), 0, bytes, sizeof bytes, 107) == 140 && memcmp(bytes + 107, "00000000000000000000000100000003\n", 33) == 0,
-           "a configured roll of 90 stands for each");
+           "a configured roll of 90 replaces each");
     wilfnusk_begin_rolls(SWEPT(0, even), bytes, sizeof bytes, 0);
     wilfnusk_begin(STEPPED, stepped, sizeof stepped, 0);
     expect(wilfnusk_work_rolls(SWEPT(0, even), 0, bytes, sizeof bytes, 107) == 140 && wilfnusk_work(STEPPED, 0, stepped, sizeof stepped, 107) == 140 &&
                memcmp(bytes, stepped, 140) == 0,
-           "two even steps lent as a table: the same bytes");
+           "two even steps passed as a table: the same bytes");
 
     bad[0] = zeros;
     bad[1] = full;
@@ -262,8 +281,8 @@ static void directions(void)
     expect(wilfnusk_cell(ten[0], ten[1], ten[2], 1, 0, 0, 0, 0, 0, 0, 1, 0, &roll) == 1, "cell: ten digits");
     expect(wilfnusk_cell(0.9999999996, 0, 0, 1, 0, 0, 0, 0, 0, 0, 1, 0, &roll) == 1, "cell: accepted, and by its length not Free with the Sun dead ahead");
 
-#define LENT_TARGETS(targets, panel_y) targets, 6, suns, 6, observers, 6, list, 2, 1, 0.0, 0.0, panel_y, 0.0
-#define HALF LENT_TARGETS(half, INFINITY)
+#define PASSED_TARGETS(targets, panel_y) targets, 6, suns, 6, observers, 6, list, 2, 1, 0.0, 0.0, panel_y, 0.0
+#define HALF PASSED_TARGETS(half, INFINITY)
     expect(wilfnusk_named_values(HALF, values, 4) == -20, "named values: a target of half length, before the panel");
     expect(wilfnusk_in_constraint_batch(HALF, bytes, 4) == -20, "batch: a target of half length");
     expect(wilfnusk_in_constraint_batch_at_roll(HALF, 1, 0.0, bytes, 4) == -20, "at a roll: a target of half length");
@@ -281,11 +300,11 @@ static void directions(void)
     expect(wilfnusk_work_range_rolls(HALF, table, 2, 0, 1, bytes, sizeof bytes, 107, &stopped) == -20 && stopped == 7, "range over a table: 20 before 11");
     expect(wilfnusk_recover_rolls(HALF, table, 2, bytes, sizeof bytes, 140) == -20, "recover over a table: 20 before 11");
     expect(wilfnusk_collect_rolls(HALF, table, 2, bytes, sizeof bytes, 140, mask, 0) == -20, "collect over a table: 20 before 11");
-    expect(wilfnusk_named_values(LENT_TARGETS(longer, 1.0), values, 4) == -5, "5 of the second target before 20 of the first");
+    expect(wilfnusk_named_values(PASSED_TARGETS(longer, 1.0), values, 4) == -5, "5 of the second target before 20 of the first");
     expect(memcmp(bytes, same, sizeof bytes) == 0 && memcmp(values, same_values, sizeof values) == 0, "20, and every byte as it was");
 
-    expect(wilfnusk_named_values(LENT_TARGETS(ten, 1.0), values, 4) == 0, "ten digits a number");
-    expect(wilfnusk_radec_to_unit_vectors_batch(ra, 2, dec, 2, vectors, 6) == 0 && wilfnusk_named_values(LENT_TARGETS(vectors, 1.0), values, 4) == 0,
+    expect(wilfnusk_named_values(PASSED_TARGETS(ten, 1.0), values, 4) == 0, "ten digits per number");
+    expect(wilfnusk_radec_to_unit_vectors_batch(ra, 2, dec, 2, vectors, 6) == 0 && wilfnusk_named_values(PASSED_TARGETS(vectors, 1.0), values, 4) == 0,
            "the vectors of a catalogue");
 }
 
@@ -310,6 +329,7 @@ int main(void)
     memcpy(&bits, &root, 8);
     expect(bits == 0x3ff6a09e667f3bcdULL, "root of 2");
     expect(wilfnusk_circular_diff_deg(350, 10) == 20, "difference of 350 and 10");
+    reasons();
     catalogue();
     tolerances();
     costs();
@@ -360,7 +380,7 @@ int main(void)
                records[0].severity == 1.5 && records[0].is_last == 0,
            "the first record: 1-1, not last");
     expect(memcmp(&records[1], second, sizeof second) == 0, "the second record, byte by byte");
-    expect(memcmp(&records[2], &untouched[2], sizeof records[2]) == 0, "the place beyond the records as it was");
+    expect(memcmp(&records[2], &untouched[2], sizeof records[2]) == 0, "the element beyond the records as it was");
 
     expect(wilfnusk_expand(first_time, 2, last_time, 2, times, 5, expanded, 5) == 0 && memcmp(expanded, row, 5) == 0, "expansion");
     expect(wilfnusk_total_violation_duration(first_time, 2, last_time, 2, severity) == 0 && severity[0] == 0, "seconds");

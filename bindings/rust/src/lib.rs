@@ -22,7 +22,7 @@
 mod refusal;
 pub mod sys;
 
-pub use refusal::{Call, Refusal};
+pub use refusal::{Call, Reason, Refusal};
 use std::ops::Range;
 pub use sys::Window;
 
