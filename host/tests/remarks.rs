@@ -1,7 +1,7 @@
 //! Whole commands on plans that are accepted and can hardly be meant: `check` warns on standard output, `sweep` and `windows` on standard error.
 mod common;
 
-use common::{done, run, told_by_every_command, Folder};
+use common::{document, done, run, told_by_every_command, Folder};
 
 const NAMES: [&str; 3] = ["A", "B", "C"];
 
@@ -303,4 +303,26 @@ fn columns_that_resemble_known_ones_are_named() {
         "warning: e.csv, line 1, column 57: column `Sun X [km]` is not used; `sun_x` is\n\
          warning: e.csv, line 1, column 68: column `Time_UTC` is not used; `time` is\n"
     );
+}
+
+#[test]
+fn the_document_s_examples_of_warnings_hold() {
+    let (document, unwrapped) = document();
+    let f = folder("panel = [1, 0, 0]\ntolerance = 5\n", None);
+    done(&f, "example season");
+    let checked = done(&f, "check season/plan.toml");
+    let sun: Vec<_> = checked.lines().filter(|line| line.contains(", distance ")).collect();
+    assert!(sun.len() == 2 && document.contains(&format!("\n{}\n", sun.join("\n"))), "{}", checked);
+    let shown = |plan: &Folder| {
+        let text = done(plan, "check plan.toml").replace("t.csv", "targets.csv").replace("e.csv", "ephemeris.csv");
+        let warnings: Vec<_> = text.lines().filter(|line| line.starts_with("warning: ")).collect();
+        assert!(warnings.len() == 1 && unwrapped.contains(warnings[0]), "not in docs/PLAN_FILE.md: {}", text);
+    };
+    shown(&f);
+    let f = folder("", None);
+    f.write("t.csv", "name,ra,dec,tolerance\nVega,279.235,38.784,5\nDeneb,310.358,45.280,nan\n");
+    shown(&f);
+    let f = folder("tolerance = 5\n", None);
+    f.write("e.csv", &ephemeris(&["0,1,0,0,0,0", "0,1,0,0,0,0"]));
+    shown(&f);
 }
