@@ -763,6 +763,20 @@ mod tests {
         }
         Ok(rows)
     }
+    const ENDS: &[&str] = &["\r", "\n", "\r\n"];
+    const COMMENTS: &[&str] = &["", "#", "# a,b", "# \"", "#,\"", "#\"a\",\"b", "#,\"\"\""];
+    const FIELDS: &[&str] =
+        &["a", " é ", "", "b\"c", "\"a\"", "\"a,b\"", "\"\"\"\"", "\"a\rb\"", "\"a\nb\"", "\"a\r\nb\"", "\"\r#\"\"\r\"", "\"a\"b", "#"];
+    const PIECES: &[&str] = &["a", ",", "\"", "#", " ", "\r", "\n", "\r\n", "\ra,b\r"];
+    fn line_of(texts: &'static [&'static str]) -> impl Strategy<Value = String> {
+        (prop::sample::select(texts), prop::sample::select(ENDS)).prop_map(|(text, end)| text.to_owned() + end)
+    }
+    /// A row of two fields, a comment or an empty line, or any pieces.
+    fn any_line() -> impl Strategy<Value = String> {
+        let row = (prop::sample::select(FIELDS), line_of(FIELDS)).prop_map(|(name, x)| format!("{},{}", name, x));
+        let pieces = prop::collection::vec(prop::sample::select(PIECES), 0..6).prop_map(|pieces| pieces.concat());
+        prop_oneof![12 => row, 6 => line_of(COMMENTS), 1 => pieces]
+    }
     proptest! {
         #[test]
         fn every_character_of_a_field_has_its_place(text in "[ab,\"\n\r# \u{a0}\u{3000}é]{0,60}") {
@@ -782,12 +796,8 @@ mod tests {
         }
         /// Whatever ends the lines, the rows, their fields and their line numbers are those of a reader that goes character by character.
         #[test]
-        fn rows_are_those_of_a_plain_reader(
-            first in prop::sample::select(&["", "# \"of\r", "\r\n", "#\r\n\r"][..]),
-            pieces in prop::collection::vec(prop::sample::select(&["a", "é", ",", "\"", "\"\"", "#", "# b,c", " ", "\r", "\n", "\r\n", "\ra,b\r", "\na,b\r\n"][..]), 0..24),
-            end in prop::sample::select(&["\r", "\n", "\r\n"][..]),
-        ) {
-            let text = format!("{}name,x{}{}", first, end, pieces.concat());
+        fn rows_are_those_of_a_plain_reader(comment in line_of(COMMENTS), end in prop::sample::select(ENDS), lines in prop::collection::vec(any_line(), 0..7)) {
+            let text = format!("{}name,x{}{}", comment, end, lines.concat());
             match (sheet(&text), plainly_read(&text)) {
                 (Ok(s), Ok(rows)) => {
                     let read: Vec<_> = s.fields().map(|f| (f[0].line(), [f[0].text().to_owned(), f[1].text().to_owned()].to_vec())).collect();

@@ -163,12 +163,12 @@ fn a_sun_that_no_almanac_has_there_is_warned_of() {
     off(
         &["0,1.5e8,0,0,0,0", "1.5e8,0,0,0,0,0"],
         &["e.csv, line 2, column 22: at 2026-03-20T00:00:00Z the Sun is at ra 90, dec 0 as seen from the observer, but an almanac has it at ra \
-           359.444, dec -0.241, 90.6 degrees away (more than 3 at 1 of 2 times); check the axes, the signs and the dates"],
+           359.444, dec -0.241 as seen from the Earth, 90.6 degrees away (more than 3 at 1 of 2 times); check the axes, the signs and the dates"],
     );
     off(
         &["1.5e8,0,0,0,0,0", "-1,0,0,0,0,0", "0,0,0,1.5e8,0,0"],
         &["e.csv, line 3, column 22: at 2026-03-20T00:01:00Z the Sun is at ra 180, dec 0 as seen from the observer, but an almanac has it at ra \
-           359.444, dec -0.241, 179.4 degrees away (more than 3 at 2 of 3 times); check the axes, the signs and the dates"],
+           359.444, dec -0.241 as seen from the Earth, 179.4 degrees away (more than 3 at 2 of 3 times); check the axes, the signs and the dates"],
     );
     // Just within 3 degrees of ra 359.443, and just beyond.
     off(&["1.5e8,0.0637e8,0,0,0,0"], &[]);
@@ -191,7 +191,7 @@ fn check_prints_the_sun_at_the_first_and_the_last_time() {
     let text = done(&f, "check plan.toml");
     assert!(
         text.contains(
-            "configured roll none\nsun      ra 0, dec 0, distance 149993000 at 2026-03-20T00:00:00Z\n         ra 0.382, dec 0.115, distance \
+            "\nsettings 8 rolls, tolerance 10, panel [0, 1, 0], configured roll none\nsun      ra 0, dec 0, distance 149993000 at 2026-03-20T00:00:00Z\n         ra 0.382, dec 0.115, distance \
              149996600 at 2026-03-20T00:02:00Z\nwarning: "
         ),
         "{}",
