@@ -40,17 +40,21 @@ fn masks(f: &Folder) -> Vec<String> {
 
 #[test]
 fn a_panel_that_no_roll_turns_is_warned_of() {
-    for panel in ["[1, 0, 0]", "[0, 0, 0]", "[0, 1e-13, 0]", "[-5, 1e-12, 0]", "[0, 7e-13, -7e-13]"] {
-        for more in ["tolerance = -1", "tolerance = nan", "tolerance = 1\nconfigured_roll = nan"] {
-            let f = folder(&format!("panel = {}\n{}\n", panel, more), None);
-            let says = format!(
-                "plan.toml, line 4, column 9: panel reads {}, and its part across the boresight, in y and z, is 1e-12 or shorter, so that every cell \
-                 is Free: nothing can be violated",
-                panel
-            );
-            warned(&f, &[&says]);
-            assert_eq!(masks(&f), ["000"; 3]);
-        }
+    for (panel, more) in [
+        ("[1, 0, 0]", "tolerance = 1"),
+        ("[0, 0, 0]", "tolerance = -1"),
+        ("[0, 1e-13, 0]", "tolerance = nan"),
+        ("[-5, 1e-12, 0]", "tolerance = 1\nconfigured_roll = nan"),
+        ("[0, 7e-13, -7e-13]", "tolerance = 180"),
+    ] {
+        let f = folder(&format!("panel = {}\n{}\n", panel, more), None);
+        let says = format!(
+            "plan.toml, line 4, column 9: panel reads {}, and its part across the boresight, in y and z, is 1e-12 or shorter, so that every cell is \
+             Free: nothing can be violated",
+            panel
+        );
+        warned(&f, &[&says]);
+        assert_eq!(masks(&f), ["000"; 3]);
     }
     for panel in ["[0, 1, 0]", "[0, 1.1e-12, 0]", "[9, 0, -2e-12]"] {
         let f = folder(&format!("panel = {}\ntolerance = 1\n", panel), None);
@@ -61,17 +65,14 @@ fn a_panel_that_no_roll_turns_is_warned_of() {
 
 #[test]
 fn a_configured_roll_that_leaves_one_answer_is_warned_of() {
-    for (roll, shown) in [("nan", "NaN"), ("-nan", "NaN"), ("inf", "inf"), ("-inf", "-inf")] {
-        for tolerance in ["1", "nan", "-1"] {
-            let f = folder(&format!("tolerance = {}\nconfigured_roll = {}\n", tolerance, roll), None);
-            let says = format!(
-                "plan.toml, line 5, column 19: configured_roll reads {}, and its difference from an optimal roll is not a number: nothing can be \
-                 violated",
-                shown
-            );
-            warned(&f, &[&says]);
-            assert_eq!(masks(&f), ["000"; 3]);
-        }
+    for (roll, shown, tolerance) in [("nan", "NaN", "1"), ("-nan", "NaN", "-1"), ("inf", "inf", "nan"), ("-inf", "-inf", "180")] {
+        let f = folder(&format!("tolerance = {}\nconfigured_roll = {}\n", tolerance, roll), None);
+        let says = format!(
+            "plan.toml, line 5, column 19: configured_roll reads {}, and its difference from an optimal roll is not a number: nothing can be violated",
+            shown
+        );
+        warned(&f, &[&says]);
+        assert_eq!(masks(&f), ["000"; 3]);
     }
     // So large that the optimal roll, up to 360, is lost in its difference.
     for (roll, difference, tolerance, mask) in
