@@ -19,7 +19,7 @@ pub fn tell_remarks(plan: &Plan) {
     remarks(plan).iter().for_each(|text| tell!("{}", text));
 }
 
-/// Whatever the positions are, no cell can be violated, or every cell that is not Free is.
+/// The warnings that no cell, or no cell of some targets, can be violated whatever the positions, or that every one that is not Free is.
 fn one_answer(plan: &Plan) -> Vec<String> {
     if engine::panel_is_free(plan.panel) {
         return vec![format!(

@@ -233,11 +233,11 @@ fn rename(header: &StringRecord, wanted: &[&str]) -> String {
     text
 }
 
-/// Words that say in which unit or scale a column is.
+/// Words after a column's name that give its unit or time scale.
 const UNITS: [&str; 16] =
     ["deg", "degs", "degree", "degrees", "h", "hr", "hrs", "hour", "hours", "rad", "radians", "km", "m", "au", "utc", "iso"];
 
-/// The columns that are not used and resemble a known one: it is left of the name without capitals, spaces, signs and units.
+/// The columns that are not used and resemble a known one: without capitals, spaces, signs and units their names are the same, or one that catalogues use.
 fn lookalikes(header: &StringRecord, forms: &[Form], beside: &[&'static str], used: &[usize]) -> Vec<(usize, String, &'static str)> {
     let plain = |name: &str| name.chars().filter(char::is_ascii_alphanumeric).collect::<String>().to_ascii_lowercase();
     let known: Vec<_> = forms.iter().copied().flatten().chain(beside).copied().collect();
