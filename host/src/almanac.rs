@@ -34,9 +34,9 @@ impl fmt::Display for Position {
     }
 }
 
-/// The Sun as seen from the Earth, referred to the equator and equinox of the date: within 0.02 degrees from 1950 to 2050, and within 0.05 up to 2097.
+/// The direction to the Sun from the Earth, a unit vector referred to the equator and equinox of the date: to about 0.01 degrees from 1950 to 2050, and little worse up to 2097.
 /// J2000 and ICRS axes differ from these by precession, less than 1.4 degrees in those years.
-pub fn sun(nanoseconds: i64) -> Position {
+pub fn sun(nanoseconds: i64) -> [f64; 3] {
     // Days since 2000-01-01T12:00:00. UTC and dynamical time differ by some 70 s, in which the Sun moves less than 0.001 degrees.
     let days = nanoseconds as f64 / 86_400e9 - 10_957.5;
     let mean_longitude = 280.460 + 0.985_647_4 * days;
@@ -44,7 +44,7 @@ pub fn sun(nanoseconds: i64) -> Position {
     let equation_of_centre = 1.915 * mean_anomaly.sin() + 0.020 * (2.0 * mean_anomaly).sin();
     let longitude = (mean_longitude + equation_of_centre).to_radians();
     let obliquity = (23.439 - 0.000_000_4 * days).to_radians();
-    Position::of([longitude.cos(), obliquity.cos() * longitude.sin(), obliquity.sin() * longitude.sin()])
+    [longitude.cos(), obliquity.cos() * longitude.sin(), obliquity.sin() * longitude.sin()]
 }
 
 #[cfg(test)]
@@ -53,7 +53,7 @@ mod tests {
     use crate::instant;
 
     fn at(time: &str) -> Position {
-        sun(instant::parse(time).unwrap())
+        Position::of(sun(instant::parse(time).unwrap()))
     }
 
     #[test]

@@ -61,7 +61,7 @@ impl Cost {
                 let (plan, _) = Files { plan: plan.clone(), journal: None }.read()?;
                 (plan.size(), of_plan(&plan)?)
             }
-            // The command line was held to one of the two.
+            // The command line takes one of the two.
             _ => return Err(Fault::Usage("allowed: a plan, or --targets, --times and --rolls".into())),
         };
         if self.json {

@@ -57,7 +57,7 @@ pub fn cost(size: Size) -> Result<Cost, Refusal> {
     wilfnusk::cost(size.targets, size.times, size.rolls)
 }
 
-/// The lines of a whole journal, one a chunk.
+/// The lines of a whole journal, one per chunk.
 pub fn chunks(cost: &Cost) -> u64 {
     (cost.journal_bytes - HEADER_BYTES) / LINE_BYTES
 }
@@ -71,12 +71,12 @@ pub enum Extreme {
 
 /// The numbers of such a plan, which has no configured roll.
 pub struct Numbers {
-    /// Three numbers a target.
+    /// Three numbers per target.
     pub targets: Vec<f64>,
-    /// Three numbers a time, each.
+    /// Three numbers per time, each.
     pub suns: Vec<f64>,
     pub observers: Vec<f64>,
-    /// One a target.
+    /// One per target.
     pub tolerances: Vec<f64>,
     pub panel: [f64; 3],
     /// How many rolls its sweep tries.

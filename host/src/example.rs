@@ -1,4 +1,4 @@
-//! `wilfnusk example`: a plan to start from, ninety days of a telescope in low orbit, 90 minutes a step; or one of a given size whose sweep
+//! `wilfnusk example`: a plan to start from, ninety days of a telescope in low orbit, 90 minutes apart; or one of a given size whose sweep
 //! tries the most rolls that a plan of that size can, or the fewest. The same numbers on every machine.
 use crate::{
     cost::whole_number,
@@ -55,7 +55,7 @@ ephemeris = \"ephemeris.csv\"    # time, Sun x, y, z and observer x, y, z (here 
 # The bus settles at 24 rolls, 15 degrees apart. A target may be looked at while one of
 # them is within 5 degrees of the roll that faces the panel to the Sun.
 rolls = 24                     # tried at every cell: 0, 15, 30, .. 345 degrees; or a list, [0, 15.5, 47, ..]
-tolerance = 5                  # degrees, for all targets; or a list with one number a target, [5, 3, ..];
+tolerance = 5                  # degrees, for all targets; or a list with one number per target, [5, 3, ..];
                                # or leave this key out and give targets.csv a column `tolerance`
 panel = [0, 1, 0]              # panel normal in the body's axes: x boresight; at roll 0 y east, z north
 
@@ -135,7 +135,7 @@ fn of_size(which: Extreme, size: &[u64]) -> Result<Texts, Fault> {
     };
     let (size, words) = match *size {
         [targets, times, rolls] => (Size { targets, times, rolls }, format!("{} {} {} {}", option, targets, times, rolls)),
-        // The command line was held to three.
+        // The command line takes exactly three.
         _ => return Err(Fault::Usage(format!("{}: allowed: three numbers, of targets, of times and of rolls", option))),
     };
     let numbers = engine::extreme(which, size).map_err(|r| explain::size(&words, size, r))?;
@@ -230,7 +230,7 @@ mod tests {
         Plan::read(&folder.path().join("plan.toml")).unwrap()
     }
 
-    /// What another program, in another language, makes by the library's rule. With the C library's sine three lines are others.
+    /// The digest of what another program, in another language, computes by the library's rule. With the C library's sine three lines differ.
     #[test]
     fn is_the_same_on_every_machine() {
         let digest: String = Sha256::digest(ephemeris()).iter().map(|b| format!("{:02x}", b)).collect();
@@ -244,11 +244,11 @@ mod tests {
         let (ra, dec): (Vec<_>, Vec<_>) = TARGETS.iter().map(|&(_, ra, dec)| (ra, dec)).unzip();
         assert_eq!(plan.targets, engine::unit_vectors(&ra, &dec).unwrap());
     }
-    /// What its comment says of the tolerance may be done.
+    /// As its comment says.
     #[test]
-    fn its_tolerance_may_be_told_by_target() {
+    fn its_tolerance_may_be_given_per_target() {
         let key = "tolerance = 5 ";
-        assert!(PLAN.contains("a list with one number a target, [5, 3, ..]") && PLAN.contains("give targets.csv a column `tolerance`"));
+        assert!(PLAN.contains("a list with one number per target, [5, 3, ..]") && PLAN.contains("give targets.csv a column `tolerance`"));
         let folder = tempfile::tempdir().unwrap();
         write(folder.path(), &season()).unwrap();
         let read = |toml: String, targets: String| {
@@ -265,7 +265,7 @@ mod tests {
         let rows = lines.lines().skip(1).zip(&own).map(|(line, t)| format!("{},{}\n", line, t));
         assert_eq!(read(PLAN.replace(key, "# "), format!("name,ra,dec,tolerance\n{}", rows.collect::<String>())), own);
     }
-    /// What its comment says of the rolls may be done.
+    /// As its comment says.
     #[test]
     fn its_rolls_may_be_a_list() {
         assert!(PLAN.contains("or a list, [0, 15.5, 47, ..]"));

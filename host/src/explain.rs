@@ -22,7 +22,7 @@ pub fn command(verb: &str, plan: &Plan, journal: &Path) -> String {
     words
 }
 
-/// What the library takes of a plan's size.
+/// The sizes that the library accepts.
 const SIZES: &str = "65,536 targets and times each, 1,048,576 cells";
 const ROLLS: &str = "1 to 3600";
 
@@ -56,7 +56,7 @@ pub fn plan(plan: &Plan, refusal: Refusal) -> Fault {
                 format!("{}: time reads `{}`; allowed: {} to {}", field.at(), field.shown(), first, last)
             })
         }
-        // Only of a list: a column has one entry a target, and one number is taken for each.
+        // Only of a list: a column has one entry per target, and a single number holds for each.
         17 => Some(format!(
             "{}: tolerance lists {}, and {} has {}; allowed: {}",
             plan.at("tolerance"),
@@ -76,7 +76,7 @@ pub fn plan(plan: &Plan, refusal: Refusal) -> Fault {
     Fault::Refused(refusal.number(), found.unwrap_or_else(|| refusal.sentence().to_owned()))
 }
 
-/// What `regard` says where the rolls are a table: without a roll it goes by even steps.
+/// The fault of `regard` where the rolls are a table: without --roll it needs even steps.
 pub fn needs_even_steps(plan: &Plan, journal: &Path) -> Fault {
     Fault::Usage(format!(
         "{}: rolls is {}, and without --roll even steps are needed; allowed: --roll DEG for the marks at one roll, or the mask of a sweep over the \
@@ -111,7 +111,7 @@ pub fn row(p: &Plan, target: usize, refusal: Refusal) -> Fault {
         14 => Fault::Refused(
             14,
             format!(
-                "{}, and the severities at the configured roll would be infinite; allowed with --evaluate: any number but -inf",
+                "{}, and the severities at the configured roll would be infinite; allowed with --evaluate: any number except -inf",
                 tolerance::reads(p, target)
             ),
         ),
@@ -119,7 +119,7 @@ pub fn row(p: &Plan, target: usize, refusal: Refusal) -> Fault {
     }
 }
 
-/// A refusal of the targets' catalogue positions, which are made vectors before there is a plan.
+/// A refusal of the targets' catalogue positions, which are converted to vectors before there is a plan.
 pub fn catalogue(targets: &Sheet, refusal: Refusal) -> Fault {
     let outside = |row: usize| {
         let wrong = |column, least, most| !matches!(targets.field(row, column).degrees(), Ok(x) if (least..=most).contains(&x));
@@ -141,14 +141,14 @@ fn target(targets: &Sheet, row: usize, column: usize, allowed: &str) -> String {
     format!("{}: {} of target `{}` reads `{}`; allowed: {}", field.at(), field.name(), name, field.shown(), allowed)
 }
 
-/// The first target that is no unit vector, and the squared length that it has.
+/// The first target that is not a unit vector, and its squared length.
 fn not_unit(plan: &Plan) -> Option<String> {
     let squared = |v: &[f64]| v[0] * v[0] + v[1] * v[1] + v[2] * v[2];
     let wrong = |v: &[f64]| !((squared(v) - 1.0).abs() <= 1e-9);
     let (row, vector) = plan.targets.chunks_exact(3).enumerate().find(|(_, v)| wrong(v))?;
     Some(format!(
         "{}: x, y, z of target `{}` have the squared length {}; allowed: less than 1e-9 away from 1, so a unit vector of about ten digits \
-         a number; or ra, dec in degrees",
+         per number; or ra, dec in degrees",
         plan.targets_sheet.field(row, 1).at(),
         plan.targets_sheet.field(row, 0).shown(),
         number(squared(vector))
@@ -164,15 +164,15 @@ fn roll(plan: &Plan, table: &[f64]) -> Option<String> {
         }
         text => text.to_owned(),
     };
-    let told = |i: usize, before: &str| {
+    let refused = |i: usize, before: &str| {
         let allowed = "0 up to but not at 360 degrees, each above the one before it";
         format!("{}: entry {} of rolls reads {}{}; allowed: {}", plan.entry("rolls", i).0, grouped(i + 1), reads(i), before, allowed)
     };
     (0..table.len()).find_map(|i| {
         if !(table[i] >= 0.0 && table[i] < 360.0) {
-            Some(told(i, ""))
+            Some(refused(i, ""))
         } else if i > 0 && !(table[i - 1] < table[i]) {
-            Some(told(i, &format!(", and entry {} before it {}", grouped(i), reads(i - 1))))
+            Some(refused(i, &format!(", and entry {} before it {}", grouped(i), reads(i - 1))))
         } else {
             None
         }

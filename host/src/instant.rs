@@ -119,7 +119,7 @@ pub fn parse(text: &str) -> Result<i64, Fault> {
     i64::try_from(i128::from(seconds) * SECOND + nanos).map_err(|_| (0, "a time from 1843-03-31T16:53:20Z to 2096-10-02T07:06:40Z"))
 }
 
-/// What is allowed, if this is a number or has the look of another form; a number's form is told by its size.
+/// What is allowed, if this is a number or has the look of another form; a number's form is recognised by its size.
 fn other_form(text: &str) -> Option<&'static str> {
     let scale = text.trim_end_matches(|c: char| !c.is_ascii_alphabetic());
     if scale.eq_ignore_ascii_case("JD") {
@@ -209,7 +209,7 @@ mod tests {
     use proptest::prelude::*;
 
     #[test]
-    fn known_times() {
+    fn known_times_are_read_and_written() {
         assert_eq!(parse("1970-01-01T00:00:00Z"), Ok(0));
         assert_eq!(parse("2000-02-29T12:00:00Z"), Ok(951_825_600_000_000_000));
         assert_eq!(parse("1969-12-31T23:59:59.999999999Z"), Ok(-1));
@@ -221,7 +221,7 @@ mod tests {
         assert_eq!(format(951_825_600_000_000_000, 0), "2000-02-29T12:00:00Z");
     }
     #[test]
-    fn faults_say_where() {
+    fn a_fault_has_the_byte_where_reading_stopped() {
         for (text, at) in [
             ("", 0),
             ("2026-13-01T00:00:00Z", 5),
@@ -275,7 +275,7 @@ mod tests {
     }
     proptest! {
         #[test]
-        fn written_and_read_again(t in any::<i64>()) {
+        fn a_time_that_is_written_reads_back(t in any::<i64>()) {
             prop_assert_eq!(parse(&format(t, 9)), Ok(t));
             prop_assert_eq!(parse(&format(t, digits([t]))), Ok(t));
         }

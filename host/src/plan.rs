@@ -1,4 +1,4 @@
-//! A plan as its files say it: a TOML file that names a CSV file of targets and one of positions.
+//! A plan as its files give it: a TOML file that names a CSV file of targets and one of positions.
 use crate::{
     engine, explain,
     fault::Fault,
@@ -20,7 +20,7 @@ use std::{
 pub const CATALOGUE_COLUMNS: Form = &["name", "ra", "dec"];
 pub const VECTOR_COLUMNS: Form = &["name", "x", "y", "z"];
 pub const EPHEMERIS_COLUMNS: Form = &["time", "sun_x", "sun_y", "sun_z", "observer_x", "observer_y", "observer_z"];
-/// A target's tolerance may stand beside its position.
+/// A column of the targets file that may be left out.
 pub const TOLERANCE_COLUMN: &str = "tolerance";
 /// Lists of 65,536 tolerances and 3,600 rolls, each number with all its digits, and far more than the other keys and their comments take.
 const MOST_BYTES: u64 = 1 << 21;
@@ -31,17 +31,17 @@ pub struct Plan {
     pub targets_file: String,
     pub ephemeris_file: String,
     pub rolls: Rolls,
-    /// In degrees, one a target. A list of another length is read too; the library refuses it with 17.
+    /// In degrees, one per target. A list of another length is read too; the library refuses it with 17.
     pub tolerances: Vec<f64>,
     pub told: Told,
     pub configured_roll: Option<f64>,
     pub panel: [f64; 3],
     pub names: Vec<String>,
-    /// Three numbers a target, whichever form the file has.
+    /// Three numbers per target, whichever form the file has.
     pub targets: Vec<f64>,
     /// Nanoseconds since 1970, strictly increasing.
     pub times: Vec<i64>,
-    /// Three numbers a time, each.
+    /// Three numbers per time, each.
     pub suns: Vec<f64>,
     pub observers: Vec<f64>,
     pub targets_sheet: Sheet,
@@ -116,7 +116,7 @@ impl Plan {
             Told::List => of_key,
             Told::Column(_) => of_column,
         };
-        // The library is asked once all files are read, as it is of the rest of the plan.
+        // The library is asked once all files are read, as for the rest of the plan.
         let targets = match is_catalogue {
             true => engine::unit_vectors(&ra, &dec).map_err(|refusal| explain::catalogue(&targets_sheet, refusal))?,
             false => vectors,
@@ -243,7 +243,7 @@ mod tests {
     use std::fs;
 
     #[test]
-    fn a_plan() {
+    fn keys_and_files_are_read() {
         let p = with("rolls = 1\ntolerance = 10\n").unwrap();
         assert_eq!((&p.rolls, &p.tolerances[..], p.configured_roll, p.panel), (&Rolls::Even(1), &[10.0][..], None, [0.0, 1.0, 0.0]));
         assert_eq!((p.names.len(), p.times.len(), p.cells(), p.chunks()), (1, 2, 2, 1));
@@ -270,7 +270,7 @@ mod tests {
         format!("[{}]", entries.iter().map(|(number, after)| number.clone() + after).collect::<String>())
     }
     #[test]
-    fn a_table_of_rolls() {
+    fn rolls_may_be_a_table() {
         let read = |rolls: &str| {
             let p = with(&format!("rolls = {}\ntolerance = 1", rolls)).unwrap();
             engine::check(&p).unwrap();
@@ -285,14 +285,14 @@ mod tests {
         let most: Vec<f64> = (0..3600).map(|k| k as f64 * 0.1).collect();
         assert_eq!(read(&list(&most.iter().map(|x| (format!("{:?}", x), ",\n")).collect::<Vec<_>>())), bits(&most));
     }
-    /// What is said of a plan with these rolls, further keys and targets.
+    /// The message on a plan with these rolls, further keys and targets.
     fn rolls_fault(rolls: &str, more: &str, targets: &str) -> String {
         let (status, text) = fault_of(format!("targets = \"t.csv\"\nephemeris = \"e.csv\"\nrolls = {}\n{}\n", rolls, more), targets);
         assert_eq!(status, 1, "{}", text);
         text
     }
     #[test]
-    fn a_table_that_is_refused_is_told_at_its_entry() {
+    fn a_refused_table_is_named_at_its_entry() {
         const ENTRY: &str = "; allowed: 0 up to but not at 360 degrees, each above the one before it";
         const LENGTH: &str = "; allowed: a whole number of rolls, 1 to 3600, or a list of 1 to 3600 rolls in degrees";
         for (rolls, says) in [
@@ -359,7 +359,7 @@ mod tests {
     const KEYS_BUT_TOLERANCE: &str = "targets = \"t.csv\"\nephemeris = \"e.csv\"\nrolls = 1\n";
 
     #[test]
-    fn tolerances_by_a_number_a_list_or_a_column() {
+    fn tolerances_are_a_number_a_list_or_a_column() {
         let read = |tolerance: &str, targets: &str| {
             let p = plan(format!("{}{}\n", KEYS_BUT_TOLERANCE, tolerance), targets, EPHEMERIS).unwrap();
             engine::check(&p).unwrap();
@@ -385,7 +385,7 @@ mod tests {
         assert_eq!(read("tolerance = [inf, -inf, -0.0]", THREE), (Told::List, infinite.clone(), 9));
         let column = THREE.replace("z\n", "z,tolerance\n").replace("0,0\n", "0,0,inf\n").replace("1,0\n", "1,0,-inf\n");
         assert_eq!(read("", &column.replace("0,1\n", "0,1,-0\n")), (Told::Column(4), infinite, 9));
-        // Without targets there is nothing to tell a tolerance of, and each way may tell it.
+        // Without targets there is no tolerance to give, and each way is accepted.
         for (tolerance, targets, told) in [
             ("tolerance = 5", "name,x,y,z\n", Told::Number),
             ("tolerance = []", "name,x,y,z\n", Told::List),
@@ -395,7 +395,7 @@ mod tests {
         }
     }
     #[test]
-    fn a_tolerance_for_each_of_the_most_targets() {
+    fn each_of_65536_targets_may_have_its_tolerance() {
         let number = "-2.2250738585072014e-308";
         let list = vec![number; 65_536].join(",\n");
         let targets = format!("name,x,y,z\n{}", "A,1,0,0\n".repeat(65_536));
@@ -403,11 +403,11 @@ mod tests {
         engine::check(&p).unwrap();
         assert_eq!(p.tolerances, [-2.2250738585072014e-308].repeat(65_536));
     }
-    /// What is said of a plan with this line for the tolerance and these targets.
+    /// Status and message of a plan with this line for the tolerance and these targets.
     fn tolerance_fault(line: &str, targets: &str) -> (i32, String) {
         fault_of(format!("{}{}\n", KEYS_BUT_TOLERANCE, line), targets)
     }
-    /// What is said of a plan that cannot be read or is refused.
+    /// Status and message of a plan that cannot be read or is refused.
     fn fault_of(toml: String, targets: &str) -> (i32, String) {
         let fault = match plan(toml, targets, EPHEMERIS) {
             Ok(p) => explain::plan(&p, engine::check(&p).unwrap_err()),
@@ -422,7 +422,7 @@ mod tests {
         (fault.status(), text)
     }
     #[test]
-    fn a_list_of_another_length_is_refused_with_17_and_told_at_the_key() {
+    fn a_list_of_another_length_is_refused_with_17_at_the_key() {
         const ALLOWED: &str = "allowed: one number of degrees for all targets, or a list with one for each";
         for (list, targets, counts) in [
             ("[]", THREE, "0 numbers, and t.csv has 3 targets"),
@@ -441,7 +441,7 @@ mod tests {
         assert!(first("tolerance = [1, 2]\npanel = [0, inf, 0]", TARGETS).starts_with("refused with 6: plan.toml, line 5, column 9: "));
     }
     #[test]
-    fn a_tolerance_told_twice_or_not_at_all() {
+    fn a_tolerance_given_twice_or_not_at_all_is_refused() {
         const COLUMN: &str = "name,x,tolerance,y,z\nA,1,5,0,0\n";
         for (line, targets, says) in [
             (
@@ -475,13 +475,13 @@ mod tests {
             (
                 "tolerance = [5, \"6\", 7]",
                 THREE,
-                "plan.toml, line 4, column 13: tolerance reads [5, \"6\", 7], and its entry 2 is no number; allowed: one number of degrees for \
+                "plan.toml, line 4, column 13: tolerance reads [5, \"6\", 7], and its entry 2 is not a number; allowed: one number of degrees for \
                  all targets, or a list with one for each",
             ),
             (
                 "tolerance = [[5], [6], [7]]",
                 THREE,
-                "plan.toml, line 4, column 13: tolerance reads [[5], [6], [7]], and its entry 1 is no number; allowed: one number of degrees \
+                "plan.toml, line 4, column 13: tolerance reads [[5], [6], [7]], and its entry 1 is not a number; allowed: one number of degrees \
                  for all targets, or a list with one for each",
             ),
             (
@@ -494,7 +494,7 @@ mod tests {
         }
     }
     #[test]
-    fn wrong_sheets() {
+    fn wrong_numbers_and_times_are_refused_with_their_place() {
         let toml = "targets = \"t.csv\"\nephemeris = \"e.csv\"\nrolls = 1\ntolerance = 1\n";
         let says = |targets, ephemeris| plan(toml, targets, ephemeris).unwrap_err().to_string();
         assert!(says("name,x,y,z\nA,1,0,0\nB,1,zero,0\n", EPHEMERIS)
@@ -514,7 +514,7 @@ mod tests {
         list.iter().map(|x| x.to_bits()).collect()
     }
     #[test]
-    fn positions_are_the_library_s_vectors() {
+    fn positions_become_the_library_s_vectors() {
         let (names, ra, dec) = (["Crab, M 1", "S", "N"], [83.633, 360.0, 0.0], [22.0145, -90.0, 90.0]);
         let vectors = engine::unit_vectors(&ra, &dec).unwrap();
         assert!((vectors[0] - 0.1027).abs() < 1e-3 && (vectors[1] - 0.9214).abs() < 1e-3 && (vectors[2] - 0.3748).abs() < 1e-3);
@@ -554,7 +554,7 @@ mod tests {
         }
     }
     #[test]
-    fn texts_come_before_refusals() {
+    fn unreadable_text_is_reported_before_refusals() {
         let says = |targets: &str, ephemeris: &str| plan(TOML, targets, ephemeris).unwrap_err().to_string();
         let outside = CATALOGUE.replace("10", "370");
         assert!(says(&outside, EPHEMERIS).contains("refused with 16: "));
@@ -565,7 +565,7 @@ mod tests {
         assert!(text.contains("t.csv, line 1, column 1: no column `ra` in `name,right,dec`; allowed: "), "{}", text);
     }
     #[test]
-    fn two_targets_of_one_name_are_told() {
+    fn two_targets_of_one_name_are_warned_of() {
         let toml = "targets = \"t.csv\"\nephemeris = \"e.csv\"\nrolls = 1\ntolerance = 1\n";
         let warnings = |targets: &str| plan(toml, targets, EPHEMERIS).unwrap().warnings();
         assert!(warnings("name,x,y,z\nA,1,0,0\na,1,0,0\n").is_empty());
@@ -655,7 +655,7 @@ mod tests {
                 tolerance in prop::sample::select(&["tolerance = 10\n", "tolerance = [10, 20.5]\n", ""][..]),
                 rolls in prop::sample::select(&["1", "[0, 15.5, 90]", "[\n0, # the first\n3.6e2]"][..]), t in changes(), e in changes(), p in changes()) {
             let toml = format!("targets = \"t.csv\"\nephemeris = \"e.csv\"\nrolls = {}\n{}panel = [[0, 1, 0.5]]\n# ..\n", rolls, tolerance);
-            let told = match plan(changed(&toml, &p), changed(targets, &t), changed(EPHEMERIS, &e)) {
+            let fault = match plan(changed(&toml, &p), changed(targets, &t), changed(EPHEMERIS, &e)) {
                 Ok(plan) => {
                     Digest::of(&plan);
                     plan.warnings();
@@ -669,11 +669,11 @@ mod tests {
                 }
                 Err(e) => Some(e),
             };
-            if let Some(fault) = told {
+            if let Some(fault) = fault {
                 prop_assert!(!fault.to_string().contains(|c: char| c.is_control()), "{}", fault);
             }
         }
-        /// Positions are the vectors that the library makes of them, or the first that it cannot take is told.
+        /// Positions become the vectors that the library makes of them, or the first that it refuses is named.
         #[test]
         fn any_positions_are_vectors_or_refused(list in prop::collection::vec((angle(0.0, 360.0), angle(-90.0, 90.0)), 0..6)) {
             let rows = list.iter().enumerate().map(|(i, (ra, dec))| format!("T{},{},{}\n", i, dec, ra));
@@ -702,9 +702,9 @@ mod tests {
                 (read, wrong) => prop_assert!(false, "{:?} {:?}", read.map(|p| p.targets), wrong),
             }
         }
-        /// A table is taken, or the first roll that cannot be is told where it stands.
+        /// A table is accepted, or the first roll that is refused is named with its place.
         #[test]
-        fn any_table_is_taken_or_told(
+        fn any_table_is_accepted_or_named(
             drawn in prop::collection::vec((angle(0.0, 360.0), prop::sample::select(&[",", ", ", " ,", ",\n", " # 3, ]\n,", ",#\r\n\t"][..])), 0..8),
             is_sorted in any::<bool>(),
         ) {

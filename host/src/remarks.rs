@@ -19,7 +19,7 @@ pub fn tell_remarks(plan: &Plan) {
     remarks(plan).iter().for_each(|text| tell!("{}", text));
 }
 
-/// Whatever the positions are, no cell can be violated, or every cell that is not Free is.
+/// The warnings that no cell, or no cell of some targets, can be violated whatever the positions, or that every one that is not Free is.
 fn one_answer(plan: &Plan) -> Vec<String> {
     if engine::panel_is_free(plan.panel) {
         return vec![format!(
@@ -53,8 +53,12 @@ fn to_sun(plan: &Plan, time: usize) -> Option<[f64; 3]> {
     Some(v).filter(|_| length(v) >= 1e-12)
 }
 
-fn length([x, y, z]: [f64; 3]) -> f64 {
-    (x * x + y * y + z * z).sqrt()
+fn dot(a: [f64; 3], b: [f64; 3]) -> f64 {
+    a[0] * b[0] + a[1] * b[1] + a[2] * b[2]
+}
+
+fn length(v: [f64; 3]) -> f64 {
+    dot(v, v).sqrt()
 }
 
 /// How many lines a warning names; the rest are counted.
@@ -83,14 +87,16 @@ const MOST_OFF: f64 = 3.0;
 
 /// The Sun is not where an almanac has it. Every time is a date, and each from 1950 on is compared by itself, whatever the spacing.
 fn off_the_almanac(plan: &Plan) -> Option<String> {
-    let off = |j: usize| {
-        let (due, seen) = (almanac::sun(plan.times[j]), Position::of(to_sun(plan, j)?));
-        Some((j, seen, due)).filter(|_| plan.times[j] >= almanac::FROM && seen.angle_to(due) > MOST_OFF)
+    let most_off = MOST_OFF.to_radians().cos();
+    let is_off = |&j: &usize| match to_sun(plan, j) {
+        Some(v) if plan.times[j] >= almanac::FROM => dot(v, almanac::sun(plan.times[j])) < most_off * length(v),
+        _ => false,
     };
-    let all: Vec<_> = (0..plan.times.len()).filter_map(off).collect();
-    let (j, seen, due) = *all.first()?;
+    let all: Vec<_> = (0..plan.times.len()).filter(is_off).collect();
+    let j = *all.first()?;
+    let (seen, due) = (Position::of(to_sun(plan, j)?), Position::of(almanac::sun(plan.times[j])));
     Some(format!(
-        "{}: at {} the Sun is at {} as seen from the observer, but an almanac has it at {}, {:.1} degrees away (more than {} at {} of {}); check \
+        "{}: at {} the Sun is at {} as seen from the observer, but an almanac has it at {} as seen from the Earth, {:.1} degrees away (more than {} at {} of {}); check \
          the axes, the signs and the dates",
         plan.ephemeris_sheet.field(j, 1).at(),
         shown(plan.times[j]),

@@ -72,7 +72,7 @@ impl<'a> Values<'a> {
         for (key, value) in read {
             let name = excerpt(key.get_ref());
             if !KEYS.contains(&key.get_ref().as_str()) {
-                return Err(source.fault(key.start(), format!("`{}` is no key of a plan", name), &KEYS.join(", ")));
+                return Err(source.fault(key.start(), format!("`{}` is not a key of a plan", name), &KEYS.join(", ")));
             }
             if values.contains_key(key.get_ref()) {
                 return Err(source.fault(key.start(), format!("`{}` is given twice", name), "each key once"));
@@ -114,7 +114,7 @@ impl<'a> Values<'a> {
         let items = read.value.as_array().ok_or_else(|| self.wrong(key, read, allowed))?;
         let numbers: Vec<_> = items.iter().map_while(number).collect();
         if numbers.len() < items.len() {
-            let wrong = format!("{} reads {}, and its entry {} is no number", key, read.text, grouped(numbers.len() + 1));
+            let wrong = format!("{} reads {}, and its entry {} is not a number", key, read.text, grouped(numbers.len() + 1));
             return Err(self.source.fault(read.at, wrong, allowed));
         }
         Ok(numbers)
@@ -267,11 +267,11 @@ mod tests {
     };
 
     #[test]
-    fn forms_that_come_later_are_told_apart() {
+    fn several_panels_are_refused_with_their_own_message() {
         assert!(fault("rolls = 1\ntolerance = 1\npanel = [[0, 1, 0], [0, 0, 1]]").contains("several panels cannot be swept yet"));
     }
     #[test]
-    fn wrong_settings() {
+    fn wrong_settings_are_refused_with_their_place() {
         for (settings, says) in [
             (
                 "tolerance = 1",
@@ -283,16 +283,16 @@ mod tests {
             ("rolls = true\ntolerance = 1", "plan.toml, line 3, column 9: rolls reads true; allowed: a whole number"),
             (
                 "rolls = [0, \"90\"]\ntolerance = 1",
-                "plan.toml, line 3, column 9: rolls reads [0, \"90\"], and its entry 2 is no number; allowed: a whole number",
+                "plan.toml, line 3, column 9: rolls reads [0, \"90\"], and its entry 2 is not a number; allowed: a whole number",
             ),
             (
                 "rolls = [[0, 90]]\ntolerance = 1",
-                "plan.toml, line 3, column 9: rolls reads [[0, 90]], and its entry 1 is no number; allowed: a whole number",
+                "plan.toml, line 3, column 9: rolls reads [[0, 90]], and its entry 1 is not a number; allowed: a whole number",
             ),
             ("rolls = 1\ntolerance = \"2\"", "plan.toml, line 4, column 13: tolerance reads \"2\"; allowed: one number"),
             ("rolls = 1\ntolerance = 1\npanel = [0, 1]", "plan.toml, line 5, column 9: panel reads [0, 1]; allowed: one panel normal"),
             ("rolls = 1\ntolerance = 1\npanel = [0, \"y\", 0]", "plan.toml, line 5, column 9: panel reads"),
-            ("rolls = 1\ntolerence = 1", "plan.toml, line 4, column 1: `tolerence` is no key of a plan; allowed: targets, "),
+            ("rolls = 1\ntolerence = 1", "plan.toml, line 4, column 1: `tolerence` is not a key of a plan; allowed: targets, "),
             ("rolls = 1\ntolerance = 1\nrolls = 2", "plan.toml, line 5, column 1: `rolls` is given twice; allowed: each key once"),
             ("rolls = \ntolerance = 1", "plan.toml, line 3, column 9: "),
         ] {
@@ -343,27 +343,27 @@ mod tests {
         let many = "[".repeat(100);
         let dots = "1.5, ".repeat(100);
         for text in [format!("# {}", many), format!("panel = [1.0, 1.0, \"{}\"]", many), format!("panel = [{}'{}']", dots, many)] {
-            let told = match with(&format!("rolls = 1\ntolerance = 1\n{}", text)) {
+            let message = match with(&format!("rolls = 1\ntolerance = 1\n{}", text)) {
                 Ok(_) => String::new(),
                 Err(e) => e.to_string(),
             };
-            assert!(!told.contains("values inside values"), "{}", told);
+            assert!(!message.contains("values inside values"), "{}", message);
         }
     }
     #[test]
     fn a_message_shows_what_the_plan_reads() {
         for (value, shown) in [
             ("{ a = { b = 1 }, c = 2 }", "rolls reads { a = { b = 1 }, c = 2 }; allowed"),
-            ("[{a = 1}, 2]", "rolls reads [{a = 1}, 2], and its entry 1 is no number"),
+            ("[{a = 1}, 2]", "rolls reads [{a = 1}, 2], and its entry 1 is not a number"),
             ("\"\\u001b[2J\"", "rolls reads \"\\u001b[2J\"; allowed"),
-            ("[1,\n '2']", "rolls reads [1,\\n '2'], and its entry 2 is no number"),
+            ("[1,\n '2']", "rolls reads [1,\\n '2'], and its entry 2 is not a number"),
         ] {
             let text = fault(&format!("tolerance = 1\nrolls = {}", value));
             assert!(text.starts_with("plan.toml, line 4, column 9: ") && text.contains(shown), "{}", text);
         }
         let text = fault(&format!("tolerance = 1\nrolls = [{}true]", "1, ".repeat(10_000)));
-        assert!(text.len() < 300 && text.contains(" .., and its entry 10,001 is no number; "), "{}", text);
-        assert!(fault("tolerance = 1\n\"\\u001b[2J\" = 1").contains("`\\u{1b}[2J` is no key"));
+        assert!(text.len() < 300 && text.contains(" .., and its entry 10,001 is not a number; "), "{}", text);
+        assert!(fault("tolerance = 1\n\"\\u001b[2J\" = 1").contains("`\\u{1b}[2J` is not a key"));
     }
     /// Reads the value of every key.
     fn read_all(source: &Source) -> Result<(), Fault> {

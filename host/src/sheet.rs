@@ -10,7 +10,7 @@ use std::{io::Read, path::Path};
 
 /// As many rows as a plan may have targets or times.
 const MOST_ROWS: usize = 65_536;
-/// A kilobyte a row, whatever other columns it has.
+/// A kilobyte per row, whatever other columns it has.
 const MOST_BYTES: u64 = 1024 * MOST_ROWS as u64;
 const MOST_LINE_BYTES: usize = 65_536;
 
@@ -189,7 +189,7 @@ fn form_of(header: &StringRecord, forms: &[Form]) -> Result<Form, String> {
     if let [only] = forms {
         return Ok(only);
     }
-    // A column of every form tells none from another.
+    // A column that every form has does not distinguish them.
     let own = |form: Form| form.iter().copied().filter(|name| !forms.iter().all(|form| form.contains(name)));
     let found = |form: Form| own(form).filter(|name| header.iter().any(|column| column.eq_ignore_ascii_case(name))).collect::<Vec<_>>();
     let begun: Vec<_> = forms.iter().copied().filter(|form| !found(form).is_empty()).collect();
@@ -233,11 +233,11 @@ fn rename(header: &StringRecord, wanted: &[&str]) -> String {
     text
 }
 
-/// Words that say in which unit or scale a column is.
+/// Words after a column's name that give its unit or time scale.
 const UNITS: [&str; 16] =
     ["deg", "degs", "degree", "degrees", "h", "hr", "hrs", "hour", "hours", "rad", "radians", "km", "m", "au", "utc", "iso"];
 
-/// The columns that are not used and resemble a known one: it is left of the name without capitals, spaces, signs and units.
+/// The columns that are not used and resemble a known one: without capitals, spaces, signs and units their names are the same, or one that catalogues use.
 fn lookalikes(header: &StringRecord, forms: &[Form], beside: &[&'static str], used: &[usize]) -> Vec<(usize, String, &'static str)> {
     let plain = |name: &str| name.chars().filter(char::is_ascii_alphanumeric).collect::<String>().to_ascii_lowercase();
     let known: Vec<_> = forms.iter().copied().flatten().chain(beside).copied().collect();
@@ -410,11 +410,11 @@ impl<'a> Field<'a> {
         let would_read = |from: &[char], to| text.replace(from, to).parse::<f64>().is_ok();
         text.parse().map_err(|_| {
             let hint = if would_read(&['\u{2212}', '\u{2013}'], "-") {
-                " (this has a dash for its minus)"
+                " (this has a dash in place of the minus sign)"
             } else if would_read(&[','], ".") {
-                " (this has a comma for its point)"
+                " (this has a decimal comma)"
             } else if would_read(&['d', 'D'], "e") {
-                " (this has a D for its exponent)"
+                " (this has D in place of e)"
             } else {
                 hint(text)
             };
@@ -448,7 +448,7 @@ mod tests {
         assert_eq!(s.field(1, 1).number().unwrap(), 2.0);
     }
     #[test]
-    fn places_of_fields() {
+    fn fields_have_the_place_of_their_text() {
         let s = sheet("name,x\n\"a, \"\"b\n\", 7\r\n\nc,  oops\n").unwrap();
         assert_eq!(s.field(0, 1).at(), "t.csv, line 3, column 4");
         assert_eq!(s.field(1, 0).at(), "t.csv, line 5, column 1");
@@ -465,9 +465,9 @@ mod tests {
     #[test]
     fn numbers_of_other_programs_are_recognised() {
         for (number, says) in [
-            ("\u{2212}0.5", "(this has a dash for its minus)"),
-            ("\"0,5\"", "(this has a comma for its point)"),
-            ("1.5D+08", "(this has a D for its exponent)"),
+            ("\u{2212}0.5", "(this has a dash in place of the minus sign)"),
+            ("\"0,5\"", "(this has a decimal comma)"),
+            ("1.5D+08", "(this has D in place of e)"),
             ("1 000", "1.5e8"),
             ("0x1f", "1.5e8"),
             ("", "1.5e8"),
@@ -477,7 +477,7 @@ mod tests {
         }
     }
     #[test]
-    fn faults_of_the_whole_file() {
+    fn wrong_first_lines_and_rows_are_refused() {
         assert!(fault("").starts_with("t.csv, line 1, column 1: the file is empty; allowed: a first line that names the columns name,x, "));
         assert!(fault("name;x\na;1\n").contains("no column `name` in `name;x`"));
         assert!(fault("name,x,X\n").contains("two columns `x`"));
@@ -504,7 +504,7 @@ mod tests {
         }
     }
     #[test]
-    fn a_column_beside_either_form() {
+    fn either_form_may_have_a_column_of_tolerances() {
         for (text, at, value) in [
             ("name,ra,dec,tolerance\nA,1,2, -5 \n", "t.csv, line 1, column 13", -5.0),
             ("# of\nTOLERANCE,dec,name,ra\ninf,1,A,2\n", "t.csv, line 2, column 1", f64::INFINITY),
@@ -524,7 +524,7 @@ mod tests {
             .contains("line 1, column 1: two columns `tolerance`"));
     }
     #[test]
-    fn a_tolerance_is_any_number_and_one() {
+    fn a_tolerance_is_any_one_number() {
         let read = |cell: &str| in_forms(&format!("name,ra,dec,tolerance\nA,0,0,{}\n", cell)).unwrap().field(0, 3).tolerance();
         for (cell, value) in
             [("5", 5.0), ("-1", -1.0), ("inf", f64::INFINITY), ("-inf", f64::NEG_INFINITY), ("1e300", 1e300), ("+0.5", 0.5)]
@@ -534,7 +534,7 @@ mod tests {
         assert!(["nan", "NaN", "-nan"].iter().all(|cell| read(cell).unwrap().is_nan()));
         assert_eq!(read("-0").unwrap().to_bits(), (-0.0f64).to_bits());
         for (cell, shown, hint) in
-            [("", "", ""), ("wide", "wide", ""), ("5 deg", "5 deg", ""), ("\"0,5\"", "0,5", " (this has a comma for its point)")]
+            [("", "", ""), ("wide", "wide", ""), ("5 deg", "5 deg", ""), ("\"0,5\"", "0,5", " (this has a decimal comma)")]
         {
             let says = format!(": tolerance reads `{}`; allowed: degrees of roll as one number, such as 5 or 0.25{}", shown, hint);
             let text = read(cell).unwrap_err().to_string();
@@ -542,7 +542,7 @@ mod tests {
         }
     }
     #[test]
-    fn both_forms_neither_and_half_of_one() {
+    fn a_file_of_both_forms_neither_or_half_of_one_is_refused() {
         const ALLOWED: &str =
             "; allowed: a first line that names the columns name,ra,dec or name,x,y,z, with commas between them; a line that starts with # is a comment";
         for (head, says) in [
@@ -597,8 +597,8 @@ mod tests {
             ("\u{2212}5°23′28″", PARTS),
             ("22d00m52s", PARTS),
             ("22d0'52\"", PARTS),
-            ("83,633", " (this has a comma for its point)"),
-            ("\u{2212}5.391", " (this has a dash for its minus)"),
+            ("83,633", " (this has a decimal comma)"),
+            ("\u{2212}5.391", " (this has a dash in place of the minus sign)"),
             ("1 000", ""),
             ("83.633 deg", ""),
             ("83.633°", ""),
@@ -616,11 +616,11 @@ mod tests {
         }
     }
     #[test]
-    fn no_records_are_no_fault() {
+    fn a_file_without_rows_is_accepted() {
         assert_eq!(sheet("name,x\n").unwrap().len(), 0);
     }
     #[test]
-    fn any_space_is_trimmed_and_counted() {
+    fn spaces_are_trimmed_and_counted_in_places() {
         let s = sheet("name,x\n\u{a0}2026-13-01T00:00:00Z,\u{3000}\u{2003}\tç\n").unwrap();
         let time = s.field(0, 0).time().unwrap_err().to_string();
         assert!(time.starts_with("t.csv, line 2, column 7: name reads `2026-13-01T00:00:00Z`; allowed: a month"), "{}", time);
@@ -648,7 +648,7 @@ mod tests {
         assert!(sheet("x,name\n1,\"a\"\n2,b\"\n3,\"c\"").is_ok());
     }
     #[test]
-    fn comments_are_left_out_and_their_lines_counted() {
+    fn comments_are_skipped_and_their_lines_counted() {
         let s = sheet("# of, \"2026\n#\r\nname,x\n#a,1\n\nb,2\r\n# \"\n\n#\nc,oops\n\"#d\",4\n#,\"end").unwrap();
         assert_eq!(s.len(), 3);
         assert_eq!(s.field(0, 0).at(), "t.csv, line 6, column 1");
@@ -687,7 +687,7 @@ mod tests {
         assert!(sheet(&format!("name,x\r{}", "a,1\r".repeat(20_000))).is_ok());
     }
     #[test]
-    fn a_long_line_and_a_long_file() {
+    fn long_lines_are_refused_and_rows_beyond_the_limit_counted() {
         let text = fault(&format!("name,x\n{},1\n", "a".repeat(70_000)));
         assert_eq!(text, "t.csv, line 2, column 1: a line of 70,003 bytes; allowed: lines of at most 65,536 bytes");
         let s = sheet(&format!("name,x\n{}", "a,1\n".repeat(70_000))).unwrap();
@@ -695,7 +695,7 @@ mod tests {
         assert_eq!(s.fields().count(), 65_537);
     }
     #[test]
-    fn a_message_shows_a_cell_that_a_terminal_can_show() {
+    fn a_message_escapes_control_characters_of_a_cell() {
         let s = sheet("name,x\na,\"\u{1b}[2J\n\"\n").unwrap();
         assert!(s.field(0, 1).number().unwrap_err().to_string().contains("x reads `\\u{1b}[2J`; "));
         let s = sheet(&format!("name,x\na,{}\n", "7x".repeat(10_000))).unwrap();
@@ -763,6 +763,20 @@ mod tests {
         }
         Ok(rows)
     }
+    const ENDS: &[&str] = &["\r", "\n", "\r\n"];
+    const COMMENTS: &[&str] = &["", "#", "# a,b", "# \"", "#,\"", "#\"a\",\"b", "#,\"\"\""];
+    const FIELDS: &[&str] =
+        &["a", " é ", "", "b\"c", "\"a\"", "\"a,b\"", "\"\"\"\"", "\"a\rb\"", "\"a\nb\"", "\"a\r\nb\"", "\"\r#\"\"\r\"", "\"a\"b", "#"];
+    const PIECES: &[&str] = &["a", ",", "\"", "#", " ", "\r", "\n", "\r\n", "\ra,b\r"];
+    fn line_of(texts: &'static [&'static str]) -> impl Strategy<Value = String> {
+        (prop::sample::select(texts), prop::sample::select(ENDS)).prop_map(|(text, end)| text.to_owned() + end)
+    }
+    /// A row of two fields, a comment or an empty line, or any pieces.
+    fn any_line() -> impl Strategy<Value = String> {
+        let row = (prop::sample::select(FIELDS), line_of(FIELDS)).prop_map(|(name, x)| format!("{},{}", name, x));
+        let pieces = prop::collection::vec(prop::sample::select(PIECES), 0..6).prop_map(|pieces| pieces.concat());
+        prop_oneof![12 => row, 6 => line_of(COMMENTS), 1 => pieces]
+    }
     proptest! {
         #[test]
         fn every_character_of_a_field_has_its_place(text in "[ab,\"\n\r# \u{a0}\u{3000}é]{0,60}") {
@@ -782,12 +796,8 @@ mod tests {
         }
         /// Whatever ends the lines, the rows, their fields and their line numbers are those of a reader that goes character by character.
         #[test]
-        fn rows_are_those_of_a_plain_reader(
-            first in prop::sample::select(&["", "# \"of\r", "\r\n", "#\r\n\r"][..]),
-            pieces in prop::collection::vec(prop::sample::select(&["a", "é", ",", "\"", "\"\"", "#", "# b,c", " ", "\r", "\n", "\r\n", "\ra,b\r", "\na,b\r\n"][..]), 0..24),
-            end in prop::sample::select(&["\r", "\n", "\r\n"][..]),
-        ) {
-            let text = format!("{}name,x{}{}", first, end, pieces.concat());
+        fn rows_are_those_of_a_plain_reader(comment in line_of(COMMENTS), end in prop::sample::select(ENDS), lines in prop::collection::vec(any_line(), 0..7)) {
+            let text = format!("{}name,x{}{}", comment, end, lines.concat());
             match (sheet(&text), plainly_read(&text)) {
                 (Ok(s), Ok(rows)) => {
                     let read: Vec<_> = s.fields().map(|f| (f[0].line(), [f[0].text().to_owned(), f[1].text().to_owned()].to_vec())).collect();
@@ -809,7 +819,7 @@ mod tests {
                 }
             }
         }
-        /// Any columns are of one form, or told in a sentence that names both.
+        /// Any columns are of one form, or refused with a message that names both forms.
         #[test]
         fn any_first_line_has_a_form_or_a_fault(columns in prop::collection::vec("(name|x|y|z|ra|dec|RA|Dec|ra_deg|de|\\PC{0,3})", 0..8)) {
             let has = |name: &&str| columns.iter().filter(|column| column.trim().eq_ignore_ascii_case(name)).count();

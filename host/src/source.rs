@@ -1,4 +1,4 @@
-//! A text file held whole, so that every fault can name the line and the column.
+//! A text file kept whole in memory, so that every message can name the line and the column.
 use crate::{
     fault::Fault,
     files,
@@ -108,7 +108,7 @@ mod tests {
     use proptest::prelude::*;
 
     #[test]
-    fn places() {
+    fn a_place_is_a_line_and_a_column() {
         let s = Source::of(Path::new("f"), "ab\nçd\n".into()).unwrap();
         assert_eq!(s.at(0), "f, line 1, column 1");
         assert_eq!(s.at(3), "f, line 2, column 1");

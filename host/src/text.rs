@@ -1,4 +1,4 @@
-//! Small things of output.
+//! Numbers, counts and names as messages show them.
 use std::{os::unix::ffi::OsStrExt, path::Path};
 
 /// A message of our own, whose line ends are meant; what is shown already stays as it is.
@@ -19,7 +19,7 @@ pub fn number(x: f64) -> String {
     text.strip_suffix(".0").map_or(text.clone(), str::to_owned)
 }
 
-/// Says something on standard error; a sweep goes on though nobody listens there.
+/// Prints a line on standard error; a sweep goes on where that cannot be written.
 #[macro_export]
 macro_rules! tell {
     ($($words:tt)*) => {{
@@ -71,13 +71,13 @@ pub fn excerpt(text: &str) -> String {
     }
 }
 
-/// Which of these are as asked, as ranges: 0..3, 7.
+/// The indices with the wanted flag, as ranges: 0..3, 7.
 pub fn ranges(flags: &[bool], wanted: bool) -> String {
-    const TOLD: usize = 8;
+    const SHOWN: usize = 8;
     let mut parts = all_ranges(flags, wanted);
-    if parts.len() > TOLD {
-        let more = parts.len() - TOLD;
-        parts.truncate(TOLD);
+    if parts.len() > SHOWN {
+        let more = parts.len() - SHOWN;
+        parts.truncate(SHOWN);
         parts.push(format!("and {} more ranges", grouped(more)));
     }
     parts.join(", ")
@@ -132,13 +132,13 @@ mod tests {
     use std::{ffi::OsStr, process::Command};
 
     #[test]
-    fn one_and_many() {
+    fn a_count_of_one_has_no_plural() {
         assert_eq!(counted(1, "roll"), "1 roll");
         assert_eq!(counted(0, "time"), "0 times");
         assert_eq!(counted(3600, "roll"), "3,600 rolls");
     }
     #[test]
-    fn settings() {
+    fn numbers_have_as_few_digits_as_read_back() {
         assert_eq!([10.0, 0.4, -0.0, 1e-300, 1e300].map(number), ["10", "0.4", "-0", "1e-300", "1e300"]);
         assert_eq!([f64::NAN, f64::NEG_INFINITY].map(number), ["NaN", "-inf"]);
     }
@@ -151,14 +151,14 @@ mod tests {
         assert_eq!(printable_lines(&printable("one\ntwo")), "one\\ntwo");
     }
     #[test]
-    fn thousands() {
+    fn commas_stand_between_thousands() {
         assert_eq!(grouped(0), "0");
         assert_eq!(grouped(999), "999");
         assert_eq!(grouped(1000), "1,000");
         assert_eq!(grouped(1048576), "1,048,576");
     }
     #[test]
-    fn what_a_terminal_shows() {
+    fn an_excerpt_is_short_and_escaped() {
         assert_eq!(printable("α Cen, 4\u{a0}ly"), "α Cen, 4\u{a0}ly");
         assert_eq!(printable("a\n\u{1b}[2J\0\u{9b}b\r\t"), "a\\n\\u{1b}[2J\\u{0}\\u{9b}b\\r\\t");
         assert_eq!(excerpt("\u{202e}\u{feff}1\n"), "\\u{202e}\\u{feff}1\\n");
@@ -166,7 +166,7 @@ mod tests {
         assert_eq!(excerpt(&"ä".repeat(81)), "ä".repeat(80) + " ..");
     }
     #[test]
-    fn runs() {
+    fn flags_are_shown_as_ranges() {
         assert_eq!(ranges(&[], true), "");
         assert_eq!(ranges(&[true, true, false, true], true), "0..2, 3");
         assert_eq!(ranges(&[true, true, false, true], false), "2");
@@ -176,7 +176,7 @@ mod tests {
         assert_eq!(ranges(&[false; 5], false), "0..5");
     }
     #[test]
-    fn words_of_a_shell() {
+    fn quoted_names_are_one_word_of_a_shell() {
         let names: [&[u8]; 10] =
             [b"a/plan.toml", b"two words", b"it's", b"$HOME `x` \"y\" \\", b"-o", b"", b"*?", b"1\n2\t'\\", b"\x1b[31m", b"latin-1 \xe9"];
         for name in names {

@@ -59,7 +59,7 @@ mod tests {
     }
 
     #[test]
-    fn the_largest_gap_around_the_circle() {
+    fn half_the_largest_gap_is_taken_around_the_circle() {
         for (rolls, half) in [
             (Rolls::Even(1), 180.0),
             (Rolls::Even(24), 7.5),
@@ -77,7 +77,7 @@ mod tests {
         }
     }
     #[test]
-    fn in_a_few_words() {
+    fn rolls_in_words() {
         for (rolls, words) in [
             (Rolls::Even(1), "1 roll"),
             (Rolls::Even(3600), "3,600 rolls"),

@@ -22,7 +22,7 @@ fn vectors() -> String {
     format!("name,x,y,z\n{}", rows.collect::<String>())
 }
 
-/// A plan of these targets at 100 times, 8 chunks.
+/// A plan of these targets at 100 times; of five targets, 8 chunks.
 fn folder(targets: &str) -> Folder {
     let f = Folder::new(&[], "", "tolerance = 15\n");
     f.write("plan.toml", "targets = \"t.csv\"\nephemeris = \"e.csv\"\nrolls = 8\ntolerance = 15\n");
@@ -71,6 +71,22 @@ fn every_command_does_the_same_by_either_form() {
     assert!(rows.len() == 5 && rows.iter().all(|row| row.contains('0') && row.contains('1')), "{}", mask);
     // For both poles the Sun is at rolls that the eight do not distinguish.
     assert_eq!(rows.iter().collect::<BTreeSet<_>>().len(), 4, "{}", mask);
+}
+
+/// A lone carriage return ends a line, in a comment too, whatever ends the others: no target and no time is lost.
+#[test]
+fn no_row_is_swallowed_after_a_carriage_return() {
+    let whole = folder("name,ra,dec\nA,10,20\nB,100,-45\nC,250,80\n").swept();
+    for targets in ["name,ra,dec\rA,10,20\r# note\rB,100,-45\rC,250,80\n", "name,ra,dec\nA,10,20\n# note\rB,100,-45\nC,250,80\n"] {
+        let f = folder(targets);
+        let ephemeris = f.read("e.csv");
+        for (from, to) in [("", ""), ("\n2026-03-20T00:07", "\n# note\r2026-03-20T00:07"), ("\n", "\r"), ("\n", "\r# note\r")] {
+            f.write("e.csv", &ephemeris.replace(from, to));
+            assert!(f.run(&["check", "plan.toml"]).stdout.contains(": 3 targets, 100 times, 300 cells"), "{:?} {:?}", targets, to);
+            f.run(&["sweep", "plan.toml", "-q"]).says(0, &["5 of 5 chunks have a line"]);
+            assert_eq!(f.run(&["windows", "plan.toml"]).stdout, whole.run(&["windows", "plan.toml"]).stdout);
+        }
+    }
 }
 
 #[test]

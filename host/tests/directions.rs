@@ -3,7 +3,7 @@ mod common;
 
 use common::{document, done, ephemeris, run, told_by_every_command, Folder};
 
-const ALLOWED: &str = "; allowed: less than 1e-9 away from 1, so a unit vector of about ten digits a number; or ra, dec in degrees";
+const ALLOWED: &str = "; allowed: less than 1e-9 away from 1, so a unit vector of about ten digits per number; or ra, dec in degrees";
 
 /// A plan of these targets, of one form or the other, at 50 times.
 fn folder(targets: &str, more: &str) -> Folder {

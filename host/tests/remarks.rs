@@ -1,7 +1,7 @@
 //! Whole commands on plans that are accepted and can hardly be meant: `check` warns on standard output, `sweep` and `windows` on standard error.
 mod common;
 
-use common::{done, run, told_by_every_command, Folder};
+use common::{document, done, run, told_by_every_command, Folder};
 
 const NAMES: [&str; 3] = ["A", "B", "C"];
 
@@ -40,17 +40,21 @@ fn masks(f: &Folder) -> Vec<String> {
 
 #[test]
 fn a_panel_that_no_roll_turns_is_warned_of() {
-    for panel in ["[1, 0, 0]", "[0, 0, 0]", "[0, 1e-13, 0]", "[-5, 1e-12, 0]", "[0, 7e-13, -7e-13]"] {
-        for more in ["tolerance = -1", "tolerance = nan", "tolerance = 1\nconfigured_roll = nan"] {
-            let f = folder(&format!("panel = {}\n{}\n", panel, more), None);
-            let says = format!(
-                "plan.toml, line 4, column 9: panel reads {}, and its part across the boresight, in y and z, is 1e-12 or shorter, so that every cell \
-                 is Free: nothing can be violated",
-                panel
-            );
-            warned(&f, &[&says]);
-            assert_eq!(masks(&f), ["000"; 3]);
-        }
+    for (panel, more) in [
+        ("[1, 0, 0]", "tolerance = 1"),
+        ("[0, 0, 0]", "tolerance = -1"),
+        ("[0, 1e-13, 0]", "tolerance = nan"),
+        ("[-5, 1e-12, 0]", "tolerance = 1\nconfigured_roll = nan"),
+        ("[0, 7e-13, -7e-13]", "tolerance = 180"),
+    ] {
+        let f = folder(&format!("panel = {}\n{}\n", panel, more), None);
+        let says = format!(
+            "plan.toml, line 4, column 9: panel reads {}, and its part across the boresight, in y and z, is 1e-12 or shorter, so that every cell is \
+             Free: nothing can be violated",
+            panel
+        );
+        warned(&f, &[&says]);
+        assert_eq!(masks(&f), ["000"; 3]);
     }
     for panel in ["[0, 1, 0]", "[0, 1.1e-12, 0]", "[9, 0, -2e-12]"] {
         let f = folder(&format!("panel = {}\ntolerance = 1\n", panel), None);
@@ -61,17 +65,14 @@ fn a_panel_that_no_roll_turns_is_warned_of() {
 
 #[test]
 fn a_configured_roll_that_leaves_one_answer_is_warned_of() {
-    for (roll, shown) in [("nan", "NaN"), ("-nan", "NaN"), ("inf", "inf"), ("-inf", "-inf")] {
-        for tolerance in ["1", "nan", "-1"] {
-            let f = folder(&format!("tolerance = {}\nconfigured_roll = {}\n", tolerance, roll), None);
-            let says = format!(
-                "plan.toml, line 5, column 19: configured_roll reads {}, and its difference from an optimal roll is not a number: nothing can be \
-                 violated",
-                shown
-            );
-            warned(&f, &[&says]);
-            assert_eq!(masks(&f), ["000"; 3]);
-        }
+    for (roll, shown, tolerance) in [("nan", "NaN", "1"), ("-nan", "NaN", "-1"), ("inf", "inf", "nan"), ("-inf", "-inf", "180")] {
+        let f = folder(&format!("tolerance = {}\nconfigured_roll = {}\n", tolerance, roll), None);
+        let says = format!(
+            "plan.toml, line 5, column 19: configured_roll reads {}, and its difference from an optimal roll is not a number: nothing can be violated",
+            shown
+        );
+        warned(&f, &[&says]);
+        assert_eq!(masks(&f), ["000"; 3]);
     }
     // So large that the optimal roll, up to 360, is lost in its difference.
     for (roll, difference, tolerance, mask) in
@@ -163,12 +164,12 @@ fn a_sun_that_no_almanac_has_there_is_warned_of() {
     off(
         &["0,1.5e8,0,0,0,0", "1.5e8,0,0,0,0,0"],
         &["e.csv, line 2, column 22: at 2026-03-20T00:00:00Z the Sun is at ra 90, dec 0 as seen from the observer, but an almanac has it at ra \
-           359.444, dec -0.241, 90.6 degrees away (more than 3 at 1 of 2 times); check the axes, the signs and the dates"],
+           359.444, dec -0.241 as seen from the Earth, 90.6 degrees away (more than 3 at 1 of 2 times); check the axes, the signs and the dates"],
     );
     off(
         &["1.5e8,0,0,0,0,0", "-1,0,0,0,0,0", "0,0,0,1.5e8,0,0"],
         &["e.csv, line 3, column 22: at 2026-03-20T00:01:00Z the Sun is at ra 180, dec 0 as seen from the observer, but an almanac has it at ra \
-           359.444, dec -0.241, 179.4 degrees away (more than 3 at 2 of 3 times); check the axes, the signs and the dates"],
+           359.444, dec -0.241 as seen from the Earth, 179.4 degrees away (more than 3 at 2 of 3 times); check the axes, the signs and the dates"],
     );
     // Just within 3 degrees of ra 359.443, and just beyond.
     off(&["1.5e8,0.0637e8,0,0,0,0"], &[]);
@@ -191,7 +192,7 @@ fn check_prints_the_sun_at_the_first_and_the_last_time() {
     let text = done(&f, "check plan.toml");
     assert!(
         text.contains(
-            "configured roll none\nsun      ra 0, dec 0, distance 149993000 at 2026-03-20T00:00:00Z\n         ra 0.382, dec 0.115, distance \
+            "\nsettings 8 rolls, tolerance 10, panel [0, 1, 0], configured roll none\nsun      ra 0, dec 0, distance 149993000 at 2026-03-20T00:00:00Z\n         ra 0.382, dec 0.115, distance \
              149996600 at 2026-03-20T00:02:00Z\nwarning: "
         ),
         "{}",
@@ -303,4 +304,26 @@ fn columns_that_resemble_known_ones_are_named() {
         "warning: e.csv, line 1, column 57: column `Sun X [km]` is not used; `sun_x` is\n\
          warning: e.csv, line 1, column 68: column `Time_UTC` is not used; `time` is\n"
     );
+}
+
+#[test]
+fn the_document_s_examples_of_warnings_hold() {
+    let (document, unwrapped) = document();
+    let f = folder("panel = [1, 0, 0]\ntolerance = 5\n", None);
+    done(&f, "example season");
+    let checked = done(&f, "check season/plan.toml");
+    let sun: Vec<_> = checked.lines().filter(|line| line.contains(", distance ")).collect();
+    assert!(sun.len() == 2 && document.contains(&format!("\n{}\n", sun.join("\n"))), "{}", checked);
+    let shown = |plan: &Folder| {
+        let text = done(plan, "check plan.toml").replace("t.csv", "targets.csv").replace("e.csv", "ephemeris.csv");
+        let warnings: Vec<_> = text.lines().filter(|line| line.starts_with("warning: ")).collect();
+        assert!(warnings.len() == 1 && unwrapped.contains(warnings[0]), "not in docs/PLAN_FILE.md: {}", text);
+    };
+    shown(&f);
+    let f = folder("", None);
+    f.write("t.csv", "name,ra,dec,tolerance\nVega,279.235,38.784,5\nDeneb,310.358,45.280,nan\n");
+    shown(&f);
+    let f = folder("tolerance = 5\n", None);
+    f.write("e.csv", &ephemeris(&["0,1,0,0,0,0", "0,1,0,0,0,0"]));
+    shown(&f);
 }

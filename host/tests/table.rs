@@ -202,8 +202,8 @@ fn every_command_refuses_a_wrong_table() {
             1,
             format!("refused with 19: plan.toml, line 3, column 16: entry 2 of rolls reads 0, and entry 1 before it -0.0{}", ENTRY),
         ),
-        ("[0, \"90\"]", 3, format!("plan.toml, line 3, column 9: rolls reads [0, \"90\"], and its entry 2 is no number{}", ALLOWED)),
-        ("[[0, 90]]", 3, format!("plan.toml, line 3, column 9: rolls reads [[0, 90]], and its entry 1 is no number{}", ALLOWED)),
+        ("[0, \"90\"]", 3, format!("plan.toml, line 3, column 9: rolls reads [0, \"90\"], and its entry 2 is not a number{}", ALLOWED)),
+        ("[[0, 90]]", 3, format!("plan.toml, line 3, column 9: rolls reads [[0, 90]], and its entry 1 is not a number{}", ALLOWED)),
         ("90.5", 3, format!("plan.toml, line 3, column 9: rolls reads 90.5{}", ALLOWED)),
     ] {
         told_by_every_command(&folder(rolls, TOLERANCE), status, &says);

@@ -231,7 +231,7 @@ fn every_command_refuses_wrong_tolerances() {
             list(&["1", "2", "'3'", "4", "5"]),
             plain(),
             3,
-            format!("plan.toml, line 4, column 13: tolerance reads [1, 2, '3', 4, 5], and its entry 3 is no number; allowed: {}", ALLOWED),
+            format!("plan.toml, line 4, column 13: tolerance reads [1, 2, '3', 4, 5], and its entry 3 is not a number; allowed: {}", ALLOWED),
         ),
     ] {
         told_by_every_command(&folder(&key, &targets), status, &says);
@@ -272,7 +272,7 @@ fn the_document_s_examples_of_tolerances_hold() {
 fn a_severity_that_would_be_infinite_names_its_target() {
     let mut tolerances = DIFFERENT;
     tolerances[3] = "-inf";
-    const ALLOWED: &str = ", and the severities at the configured roll would be infinite; allowed with --evaluate: any number but -inf";
+    const ALLOWED: &str = ", and the severities at the configured roll would be infinite; allowed with --evaluate: any number except -inf";
     for ((key, targets), at) in ways(&tolerances).into_iter().zip([
         "plan.toml, line 4, column 26: tolerance of target `D` reads -inf",
         "t.csv, line 5, column 1: tolerance of target `D` reads `-inf`",
