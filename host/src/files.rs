@@ -1,4 +1,4 @@
-//! What the program asks of the file system beside reading.
+//! Writing files: whole or not at all, and never over another file by accident.
 use crate::{fault::Fault, stop};
 use std::{
     fs::{self, File, Metadata, OpenOptions},
@@ -250,7 +250,7 @@ mod tests {
         assert!(fs::metadata("/dev/null").unwrap().file_type().is_char_device());
     }
     #[test]
-    fn two_names_of_one_file() {
+    fn two_names_of_one_file_are_recognised() {
         let folder = tempfile::tempdir().unwrap();
         let at = |name: &str| Place::of(&folder.path().join(name)).unwrap();
         assert!(at("f").is(&at("./f")) && !at("f").is(&at("g")));
@@ -264,7 +264,7 @@ mod tests {
         assert!(!at("f").is(&at("d/f")));
     }
     #[test]
-    fn what_cannot_be_written() {
+    fn places_that_cannot_be_written_are_faults() {
         let folder = tempfile::tempdir().unwrap();
         for (name, says) in
             [("no/f", "there is no such file or folder"), ("", "it is a folder"), ("f/", "it is a folder"), ("..", "it is a folder")]
