@@ -112,7 +112,11 @@ pub fn write_whole(path: &Path, bytes: &[u8]) -> Result<(), Fault> {
         true => Err(io::Error::new(io::ErrorKind::InvalidInput, "it is no plain file")),
         false => place.replace(|out| out.write_all(bytes)),
     });
-    done.map_err(|e| fault(path, &e))
+    done.map_err(|e| fault(path, &e))?;
+    if stop::is_due() {
+        return Err(Fault::Stopped(format!("stopped after {} was written", path.display())));
+    }
+    Ok(())
 }
 
 /// The same with what the function writes, which may go into a pipe or a device too. A signal ends the writing, and the file is as it was.

@@ -64,7 +64,7 @@ fn sky() -> (Vec<[f64; 3]>, Vec<[f64; 6]>) {
     (targets, positions.collect())
 }
 
-/// A Free cell's too. Neither tolerances nor a configured roll matter, whatever they are.
+/// That of a Free cell too. Neither tolerances nor a configured roll matter, whatever they are.
 #[test]
 fn each_roll_reads_back_as_the_library_s_number() {
     let (targets, positions) = sky();
@@ -156,13 +156,13 @@ fn a_selection_prints_the_cells_that_mask_prints() {
         (&["--from", "2026-03-20T00:00:03.25Z", "--to", "2026-03-20T00:00:03.25Z"], 12),
         (&["--from", "2026-03-20T00:00:03.3Z", "--to", "2026-03-20T00:00:03.4Z"], 0),
     ] {
-        let told = rolls(&f, words);
-        assert_eq!(told.lines().count(), count + 1, "{:?}", words);
-        let of_all = all.lines().filter(|line| told.contains(line));
-        assert_eq!(told, of_all.map(|line| format!("{}\n", line)).collect::<String>(), "{:?}", words);
+        let printed = rolls(&f, words);
+        assert_eq!(printed.lines().count(), count + 1, "{:?}", words);
+        let of_all = all.lines().filter(|line| printed.contains(line));
+        assert_eq!(printed, of_all.map(|line| format!("{}\n", line)).collect::<String>(), "{:?}", words);
         let mask = f.run(&[&["mask", "plan.toml", "--roll", "0", "--form", "csv"], words].concat()).stdout;
         let place = |text: &str| -> Vec<String> { text.lines().skip(1).map(|line| line.split(',').take(2).collect()).collect() };
-        assert_eq!(place(&told), place(&mask), "{:?}", words);
+        assert_eq!(place(&printed), place(&mask), "{:?}", words);
     }
 }
 
@@ -187,9 +187,9 @@ fn the_example_in_the_guide_is_what_is_printed() {
     let (document, _) = document();
     let f = small();
     f.run(&["example", "season"]).says(0, &[]);
-    let told = f.run(&["rolls", "season/plan.toml"]).stdout;
-    assert_eq!(told.lines().count(), 1 + 16 * 1440);
-    let shown: String = told.lines().take(3).map(|line| format!("{}\n", line)).collect();
+    let printed = f.run(&["rolls", "season/plan.toml"]).stdout;
+    assert_eq!(printed.lines().count(), 1 + 16 * 1440);
+    let shown: String = printed.lines().take(3).map(|line| format!("{}\n", line)).collect();
     assert!(document.contains(&format!("```\n{}```\n", shown)), "{}", shown);
 }
 
@@ -200,13 +200,13 @@ fn small() -> Folder {
 #[test]
 fn no_journal_is_needed_or_read() {
     let f = small();
-    let told = rolls(&f, &[]);
-    assert_eq!(told.lines().count(), 15);
+    let printed = rolls(&f, &[]);
+    assert_eq!(printed.lines().count(), 15);
     for journal in ["no journal", ""] {
         f.write("plan.journal", journal);
         f.write("plan.journal.plan", "no digest");
         let before = f.all();
-        assert_eq!(rolls(&f, &[]), told);
+        assert_eq!(rolls(&f, &[]), printed);
         assert!(f.all() == before);
     }
 }
@@ -214,8 +214,8 @@ fn no_journal_is_needed_or_read() {
 #[test]
 fn a_file_is_whole_or_as_it_was() {
     let f = small();
-    let told = rolls(&f, &[]);
-    assert_eq!(rolls(&f, &["--csv", "-"]), told);
+    let printed = rolls(&f, &[]);
+    assert_eq!(rolls(&f, &["--csv", "-"]), printed);
     f.write("r.csv", "old\n");
     let before = f.all();
     let ended = f.shell("trap '' XFSZ; ulimit -f 0; exec $W rolls plan.toml --csv r.csv");
@@ -223,9 +223,9 @@ fn a_file_is_whole_or_as_it_was() {
     assert!(f.all() == before, "{:?}", f.all().iter().map(|(name, _)| name).collect::<Vec<_>>());
     let ended = f.run(&["rolls", "plan.toml", "--csv", "r.csv"]);
     assert_eq!((ended.status, ended.stdout.as_str(), ended.stderr.as_str()), (0, "", "wrote r.csv\n"));
-    assert_eq!(f.read("r.csv"), told);
+    assert_eq!(f.read("r.csv"), printed);
     let ended = f.shell("$W rolls plan.toml --csv /dev/stdout | cat");
-    assert_eq!((ended.stdout.as_str(), ended.stderr.as_str()), (told.as_str(), "wrote /dev/stdout\n"));
+    assert_eq!((ended.stdout.as_str(), ended.stderr.as_str()), (printed.as_str(), "wrote /dev/stdout\n"));
 }
 
 #[test]
@@ -297,8 +297,8 @@ fn as_many_cells_as_a_plan_may_have_are_printed() {
     let closed = f.command(&["rolls", "plan.toml"]).stdout(Stdio::from(OwnedFd::from(ours))).stderr(Stdio::piped()).output().unwrap();
     assert!(closed.status.success() && closed.stderr.is_empty());
     assert_eq!(f.shell("$W rolls plan.toml | head -1").stdout, HEAD);
-    let told = f.shell("$W rolls plan.toml | wc -l; $W rolls plan.toml --csv r.csv").stdout;
-    assert_eq!(told.trim(), "1048577");
+    let printed = f.shell("$W rolls plan.toml | wc -l; $W rolls plan.toml --csv r.csv").stdout;
+    assert_eq!(printed.trim(), "1048577");
     let text = f.read("r.csv");
     let last = cell(targets[1023], [positions[1023][0], positions[1023][1], 0.1], [0.0; 3], [0.0, 1.0, 0.0]).unwrap();
     assert!(matches!(last, OptimalRoll::At(at) if text.ends_with(&format!("T1023,2026-03-20T00:17:03.250000000Z,{},false,1024\n", at))));
