@@ -15,10 +15,10 @@ fn picture(name: &str, times: &[&str]) -> String {
     f.read("w.svg")
 }
 
-/// Each row's painted area by colour, as shares of what the row has painted, and how many elements it is drawn with.
+/// Each row's painted area by colour, as shares of the row's band, and how many elements it is drawn with. The whole band is painted, once.
 fn painted(svg: &Document) -> Vec<(HashMap<String, f64>, usize)> {
     let labels = svg.descendants().filter(|n| n.attribute("text-anchor") == Some("end"));
-    let rows: Vec<_> = labels.map(|n| number(n, "y")).collect();
+    let (rows, left): (Vec<_>, Vec<_>) = labels.map(|n| (number(n, "y"), number(n, "x") + 10.0)).unzip();
     let mut painted = vec![(HashMap::new(), 0); rows.len()];
     for n in svg.descendants().filter(|n| n.children().any(|c| c.has_tag_name("title"))) {
         let (y, area) = match n.tag_name().name() {
@@ -31,9 +31,11 @@ fn painted(svg: &Document) -> Vec<(HashMap<String, f64>, usize)> {
         *painted[row].0.entry(n.attribute("fill").unwrap().to_owned()).or_insert(0.0) += area;
         painted[row].1 += 1;
     }
-    for (areas, _) in &mut painted {
+    for ((areas, _), left) in painted.iter_mut().zip(left) {
+        let band = 14.0 * (1000.0 - 48.0 - left);
+        areas.values_mut().for_each(|area| *area /= band);
         let all: f64 = areas.values().sum();
-        areas.values_mut().for_each(|area| *area /= all);
+        assert!((all - 1.0).abs() < 0.001, "{} of the band is painted: {:?}", all, areas);
     }
     painted
 }
