@@ -1,4 +1,4 @@
-//! What the program asks of the file system beside reading.
+//! Writing files: whole or not at all, and never over another file by accident.
 use crate::{fault::Fault, source::shown, stop};
 use std::{
     fs::{self, File, Metadata, OpenOptions},
@@ -112,7 +112,11 @@ pub fn write_whole(path: &Path, bytes: &[u8]) -> Result<(), Fault> {
         true => Err(io::Error::new(io::ErrorKind::InvalidInput, "it is no plain file")),
         false => place.replace(|out| out.write_all(bytes)),
     });
-    done.map_err(|e| fault(path, &e))
+    done.map_err(|e| fault(path, &e))?;
+    if stop::is_due() {
+        return Err(Fault::Stopped(format!("stopped after {} was written", path.display())));
+    }
+    Ok(())
 }
 
 /// The same with what the function writes, which may go into a pipe or a device too. A signal ends the writing, and the file is as it was.
@@ -250,7 +254,7 @@ mod tests {
         assert!(fs::metadata("/dev/null").unwrap().file_type().is_char_device());
     }
     #[test]
-    fn two_names_of_one_file() {
+    fn two_names_of_one_file_are_recognised() {
         let folder = tempfile::tempdir().unwrap();
         let at = |name: &str| Place::of(&folder.path().join(name)).unwrap();
         assert!(at("f").is(&at("./f")) && !at("f").is(&at("g")));
@@ -264,7 +268,7 @@ mod tests {
         assert!(!at("f").is(&at("d/f")));
     }
     #[test]
-    fn what_cannot_be_written() {
+    fn places_that_cannot_be_written_are_faults() {
         let folder = tempfile::tempdir().unwrap();
         for (name, says) in
             [("no/f", "there is no such file or folder"), ("", "it is a folder"), ("f/", "it is a folder"), ("..", "it is a folder")]

@@ -223,15 +223,26 @@ impl<'a> Listing<'a> {
 
     pub fn csv(&self, mut out: impl Write) -> io::Result<()> {
         let times = Times::of(self.plan, 9);
+        let mut line = Vec::new();
         writeln!(out, "target,kind,first_sample,last_sample,start,end,seconds,severity_deg,data_end,target_number")?;
         for row in &self.rows {
             // Only a name may need quotes; it is put into CSV once per target.
             let name = csv_field(row.name)?;
             for Listed { kind, window: w, seconds } in &row.windows {
-                let (start, end) = (times.at(w.first), times.at(w.last));
-                out.write_all(&name)?;
-                write!(out, ",{},{},{},{},{},{}", kind.word(), w.first, w.last, start, end, seconds)?;
-                writeln!(out, ",{},{},{}", w.severity, w.is_last != 0, row.number)?;
+                line.clear();
+                line.extend_from_slice(&name);
+                for text in [",", kind.word(), ","] {
+                    line.extend_from_slice(text.as_bytes());
+                }
+                push_number(&mut line, w.first);
+                line.push(b',');
+                push_number(&mut line, w.last);
+                for text in [",", times.at(w.first), ",", times.at(w.last), ","] {
+                    line.extend_from_slice(text.as_bytes());
+                }
+                push_number(&mut line, *seconds);
+                writeln!(line, ",{},{},{}", w.severity, w.is_last != 0, row.number)?;
+                out.write_all(&line)?;
             }
         }
         out.flush()
@@ -388,6 +399,20 @@ impl Times<'_> {
         let j = sample as usize;
         self.texts[j].get_or_init(|| instant::format(self.times[j], self.digits))
     }
+}
+
+/// Appends a whole number in decimal: `write!` takes several times as long, which shows in a listing of a million windows.
+fn push_number(line: &mut Vec<u8>, n: u64) {
+    let begun = line.len();
+    let mut rest = n;
+    loop {
+        line.push(b'0' + (rest % 10) as u8);
+        rest /= 10;
+        if rest == 0 {
+            break;
+        }
+    }
+    line[begun..].reverse();
 }
 
 /// A text as a field of CSV, quoted where it must be.
@@ -626,8 +651,17 @@ mod tests {
         let mask: Vec<u8> = (0..300).map(|j| u8::from(j % 7 < 3)).collect();
         let mut table = Vec::new();
         Listing::of_mask(&p, whole(), &mask, 1).unwrap().table(&mut table).unwrap();
-        for line in String::from_utf8(table).unwrap().lines().filter(|line| line.starts_with("  ")) {
+        for line in String::from_utf8(table).unwrap().lines() {
             assert!(line.len() <= 80, "{}", line);
+        }
+    }
+    #[test]
+    fn a_number_is_appended_in_decimal() {
+        for n in (0..70).map(|k| 1u128 << k >> 1).flat_map(|n| [n, n.saturating_sub(1), 10 * n]).filter_map(|n| u64::try_from(n).ok()) {
+            let mut line = b"x".to_vec();
+            push_number(&mut line, n);
+            assert_eq!(line, format!("x{}", n).into_bytes());
+            assert_eq!(width(n), line.len() - 1);
         }
     }
     proptest! {

@@ -75,6 +75,11 @@ pub fn asked() -> bool {
     flag().load(Ordering::SeqCst)
 }
 
+/// Whether a signal that came while something was held still has to end the process. Where a command listens, it sees to that itself.
+pub fn is_due() -> bool {
+    at_once().load(Ordering::SeqCst) && asked()
+}
+
 /// Whether a process of this /proc status ignores a signal.
 fn is_ignored(status: &str, signal: i32) -> bool {
     let digits = status.lines().find_map(|line| line.strip_prefix("SigIgn:")).unwrap_or("0").trim();

@@ -63,8 +63,8 @@ fn nan_and_infinite_settings_are_texts_in_json() {
     ] {
         let f = Folder::new(&["A"], "01", setting).swept();
         for words in [&["windows", "plan.toml", "--json", "-"][..], &["status", "plan.toml", "--json"]] {
-            let told = json(&f.run(words).stdout);
-            assert_eq!((&told["tolerance_deg"], &told["configured_roll_deg"]), (&tolerance, &roll), "{}", setting);
+            let parsed = json(&f.run(words).stdout);
+            assert_eq!((&parsed["tolerance_deg"], &parsed["configured_roll_deg"]), (&tolerance, &roll), "{}", setting);
         }
     }
 }
@@ -141,12 +141,12 @@ fn totals_agree_in_table_summary_and_json() {
     );
     assert!(ended.stderr.contains("2 clear samples stand alone"));
 
-    let told = json(&f.run(&["windows", "plan.toml", "--json", "-"]).stdout);
+    let parsed = json(&f.run(&["windows", "plan.toml", "--json", "-"]).stdout);
     let of_kind = |samples: usize, share: f64| json!({"samples": samples, "share": share, "windows": 2, "seconds": 60, "longest_seconds": 60, "clipped_seconds": 60, "time_share": share});
     let totals = json!({"samples": 7, "visible": of_kind(4, visible), "violated": of_kind(3, violated), "single_clear_samples": 1});
-    assert_eq!(told["targets"][1]["totals"], totals);
-    assert_eq!(told["totals"]["violated"]["seconds"], 120);
-    assert_eq!(told["part"], Value::Null);
+    assert_eq!(parsed["targets"][1]["totals"], totals);
+    assert_eq!(parsed["totals"]["violated"]["seconds"], 120);
+    assert_eq!(parsed["part"], Value::Null);
 }
 
 #[test]
@@ -173,8 +173,8 @@ fn the_seconds_of_each_window_are_cut_to_whole_ones() {
     let rows = rows.map(|(time, sun)| row(time, sun)).concat();
     f.write("e.csv", &format!("time,sun_x,sun_y,sun_z,observer_x,observer_y,observer_z\n{}", rows));
     f.run(&["sweep", "plan.toml", "--json", "w.json"]).says(0, &[]);
-    let told = json(&f.read("w.json"));
-    assert_eq!(told["totals"]["visible"]["seconds"], 2);
+    let parsed = json(&f.read("w.json"));
+    assert_eq!(parsed["totals"]["visible"]["seconds"], 2);
 }
 
 #[test]
@@ -212,8 +212,8 @@ fn windows_of_selected_targets_and_times_are_whole() {
     ] {
         assert!(table.contains(words), "{}", table);
     }
-    let told = json(&f.run(&[&["windows", "plan.toml", "--json", "-"], &one[..]].concat()).stdout);
-    assert_eq!(told["part"], json!({"targets": 1, "of_targets": 2, "from": "2026-03-20T00:05:00.000000000Z", "to": null}));
+    let parsed = json(&f.run(&[&["windows", "plan.toml", "--json", "-"], &one[..]].concat()).stdout);
+    assert_eq!(parsed["part"], json!({"targets": 1, "of_targets": 2, "from": "2026-03-20T00:05:00.000000000Z", "to": null}));
     let svg = f.run(&[&["windows", "plan.toml", "--svg", "-"], &one[..]].concat()).stdout;
     assert!(svg.contains("Part of the plan: 1 of 2 targets; windows that meet the times from 2026-03-20T00:05:00Z"));
 
@@ -239,15 +239,15 @@ fn an_unfinished_sweep_exits_with_4() {
         assert_eq!(status(true).stderr, "");
     };
     unfinished();
-    let told = json(&status(true).stdout);
-    assert_eq!((&told["journal_bytes"], &told["missing"], &told["finished"]), (&json!(null), &json!(["0..3"]), &json!(false)));
+    let parsed = json(&status(true).stdout);
+    assert_eq!((&parsed["journal_bytes"], &parsed["missing"], &parsed["finished"]), (&json!(null), &json!(["0..3"]), &json!(false)));
 
     f.run(&["sweep", "plan.toml", "--chunks", "1"]).says(0, &["missing: 0, 2"]);
     unfinished();
     f.run(&["windows", "plan.toml"]).says(4, &["refused with 15: plan.journal: 1 of 3 chunks have a line"]);
-    let told = json(&status(true).stdout);
-    assert_eq!((&told["chunks"], &told["chunks_with_line"], &told["missing"]), (&json!(3), &json!(1), &json!(["0", "2"])));
-    assert_eq!((&told["journal_bytes"], &told["tail_bytes"], &told["running"]), (&json!(140), &json!(0), &json!(false)));
+    let parsed = json(&status(true).stdout);
+    assert_eq!((&parsed["chunks"], &parsed["chunks_with_line"], &parsed["missing"]), (&json!(3), &json!(1), &json!(["0", "2"])));
+    assert_eq!((&parsed["journal_bytes"], &parsed["tail_bytes"], &parsed["running"]), (&json!(140), &json!(0), &json!(false)));
 
     let f = f.swept();
     assert_eq!(f.run(&["windows", "plan.toml"]).status, 0);
@@ -256,7 +256,7 @@ fn an_unfinished_sweep_exits_with_4() {
     assert_eq!(f.run(&["status", "plan.toml"]).status, 0);
 }
 
-/// The months of the demo, which no window respects: the seconds of whole windows add up to more than there are, the clipped ones do not.
+/// The months of the demo, over whose ends windows reach: the seconds of whole windows add up to more than there are.
 #[test]
 fn clipped_seconds_of_consecutive_ranges_never_add_up_to_more_than_the_whole() {
     let f = demo();
@@ -297,15 +297,15 @@ fn totals_of_a_range_agree_in_table_summary_and_json() {
             assert_eq!(ended.status, 0, "{:?}", ended);
             ended.stdout
         };
-        let (table, told) = (output(&[]), json(&output(&["--json", "-"])));
+        let (table, parsed) = (output(&[]), json(&output(&["--json", "-"])));
         let summary = output(&["--summary", "-"]);
         let mut reader = csv::Reader::from_reader(summary.as_bytes());
         let lines: Vec<HashMap<String, String>> = reader.deserialize().collect::<Result<_, _>>().unwrap();
         let mut shown = table.lines().filter(|line| line.starts_with("  total ") || line.starts_with("    "));
         for (i, line) in lines.iter().enumerate() {
-            let totals = if i < 16 { &told["targets"][i]["totals"] } else { &told["totals"] };
-            assert_eq!(line["from"], told["part"]["from"].as_str().unwrap_or(""), "{:?}", line);
-            assert_eq!(line["to"], told["part"]["to"].as_str().unwrap_or(""), "{:?}", line);
+            let totals = if i < 16 { &parsed["targets"][i]["totals"] } else { &parsed["totals"] };
+            assert_eq!(line["from"], parsed["part"]["from"].as_str().unwrap_or(""), "{:?}", line);
+            assert_eq!(line["to"], parsed["part"]["to"].as_str().unwrap_or(""), "{:?}", line);
             for kind in ["visible", "violated"] {
                 for key in ["samples", "share", "windows", "seconds", "longest_seconds", "clipped_seconds", "time_share"] {
                     let column = line[&format!("{}_{}", kind, key)].parse().unwrap_or(f64::NAN);
@@ -343,9 +343,9 @@ fn the_time_share_weighs_each_sample_by_the_step_to_the_next_one() {
     f.write("e.csv", &format!("time,sun_x,sun_y,sun_z,observer_x,observer_y,observer_z\n{}", rows.concat()));
     let f = f.swept();
     let shares = |words: &[&str]| {
-        let told = json(&f.run(&[&["windows", "plan.toml", "--json", "-"], words].concat()).stdout);
+        let parsed = json(&f.run(&[&["windows", "plan.toml", "--json", "-"], words].concat()).stdout);
         ["visible", "violated"].map(|kind| {
-            let total = &told["totals"][kind];
+            let total = &parsed["totals"][kind];
             (total["share"].as_f64(), total["time_share"].as_f64())
         })
     };
@@ -356,8 +356,8 @@ fn the_time_share_weighs_each_sample_by_the_step_to_the_next_one() {
     assert_eq!(shares(&["--from", "2026-03-20T00:12:00Z"]), [some(1.0, 1.0), some(0.0, 0.0)]);
     assert_eq!(shares(&["--from", "2026-03-20T00:02:00Z", "--to", "2026-03-20T00:03:00Z"]), [(None, None), (None, None)]);
     let one = Folder::new(&["A"], "1", "tolerance = 10\n").swept();
-    let told = json(&one.run(&["windows", "plan.toml", "--json", "-"]).stdout);
-    assert_eq!((&told["totals"]["visible"]["time_share"], &told["totals"]["violated"]["time_share"]), (&json!(0.0), &json!(1.0)));
+    let parsed = json(&one.run(&["windows", "plan.toml", "--json", "-"]).stdout);
+    assert_eq!((&parsed["totals"]["visible"]["time_share"], &parsed["totals"]["violated"]["time_share"]), (&json!(0.0), &json!(1.0)));
 }
 
 #[test]
@@ -386,9 +386,9 @@ fn targets_of_one_name_are_told_apart_by_their_number() {
         let csv = done(&f, &format!("windows plan.toml --csv -{}", words));
         let lines: Vec<_> = csv.lines().filter(|line| line.starts_with("A,")).collect();
         assert!(lines.len() == 2 && lines[0].ends_with(",1") && lines[1].ends_with(",3"), "{}", csv);
-        let told = json(&done(&f, &format!("windows plan.toml --json -{}", words)));
+        let parsed = json(&done(&f, &format!("windows plan.toml --json -{}", words)));
         let numbers: Vec<_> =
-            told["targets"].as_array().unwrap().iter().filter(|t| t["name"] == "A").map(|t| t["number"].clone()).collect();
+            parsed["targets"].as_array().unwrap().iter().filter(|t| t["name"] == "A").map(|t| t["number"].clone()).collect();
         assert_eq!(numbers, [json!(1), json!(3)]);
         let summary = done(&f, &format!("windows plan.toml --summary -{}", words));
         let lines: Vec<_> = summary.lines().filter(|line| line.starts_with("target,A,")).collect();
@@ -425,6 +425,19 @@ fn a_configured_roll_that_overrides_the_roll_asked_for_is_reported() {
     }
     let none = Folder::new(&["A"], "01", "tolerance = 10\n");
     assert_eq!(none.run(&["mask", "plan.toml", "--roll", "100"]).stderr, "");
+}
+
+#[test]
+fn masks_and_rolls_in_csv_have_the_target_s_number() {
+    let f = Folder::new(&["A", "B", "A"], "01", "tolerance = 10\n");
+    for (words, head) in [
+        ("rolls plan.toml --target A", "target,time,roll_deg,free,target_number"),
+        ("mask plan.toml --roll 0 --form csv --target A", "target,time,marked,target_number"),
+    ] {
+        let csv = done(&f, words);
+        let numbers: Vec<_> = csv.lines().skip(1).map(|line| line.rsplit(',').next().unwrap()).collect();
+        assert!(csv.starts_with(&format!("{}\n", head)) && numbers == ["1", "1", "3", "3"], "{}", csv);
+    }
 }
 
 /// A name with a star or brackets, as catalogues have them, is a pattern only where no target has it.

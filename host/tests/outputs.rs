@@ -184,8 +184,8 @@ fn calls(mut command: Command) -> Vec<i64> {
 fn a_file_is_synced_before_it_takes_the_name_and_its_folder_after() {
     let f = folder().swept();
     let calls = calls(f.command(&["windows", "plan.toml", "-q", "--csv", "w.csv"]));
-    let told: Vec<_> = calls.into_iter().filter(|call| [libc::SYS_fsync, libc::SYS_rename].contains(call)).collect();
-    assert_eq!(told, [libc::SYS_fsync, libc::SYS_rename, libc::SYS_fsync]);
+    let seen: Vec<_> = calls.into_iter().filter(|call| [libc::SYS_fsync, libc::SYS_rename].contains(call)).collect();
+    assert_eq!(seen, [libc::SYS_fsync, libc::SYS_rename, libc::SYS_fsync]);
 }
 
 /// A journal or its digest under any name is no output, whole or as a power cut left its header; other files are replaced.

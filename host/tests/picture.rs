@@ -3,7 +3,7 @@ mod common;
 
 use common::{json, Folder};
 use roxmltree::{Document, Node};
-use std::{collections::HashMap, fs, time::Duration};
+use std::{collections::HashMap, fs};
 
 /// A picture of one target with a sample at each of these times, marked where a time has an exclamation mark.
 fn picture(name: &str, times: &[&str]) -> String {
@@ -15,10 +15,10 @@ fn picture(name: &str, times: &[&str]) -> String {
     f.read("w.svg")
 }
 
-/// Each row's painted area by colour, as shares of what the row has painted, and how many elements it is drawn with.
+/// Each row's painted area by colour, as shares of the row's band, and how many elements it is drawn with. The whole band is painted, once.
 fn painted(svg: &Document) -> Vec<(HashMap<String, f64>, usize)> {
     let labels = svg.descendants().filter(|n| n.attribute("text-anchor") == Some("end"));
-    let rows: Vec<_> = labels.map(|n| number(n, "y")).collect();
+    let (rows, left): (Vec<_>, Vec<_>) = labels.map(|n| (number(n, "y"), number(n, "x") + 10.0)).unzip();
     let mut painted = vec![(HashMap::new(), 0); rows.len()];
     for n in svg.descendants().filter(|n| n.children().any(|c| c.has_tag_name("title"))) {
         let (y, area) = match n.tag_name().name() {
@@ -31,9 +31,11 @@ fn painted(svg: &Document) -> Vec<(HashMap<String, f64>, usize)> {
         *painted[row].0.entry(n.attribute("fill").unwrap().to_owned()).or_insert(0.0) += area;
         painted[row].1 += 1;
     }
-    for (areas, _) in &mut painted {
+    for ((areas, _), left) in painted.iter_mut().zip(left) {
+        let band = 14.0 * (1000.0 - 48.0 - left);
+        areas.values_mut().for_each(|area| *area /= band);
         let all: f64 = areas.values().sum();
-        areas.values_mut().for_each(|area| *area /= all);
+        assert!((all - 1.0).abs() < 0.001, "{} of the band is painted: {:?}", all, areas);
     }
     painted
 }
@@ -232,32 +234,32 @@ fn a_long_name_is_cut_and_shown_whole_under_the_pointer() {
     assert!(label.children().any(|n| n.has_tag_name("title") && n.text() == Some(name.trim())));
 }
 
-/// In the demo, where windows are days long: every row is painted by its shares of the time.
+/// Its windows are days long, but for some.
 #[test]
 fn each_row_of_the_demo_is_painted_by_its_time_shares() {
     let f = Folder::new(&[], "", "");
     f.run(&["example", "season"]).says(0, &[]);
     f.run(&["sweep", "season/plan.toml", "-q", "--svg", "w.svg", "--json", "w.json"]).says(0, &[]);
-    let (text, told) = (f.read("w.svg"), json(&f.read("w.json")));
+    let (text, parsed) = (f.read("w.svg"), json(&f.read("w.json")));
     let svg = Document::parse(&text).unwrap();
     let rows = painted(&svg);
     assert_eq!(rows.len(), 16);
     let violated = colour_of(&svg, "violated");
-    for (row, target) in rows.iter().zip(told["targets"].as_array().unwrap()) {
+    for (row, target) in rows.iter().zip(parsed["targets"].as_array().unwrap()) {
         let due = target["totals"]["violated"]["time_share"].as_f64().unwrap();
         assert!((row.0.get(&violated).copied().unwrap_or(0.0) - due).abs() < 1e-4, "{}: {:?} and {}", target["name"], row, due);
     }
 }
 
-/// As many samples as a plan may have, far more than the picture has columns: two clear and one violated, or one of each. Each row is painted by
-/// its shares of the time, with few elements.
+/// As many samples as a plan may have, two clear and one violated over and over; and one of each, ten samples to a column of pixels. Each row is
+/// painted by its shares of the time, with few elements.
 #[test]
 fn windows_narrower_than_a_pixel_are_painted_by_their_time_shares() {
     let sun = |mark: bool| if mark { "0,0,1" } else { "0,1,0" };
-    for (pattern, visible) in [("001", 2.0 / 3.0), ("01", 0.0)] {
+    for (pattern, visible, samples) in [("001", 2.0 / 3.0, 65_536), ("01", 0.0, 8192)] {
         let f = Folder::new(&["A", "B"], "", "tolerance = 10\n");
         let mut text = String::from("time,sun_x,sun_y,sun_z,observer_x,observer_y,observer_z\n");
-        for j in 0..65_536 {
+        for j in 0..samples {
             let (hours, minute, second) = (j / 3600, j / 60 % 60, j % 60);
             let mark = pattern.as_bytes()[j % pattern.len()] == b'1';
             text += &format!("2026-03-20T{:02}:{:02}:{:02}Z,{},0,0,0\n", hours, minute, second, sun(mark));
@@ -277,7 +279,7 @@ fn windows_narrower_than_a_pixel_are_painted_by_their_time_shares() {
     }
 }
 
-/// Windows of all widths: the area is the share of the time, and the elements of a row are no more than its columns and some.
+/// The elements of a row are no more than its columns of pixels and some.
 #[test]
 fn windows_of_mixed_widths_are_painted_by_their_time_shares() {
     // Runs of 1, 2, 3, .. samples of each kind, then single ones, then long ones.
@@ -286,17 +288,17 @@ fn windows_of_mixed_widths_are_painted_by_their_time_shares() {
     let f = Folder::new(&["A"], "", "tolerance = 10\n");
     let mut text = String::from("time,sun_x,sun_y,sun_z,observer_x,observer_y,observer_z\n");
     for (j, mark) in marks.chars().enumerate() {
-        // Steps of 1 and of 3 seconds.
-        let at = Duration::from_secs(2 * j as u64 + j as u64 % 2).as_secs();
+        // Steps of 3 seconds and of 1.
+        let at = 2 * j + j % 2;
         let sun = if mark == '1' { "0,0,1" } else { "0,1,0" };
         text += &format!("2026-03-20T{:02}:{:02}:{:02}Z,{},0,0,0\n", at / 3600, at / 60 % 60, at % 60, sun);
     }
     f.write("e.csv", &text);
     f.run(&["sweep", "plan.toml", "-q", "--svg", "w.svg", "--json", "w.json"]).says(0, &[]);
-    let (text, told) = (f.read("w.svg"), json(&f.read("w.json")));
+    let (text, parsed) = (f.read("w.svg"), json(&f.read("w.json")));
     let svg = Document::parse(&text).unwrap();
     let (row, elements) = &painted(&svg)[0];
-    let due = told["totals"]["violated"]["time_share"].as_f64().unwrap();
+    let due = parsed["totals"]["violated"]["time_share"].as_f64().unwrap();
     assert!((row[&colour_of(&svg, "violated")] - due).abs() < 0.001, "{:?} and {}", row, due);
     assert!(*elements < 1000, "{} elements", elements);
 }
@@ -319,7 +321,7 @@ fn the_two_kinds_differ_in_grey_print_and_every_text_is_dark_enough() {
     }
 }
 
-/// The mildest severity is as far from the visible colour in grey print, and the worst is darker.
+/// So they all differ from the visible colour in grey print.
 #[test]
 fn severities_are_darker_than_the_violated_colour() {
     let f = Folder::new(&["A"], "", "tolerance = 10\nconfigured_roll = 0\n");

@@ -1,4 +1,4 @@
-//! Whole commands on files that no reader should trip over: each ends with a sentence and a status, and soon.
+//! Whole commands on hostile or careless files: each ends soon, with a message and a status.
 use std::{
     fs,
     path::Path,
@@ -21,35 +21,35 @@ fn checked(plan: &str, targets: &str, ephemeris: &str) -> (Option<i32>, String) 
         fs::write(folder.path().join(name), text).unwrap();
     }
     let output = check(&folder.path().join("plan.toml"));
-    let told = String::from_utf8(output.stderr).unwrap();
-    (output.status.code(), told.replace(folder.path().to_str().unwrap(), ""))
+    let message = String::from_utf8(output.stderr).unwrap();
+    (output.status.code(), message.replace(folder.path().to_str().unwrap(), ""))
 }
 
 #[test]
-fn a_faulty_time_after_a_no_break_space() {
-    let (status, told) = checked(PLAN, TARGETS, &EPHEMERIS.replace("2026-03-20T00:00", "\u{a0}2x26-03-20T00:00"));
-    assert_eq!(status, Some(3), "{}", told);
-    assert!(told.starts_with("wilfnusk: /e.csv, line 2, column 2: time reads `2x26-03-20T00:00:00Z`; allowed: RFC 3339"), "{}", told);
+fn a_faulty_time_after_a_no_break_space_is_refused_with_its_column() {
+    let (status, message) = checked(PLAN, TARGETS, &EPHEMERIS.replace("2026-03-20T00:00", "\u{a0}2x26-03-20T00:00"));
+    assert_eq!(status, Some(3), "{}", message);
+    assert!(message.starts_with("wilfnusk: /e.csv, line 2, column 2: time reads `2x26-03-20T00:00:00Z`; allowed: RFC 3339"), "{}", message);
 }
 
 #[test]
-fn a_plan_of_brackets() {
-    let (status, told) = checked(&format!("{}panel = {}", PLAN, "[".repeat(100_000)), TARGETS, EPHEMERIS);
-    assert_eq!(status, Some(3), "{}", told);
-    assert_eq!(told, "wilfnusk: /plan.toml, line 5, column 25: values inside values, 17 deep; allowed: at most 16\n");
+fn values_nested_too_deep_are_refused() {
+    let (status, message) = checked(&format!("{}panel = {}", PLAN, "[".repeat(100_000)), TARGETS, EPHEMERIS);
+    assert_eq!(status, Some(3), "{}", message);
+    assert_eq!(message, "wilfnusk: /plan.toml, line 5, column 25: values inside values, 17 deep; allowed: at most 16\n");
 }
 
 #[test]
-fn two_targets_of_one_name() {
-    let (status, told) = checked(PLAN, &TARGETS.replace('B', "# B\nA"), EPHEMERIS);
-    assert_eq!(status, Some(0), "{}", told);
-    assert_eq!(told, "warning: /t.csv, line 4, column 1: target `A` has the name of line 2; both are listed under it\n");
+fn two_targets_of_one_name_are_warned_about() {
+    let (status, message) = checked(PLAN, &TARGETS.replace('B', "# B\nA"), EPHEMERIS);
+    assert_eq!(status, Some(0), "{}", message);
+    assert_eq!(message, "warning: /t.csv, line 4, column 1: target `A` has the name of line 2; both are listed under it\n");
 }
 
 #[test]
-fn a_device_and_a_pipe_that_nobody_writes() {
-    let (status, told) = checked(&PLAN.replace("t.csv", "/dev/zero"), TARGETS, EPHEMERIS);
-    assert_eq!((status, told.as_str()), (Some(3), "wilfnusk: /dev/zero: it is a device; allowed: a plain file\n"));
+fn a_device_and_a_pipe_are_refused_as_inputs() {
+    let (status, message) = checked(&PLAN.replace("t.csv", "/dev/zero"), TARGETS, EPHEMERIS);
+    assert_eq!((status, message.as_str()), (Some(3), "wilfnusk: /dev/zero: it is a device; allowed: a plain file\n"));
     let folder = tempfile::tempdir().unwrap();
     let pipe = folder.path().join("plan.toml");
     assert!(Command::new("mkfifo").arg(&pipe).status().unwrap().success());

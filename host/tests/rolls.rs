@@ -12,7 +12,7 @@ use std::{
 };
 use wilfnusk::{cell, OptimalRoll, Plan};
 
-const HEAD: &str = "target,time,roll_deg,free\n";
+const HEAD: &str = "target,time,roll_deg,free,target_number\n";
 const EPHEMERIS: &str = "time,sun_x,sun_y,sun_z,observer_x,observer_y,observer_z\n";
 
 /// A folder whose targets look along these, with a time each second at these Suns and observers; numbers read as themselves.
@@ -64,9 +64,9 @@ fn sky() -> (Vec<[f64; 3]>, Vec<[f64; 6]>) {
     (targets, positions.collect())
 }
 
-/// Each number reads back as the library's, of a Free cell too. Neither tolerances nor a configured roll matter, whatever they are.
+/// That of a Free cell too. Neither tolerances nor a configured roll matter, whatever they are.
 #[test]
-fn the_values_are_the_library_s() {
+fn each_roll_reads_back_as_the_library_s_number() {
     let (targets, positions) = sky();
     let column = |from: usize| positions.iter().flat_map(|p| p[from..from + 3].to_vec()).collect::<Vec<_>>();
     let (suns, observers) = (column(0), column(3));
@@ -122,7 +122,7 @@ fn no_roll_is_below_0_or_at_360() {
     ] {
         let [x, y, z] = sun;
         let f = folder(&format!("tolerance = 10\npanel = {}\n", panel), &[[1.0, 0.0, 0.0]], &[[x, y, z, 0.0, 0.0, 0.0]]);
-        assert_eq!(rolls(&f, &[]), format!("{}T0,2026-03-20T00:00:00.250000000Z,{},false\n", HEAD, roll), "{} {:?}", panel, sun);
+        assert_eq!(rolls(&f, &[]), format!("{}T0,2026-03-20T00:00:00.250000000Z,{},false,1\n", HEAD, roll), "{} {:?}", panel, sun);
     }
 }
 
@@ -136,16 +136,15 @@ fn the_sun_along_the_boresight_leaves_the_roll_free() {
 
 /// A name stands as the targets file has it, quoted where CSV needs that.
 #[test]
-fn names_are_those_of_the_file() {
+fn names_stand_as_in_the_targets_file() {
     let f = folder("tolerance = 10\n", &[], &[[0.0, 0.0, 1.0, 0.0, 0.0, 0.0]]);
     f.write("t.csv", "name,ra,dec\n\"Crab, M 1\",0,0\n\"a \"\"b\"\"\u{1b}\",0,0\nVéga,0,0\n");
-    let rest = "2026-03-20T00:00:00.250000000Z,90,false\n";
-    assert_eq!(rolls(&f, &[]), format!("{}\"Crab, M 1\",{2}\"a \"\"b\"\"{1}\",{2}Véga,{2}", HEAD, '\u{1b}', rest));
+    let rest = "2026-03-20T00:00:00.250000000Z,90,false";
+    assert_eq!(rolls(&f, &[]), format!("{}\"Crab, M 1\",{2},1\n\"a \"\"b\"\"{1}\",{2},2\nVéga,{2},3\n", HEAD, '\u{1b}', rest));
 }
 
-/// The cells are those that `mask` prints of the same selection.
 #[test]
-fn selected_targets_and_times() {
+fn a_selection_prints_the_cells_that_mask_prints() {
     let (targets, positions) = sky();
     let f = folder("tolerance = 10\n", &targets, &positions);
     let all = rolls(&f, &[]);
@@ -157,13 +156,13 @@ fn selected_targets_and_times() {
         (&["--from", "2026-03-20T00:00:03.25Z", "--to", "2026-03-20T00:00:03.25Z"], 12),
         (&["--from", "2026-03-20T00:00:03.3Z", "--to", "2026-03-20T00:00:03.4Z"], 0),
     ] {
-        let told = rolls(&f, words);
-        assert_eq!(told.lines().count(), count + 1, "{:?}", words);
-        let of_all = all.lines().filter(|line| told.contains(line));
-        assert_eq!(told, of_all.map(|line| format!("{}\n", line)).collect::<String>(), "{:?}", words);
+        let printed = rolls(&f, words);
+        assert_eq!(printed.lines().count(), count + 1, "{:?}", words);
+        let of_all = all.lines().filter(|line| printed.contains(line));
+        assert_eq!(printed, of_all.map(|line| format!("{}\n", line)).collect::<String>(), "{:?}", words);
         let mask = f.run(&[&["mask", "plan.toml", "--roll", "0", "--form", "csv"], words].concat()).stdout;
         let place = |text: &str| -> Vec<String> { text.lines().skip(1).map(|line| line.split(',').take(2).collect()).collect() };
-        assert_eq!(place(&told), place(&mask), "{:?}", words);
+        assert_eq!(place(&printed), place(&mask), "{:?}", words);
     }
 }
 
@@ -184,13 +183,13 @@ fn a_plan_without_targets_or_times_has_no_cell() {
 
 /// The lines that docs/GUIDE.md shows are those of the example.
 #[test]
-fn the_document_s_example() {
+fn the_example_in_the_guide_is_what_is_printed() {
     let (document, _) = document();
     let f = small();
     f.run(&["example", "season"]).says(0, &[]);
-    let told = f.run(&["rolls", "season/plan.toml"]).stdout;
-    assert_eq!(told.lines().count(), 1 + 16 * 1440);
-    let shown: String = told.lines().take(3).map(|line| format!("{}\n", line)).collect();
+    let printed = f.run(&["rolls", "season/plan.toml"]).stdout;
+    assert_eq!(printed.lines().count(), 1 + 16 * 1440);
+    let shown: String = printed.lines().take(3).map(|line| format!("{}\n", line)).collect();
     assert!(document.contains(&format!("```\n{}```\n", shown)), "{}", shown);
 }
 
@@ -201,13 +200,13 @@ fn small() -> Folder {
 #[test]
 fn no_journal_is_needed_or_read() {
     let f = small();
-    let told = rolls(&f, &[]);
-    assert_eq!(told.lines().count(), 15);
+    let printed = rolls(&f, &[]);
+    assert_eq!(printed.lines().count(), 15);
     for journal in ["no journal", ""] {
         f.write("plan.journal", journal);
         f.write("plan.journal.plan", "no digest");
         let before = f.all();
-        assert_eq!(rolls(&f, &[]), told);
+        assert_eq!(rolls(&f, &[]), printed);
         assert!(f.all() == before);
     }
 }
@@ -215,8 +214,8 @@ fn no_journal_is_needed_or_read() {
 #[test]
 fn a_file_is_whole_or_as_it_was() {
     let f = small();
-    let told = rolls(&f, &[]);
-    assert_eq!(rolls(&f, &["--csv", "-"]), told);
+    let printed = rolls(&f, &[]);
+    assert_eq!(rolls(&f, &["--csv", "-"]), printed);
     f.write("r.csv", "old\n");
     let before = f.all();
     let ended = f.shell("trap '' XFSZ; ulimit -f 0; exec $W rolls plan.toml --csv r.csv");
@@ -224,13 +223,13 @@ fn a_file_is_whole_or_as_it_was() {
     assert!(f.all() == before, "{:?}", f.all().iter().map(|(name, _)| name).collect::<Vec<_>>());
     let ended = f.run(&["rolls", "plan.toml", "--csv", "r.csv"]);
     assert_eq!((ended.status, ended.stdout.as_str(), ended.stderr.as_str()), (0, "", "wrote r.csv\n"));
-    assert_eq!(f.read("r.csv"), told);
+    assert_eq!(f.read("r.csv"), printed);
     let ended = f.shell("$W rolls plan.toml --csv /dev/stdout | cat");
-    assert_eq!((ended.stdout.as_str(), ended.stderr.as_str()), (told.as_str(), "wrote /dev/stdout\n"));
+    assert_eq!((ended.stdout.as_str(), ended.stderr.as_str()), (printed.as_str(), "wrote /dev/stdout\n"));
 }
 
 #[test]
-fn no_output_takes_the_place_of_a_file_that_is_needed() {
+fn an_output_never_overwrites_a_file_of_the_plan() {
     let f = small().swept();
     fs::hard_link(f.path("t.csv"), f.path("hard")).unwrap();
     symlink("e.csv", f.path("soft")).unwrap();
@@ -258,7 +257,7 @@ fn no_output_takes_the_place_of_a_file_that_is_needed() {
 }
 
 #[test]
-fn what_the_command_line_cannot_ask_for() {
+fn wrong_command_lines_are_refused_and_write_nothing() {
     let f = small();
     let before = f.all();
     for (words, status, says) in [
@@ -286,9 +285,9 @@ fn what_the_command_line_cannot_ask_for() {
     }
 }
 
-/// As many cells as a plan may have, of which a reader takes one line, or all.
+/// A reader takes one line, or all.
 #[test]
-fn the_most_cells() {
+fn as_many_cells_as_a_plan_may_have_are_printed() {
     let turn = |k: usize| (k as f64 * 0.01).sin_cos();
     let targets: Vec<_> = (0..1024).map(turn).map(|(s, c)| [0.8 * c, 0.8 * s, 0.6]).collect();
     let positions: Vec<_> = (0..1024).map(turn).map(|(s, c)| [c, s, 0.1, 0.0, 0.0, 0.0]).collect();
@@ -298,9 +297,9 @@ fn the_most_cells() {
     let closed = f.command(&["rolls", "plan.toml"]).stdout(Stdio::from(OwnedFd::from(ours))).stderr(Stdio::piped()).output().unwrap();
     assert!(closed.status.success() && closed.stderr.is_empty());
     assert_eq!(f.shell("$W rolls plan.toml | head -1").stdout, HEAD);
-    let told = f.shell("$W rolls plan.toml | wc -l; $W rolls plan.toml --csv r.csv").stdout;
-    assert_eq!(told.trim(), "1048577");
+    let printed = f.shell("$W rolls plan.toml | wc -l; $W rolls plan.toml --csv r.csv").stdout;
+    assert_eq!(printed.trim(), "1048577");
     let text = f.read("r.csv");
     let last = cell(targets[1023], [positions[1023][0], positions[1023][1], 0.1], [0.0; 3], [0.0, 1.0, 0.0]).unwrap();
-    assert!(matches!(last, OptimalRoll::At(at) if text.ends_with(&format!("T1023,2026-03-20T00:17:03.250000000Z,{},false\n", at))));
+    assert!(matches!(last, OptimalRoll::At(at) if text.ends_with(&format!("T1023,2026-03-20T00:17:03.250000000Z,{},false,1024\n", at))));
 }
