@@ -20,8 +20,8 @@ use std::{
 
 /// About how long a range takes to work out.
 const RANGE_TIME: Duration = Duration::from_millis(100);
-/// The chunks of the first range, before it is known how long a chunk takes.
-const FIRST: usize = 64;
+/// The chunks of the first range, before it is known how long a chunk takes. With the most rolls they take about `RANGE_TIME`.
+const FIRST: usize = 256;
 
 /// The number of cores.
 pub fn cores() -> NonZeroUsize {
