@@ -49,20 +49,24 @@ impl Digest {
         let lines = (0..3).map(|i| format!("{} {} {}\n", PARTS[i], self.digests[i], self.files[i]));
         format!("{}{}\n{}", TITLE, self.version, lines.collect::<String>())
     }
-    /// The digest beside a journal, if there is one. `rests`: lines rest on it, so that without it they would have to be worked out again.
-    fn beside(journal: &Path, rests: bool) -> Result<Option<Digest>, Fault> {
+    /// The digest beside a journal, if there is one. `lines_of`: the plan of the journal's lines, if it has some; without the digest they would have
+    /// to be worked out again, and the message on a file that cannot be read says how.
+    fn beside(journal: &Path, lines_of: Option<&Plan>) -> Result<Option<Digest>, Fault> {
         let path = Digest::path(journal);
-        match opened(&path) {
-            Ok(file) => Digest::parse(&Source::of(&path, read(&path, &file)?)?, rests).map(Some),
-            Err(e) if e.kind() == io::ErrorKind::NotFound => Ok(None),
-            Err(e) => Err(files::fault(&path, &e)),
-        }
+        let bytes = match opened(&path) {
+            Ok(file) => read(&path, &file)?,
+            Err(e) if e.kind() == io::ErrorKind::NotFound => return Ok(None),
+            Err(e) => return Err(files::fault(&path, &e)),
+        };
+        let again = lines_of.map_or(String::new(), |plan| format!(" and {}", worked_out_again(plan, journal)));
+        // Bytes that are no text are no digest either.
+        let source = Source::of(&path, bytes).or_else(|_| Source::of(&path, Vec::new()))?;
+        Digest::parse(&source, &again).map(Some)
     }
-    fn parse(source: &Source, rests: bool) -> Result<Digest, Fault> {
+    fn parse(source: &Source, again: &str) -> Result<Digest, Fault> {
         let mut lines = source.text.lines();
         let version = lines.next().and_then(version).unwrap_or(0);
         if version > VERSION {
-            let again = if rests { " and work every line out again with check --recompute --write-digest" } else { "" };
             return Err(source.fault(
                 0,
                 format!("a digest of version {}, which a newer wilfnusk wrote and this one cannot read", version),
@@ -82,7 +86,7 @@ impl Digest {
         if good && lines.next().is_none() {
             Ok(digest)
         } else {
-            Err(source.fault(0, "no digest of a plan", "what `wilfnusk sweep` writes; without the file the check is left out"))
+            Err(source.fault(0, "no digest of a plan", &format!("what `wilfnusk sweep` writes. Move the file away{}", again)))
         }
     }
     /// The files of this one whose numbers are not the other's.
@@ -91,7 +95,7 @@ impl Digest {
     }
     /// Writes it beside a journal, whole or not at all. Only a digest is overwritten: another file of that name is a fault.
     pub fn write(&self, journal: &Path) -> Result<(), Fault> {
-        match Digest::beside(journal, false)? {
+        match Digest::beside(journal, None)? {
             Some(there) if there == *self => Ok(()),
             _ => write_whole(&Digest::path(journal), self.text().as_bytes()),
         }
@@ -99,7 +103,7 @@ impl Digest {
     /// Takes away the digest of a journal that is gone, which would speak for lines that it does not know. Whether there was one.
     pub fn remove(journal: &Path) -> Result<bool, Fault> {
         let path = Digest::path(journal);
-        match Digest::beside(journal, false)? {
+        match Digest::beside(journal, None)? {
             None => Ok(false),
             Some(_) => {
                 let removed = fs::remove_file(&path).and_then(|()| sync_folder(&path));
@@ -120,9 +124,9 @@ fn one_line(name: &str) -> String {
     name.chars().map(|c| if c.is_control() { c.escape_default().to_string() } else { c.to_string() }).collect()
 }
 
-/// Holds the plan against the digest beside a journal that has lines. Whether there is one.
+/// Compares the plan with the digest beside a journal that has lines. Whether there is one; one of another plan is refused.
 pub fn is_known(plan: &Plan, journal: &Path) -> Result<bool, Fault> {
-    let then = match Digest::beside(journal, true)? {
+    let then = match Digest::beside(journal, Some(plan))? {
         Some(then) => then,
         None => return Ok(false),
     };
@@ -149,34 +153,37 @@ pub fn is_known(plan: &Plan, journal: &Path) -> Result<bool, Fault> {
     )))
 }
 
-/// What is said of lines beside a digest of an older version.
+/// The refusal of lines beside a digest of an older version.
 fn unfolded(version: u64, plan: &Plan, journal: &Path) -> Fault {
     Fault::Files(format!(
         "{1}, line 1, column 1: a digest of version {2}; allowed: version {3}. The lines of {0} were worked out by an earlier wilfnusk (before 0.3.0), \
          whose optimal rolls were not yet folded into 0 to 360, so some lines might come out differently now; nothing was changed\n  \
          to work all out again: sweep into another journal with --journal, or move {0} and {1} away and sweep\n  \
-         to keep the lines: move {1} away and work every line out again with `{4} --recompute --write-digest`, which writes a new digest if \
-         every line is the same",
+         to keep the lines: move {1} away and {4}",
         shown(journal),
         shown(&Digest::path(journal)),
         version,
         VERSION,
-        explain::command("check", plan, journal)
+        worked_out_again(plan, journal)
     ))
 }
 
-/// As `is_known`, and says on standard error if there is none.
-pub fn same_plan(plan: &Plan, journal: &Path) -> Result<bool, Fault> {
-    let known = is_known(plan, journal)?;
-    if !known {
-        tell!(
-            "warning: {} is missing: nothing tells whether {} was made from these targets, positions, tolerances and rolls. To work every line out again: {} --recompute",
-            Digest::path(journal).display(),
-            journal.display(),
-            explain::command("check", plan, journal)
-        );
-    }
-    Ok(known)
+/// What puts a new digest into the place of one that was moved away.
+fn worked_out_again(plan: &Plan, journal: &Path) -> String {
+    format!(
+        "work every line out again with `{} --recompute --write-digest`, which writes a new digest if every line is the same",
+        explain::command("check", plan, journal)
+    )
+}
+
+/// Warns on standard error that lines which were not worked out again have no digest beside them.
+pub fn missing(plan: &Plan, journal: &Path) {
+    tell!(
+        "warning: {} is missing: nothing shows whether {} was made from these targets, positions, tolerances and rolls. To work every line out again: {} --recompute",
+        Digest::path(journal).display(),
+        journal.display(),
+        explain::command("check", plan, journal)
+    );
 }
 
 /// The settings' digest: n, whether a roll is configured, that roll or 0; then lists, each after the count of its numbers: tolerances, panels
@@ -261,10 +268,9 @@ mod tests {
             // Whether the plan changed since or not.
             for toml in [TOML.to_owned(), TOML.replace("10", "11")] {
                 let plan = plan(&toml, TARGETS, EPHEMERIS).unwrap();
-                for fault in [is_known(&plan, &journal).unwrap_err(), same_plan(&plan, &journal).unwrap_err()] {
-                    let says = format!("j.plan, line 1, column 1: a digest of version {}; allowed: version 3. ", &old[14..15]);
-                    assert!(fault.status() == 3 && fault.to_string().contains(&says), "{}", fault);
-                }
+                let fault = is_known(&plan, &journal).unwrap_err();
+                let says = format!("j.plan, line 1, column 1: a digest of version {}; allowed: version 3. ", &old[14..15]);
+                assert!(fault.status() == 3 && fault.to_string().contains(&says), "{}", fault);
             }
             assert_eq!(fs::read_to_string(&path).unwrap(), old);
             // Without lines it is a digest like any other: it makes way, and may be taken away.
@@ -292,7 +298,7 @@ mod tests {
         for title in ["wilfnusk plan", "wilfnusk plan ", "wilfnusk plan 03", "wilfnusk plan +3", "wilfnusk plan 3 ", "wilfnusk plan three"]
         {
             fs::write(&path, new().replace("wilfnusk plan 3", title)).unwrap();
-            assert!(Digest::beside(&journal, true).unwrap_err().to_string().contains("no digest of a plan"), "{}", title);
+            assert!(Digest::beside(&journal, None).unwrap_err().to_string().contains("no digest of a plan"), "{}", title);
         }
     }
     /// As a program of version 2 hashed it, too.
@@ -419,15 +425,15 @@ mod tests {
     fn written_and_read_again() {
         let folder = tempfile::tempdir().unwrap();
         let journal = folder.path().join("j");
-        assert_eq!(Digest::beside(&journal, true).unwrap(), None);
+        assert_eq!(Digest::beside(&journal, None).unwrap(), None);
         let d = digest(TOML, TARGETS, EPHEMERIS);
         d.write(&journal).unwrap();
-        assert_eq!(Digest::beside(&journal, true).unwrap(), Some(d));
+        assert_eq!(Digest::beside(&journal, None).unwrap(), Some(d));
         let path = Digest::path(&journal);
         let text = fs::read_to_string(&path).unwrap();
         for cut in 0..text.len() - TARGETS.len() {
             fs::write(&path, &text[..cut]).unwrap();
-            assert!(Digest::beside(&journal, true).is_err());
+            assert!(Digest::beside(&journal, None).is_err());
         }
     }
     #[test]
@@ -438,7 +444,7 @@ mod tests {
         let text = d.text();
         for same in [text.clone(), text.replace('\n', "\r\n"), text.trim_end().to_owned()] {
             fs::write(Digest::path(&journal), same).unwrap();
-            assert_eq!(Digest::beside(&journal, true).unwrap(), Some(d.clone()));
+            assert_eq!(Digest::beside(&journal, None).unwrap(), Some(d.clone()));
         }
         let nameless = PARTS.map(|part| {
             let at = text.find(part).unwrap() + part.len() + 66;
@@ -447,7 +453,7 @@ mod tests {
         let more = ["\n", "\r\n", " ", "x", "settings", &text].map(|more| text.clone() + more);
         for other in nameless.iter().chain(&more) {
             fs::write(Digest::path(&journal), other).unwrap();
-            let said = Digest::beside(&journal, true).map_err(|e| e.to_string());
+            let said = Digest::beside(&journal, None).map_err(|e| e.to_string());
             assert!(matches!(&said, Err(e) if e.contains("no digest of a plan")), "{:?} of {}", said, other);
         }
     }
@@ -458,7 +464,7 @@ mod tests {
         let mut d = digest(TOML, TARGETS, EPHEMERIS);
         d.files = ["a\nb", " c\r", "\u{85}\té"].map(one_line);
         d.write(&journal).unwrap();
-        assert_eq!(Digest::beside(&journal, true).unwrap(), Some(d));
+        assert_eq!(Digest::beside(&journal, None).unwrap(), Some(d));
         assert_eq!(fs::read_to_string(Digest::path(&journal)).unwrap().lines().count(), 4);
     }
     #[test]
@@ -468,7 +474,7 @@ mod tests {
         let (d, other) = (digest(TOML, TARGETS, EPHEMERIS), digest(&TOML.replace("10", "11"), TARGETS, EPHEMERIS));
         other.write(&journal).unwrap();
         d.write(&journal).unwrap();
-        assert_eq!(Digest::beside(&journal, true).unwrap(), Some(d.clone()));
+        assert_eq!(Digest::beside(&journal, None).unwrap(), Some(d.clone()));
         assert!(Digest::remove(&journal).unwrap() && !Digest::remove(&journal).unwrap());
         let path = Digest::path(&journal);
         fs::write(&path, TOML).unwrap();

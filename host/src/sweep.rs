@@ -1,6 +1,6 @@
 //! `wilfnusk sweep`: lock the journal, recover, shorten, work out what is missing, list.
 use crate::{
-    digest::{same_plan, Digest},
+    digest::{is_known, Digest},
     engine::{self, HEADER_BYTES, LINE_BYTES},
     explain,
     fault::Fault,
@@ -13,6 +13,7 @@ use crate::{
     stop,
     text::{counted, grouped, ranges},
     tolerance::nothing_violated,
+    verify::{Evidence, Trust},
     Files,
 };
 use clap::Args;
@@ -31,6 +32,8 @@ pub struct Sweep {
     /// Wait while another process sweeps into the journal
     #[arg(long)]
     wait: bool,
+    #[command(flatten)]
+    trust: Trust,
     #[command(flatten)]
     selection: Selection,
     #[command(flatten)]
@@ -91,7 +94,7 @@ impl Sweep {
         }
         stop::listen();
         let mut journal = Journal::open(&path, &plan, self.wait)?;
-        start(&plan, &mut journal)?;
+        let evidence = start(&plan, &mut journal, &self.trust)?;
 
         let has_line = done(journal.used(), plan.chunks());
         let mut missing: Vec<u64> = asked.into_iter().filter(|&c| !has_line[c as usize]).collect();
@@ -110,7 +113,7 @@ impl Sweep {
         }
         journal.as_left()?;
         progress.end();
-        self.end(&plan, &journal, selected)
+        self.end(&plan, &journal, selected, evidence)
     }
     /// The chunks that the command line asks for, in its order.
     fn asked(&self, plan: &Plan) -> Result<Vec<u64>, Fault> {
@@ -127,7 +130,7 @@ impl Sweep {
             (None, None) => Ok((0..chunks).collect()),
         }
     }
-    fn end(&self, plan: &Plan, journal: &Journal, selected: Selected) -> Result<(), Fault> {
+    fn end(&self, plan: &Plan, journal: &Journal, selected: Selected, evidence: Evidence) -> Result<(), Fault> {
         let has_line = done(journal.used(), plan.chunks());
         let count = has_line.iter().filter(|&&d| d).count();
         let about = format!("{}: {} of {} chunks have a line", journal.path.display(), grouped(count), grouped(plan.chunks()));
@@ -145,7 +148,7 @@ impl Sweep {
         let bytes = journal.used();
         let (mask, probes) = engine::collect(plan, bytes).map_err(|r| explain::journal(plan, &journal.path, bytes, r))?;
         tell!("{}; {} tried", about, counted(probes, "roll"));
-        let listing = Listing::of_mask(plan, selected, &mask, probes).map_err(|(i, r)| explain::row(plan, i, r))?;
+        let listing = Listing::of_mask(plan, selected, &mask, probes, evidence).map_err(|(i, r)| explain::row(plan, i, r))?;
         self.outputs.write(&listing)
     }
 }
@@ -160,13 +163,12 @@ pub fn first_run(chunks: &[u64]) -> Range<u64> {
     from..from + run.count() as u64
 }
 
-/// The start-up of every sweep, after a power cut or not: recover, hold the plan against the digest, shorten, begin.
-fn start(plan: &Plan, journal: &mut Journal) -> Result<(), Fault> {
+/// The start-up of every sweep, after a power cut or not: recover, compare the plan with the digest, work the lines found out again, shorten, begin.
+fn start(plan: &Plan, journal: &mut Journal, trust: &Trust) -> Result<Evidence, Fault> {
     let found = journal.used;
     let keep = engine::recover(plan, journal.used()).map_err(|r| explain::journal(plan, &journal.path, journal.used(), r))?;
-    if keep > HEADER_BYTES as usize {
-        same_plan(plan, &journal.path)?;
-    }
+    let origin_known = keep <= HEADER_BYTES as usize || is_known(plan, &journal.path)?;
+    let evidence = trust.evidence(plan, &journal.path, &journal.used()[..keep], origin_known)?;
     journal.shorten(keep)?;
     if keep < found {
         tell!("recovered {}: {} bytes of a write that did not end are gone", journal.path.display(), found - keep);
@@ -179,7 +181,7 @@ fn start(plan: &Plan, journal: &mut Journal) -> Result<(), Fault> {
         let upto = engine::begin(plan, &mut journal.bytes).map_err(|r| explain::plan(plan, r))?;
         journal.append(upto)?;
     }
-    Ok(())
+    Ok(evidence)
 }
 
 #[cfg(test)]
