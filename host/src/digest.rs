@@ -1,5 +1,5 @@
-//! The digest that stands beside a journal. Targets, positions, the tolerances after the first and a table's rolls are not in its header, so an
-//! edited file of equal size would resume into wrong windows: J.plan has a digest of every number of the plan, and tells which file changed.
+//! The digest that stands beside a journal. Targets, positions, the tolerances after the first and a table's rolls are not in its header: J.plan has a
+//! digest of every number of the plan, and shows which file was edited since. It knows the files that a journal was begun with, not its lines.
 use crate::{
     explain,
     fault::Fault,
@@ -18,8 +18,8 @@ use std::{
 
 /// The first line: this and the version.
 const TITLE: &str = "wilfnusk plan ";
-/// The version that is written. An older one says that the lines rest on rolls that were not yet folded: it is known as a digest, and speaks
-/// for no line.
+/// The version that is written. An older one shows that the lines rest on rolls that were not yet folded: it is known as a digest, and refused
+/// beside lines.
 const VERSION: u64 = 3;
 const PARTS: [&str; 3] = ["settings", "targets", "ephemeris"];
 
@@ -100,7 +100,7 @@ impl Digest {
             _ => write_whole(&Digest::path(journal), self.text().as_bytes()),
         }
     }
-    /// Takes away the digest of a journal that is gone, which would speak for lines that it does not know. Whether there was one.
+    /// Removes the digest of a journal that is gone, which would vouch for lines that it does not know. Whether there was one.
     pub fn remove(journal: &Path) -> Result<bool, Fault> {
         let path = Digest::path(journal);
         match Digest::beside(journal, None)? {
@@ -187,10 +187,10 @@ pub fn missing(plan: &Plan, journal: &Path) {
 }
 
 /// The settings' digest: n, whether a roll is configured, that roll or 0; then lists, each after the count of its numbers: tolerances, panels
-/// (three numbers each), rolls. Even steps are said by n alone, and their list of rolls is empty. It stands last, so that a table of rolls
+/// (three numbers each), rolls. Even steps are given by n alone, and their list of rolls is empty. It stands last, so that a table of rolls
 /// moves nothing before it.
 ///
-/// The tolerances are one number where it is the same for all targets, so that it does not matter how the files tell it, else one a target;
+/// The tolerances are one number where it is the same for all targets, so that it does not matter how the files give it, else one per target;
 /// without targets +0, as the header has it.
 fn settings(plan: &Plan) -> String {
     let (n, is_configured, roll) = (plan.rolls.count(), plan.configured_roll.is_some() as u64, bits(&plan.configured_roll.unwrap_or(0.0)));
@@ -249,9 +249,9 @@ mod tests {
         OLD[1].replace("plan 2\n", "plan 3\n")
     }
 
-    /// The settings as bytes put together by another program: 1, 0, 0; 1, 10.0; 3, 0.0, 1.0, 0.0; 0. However one tolerance is told.
+    /// The settings as bytes put together by another program: 1, 0, 0; 1, 10.0; 3, 0.0, 1.0, 0.0; 0.
     #[test]
-    fn what_is_written() {
+    fn one_tolerance_is_hashed_alike_however_it_is_given() {
         let without = TOML.replace("tolerance = 10\n", "");
         let column = TARGETS.replace("z\n", "z,tolerance\n").replace("0\n", "0,10\n");
         for (toml, targets) in [(TOML, TARGETS), (&(without.clone() + "tolerance = [10, 1e1]\n"), TARGETS), (&without, &column)] {
@@ -259,7 +259,7 @@ mod tests {
         }
     }
     #[test]
-    fn an_older_digest_speaks_for_no_line() {
+    fn an_older_digest_is_refused_beside_lines() {
         let folder = tempfile::tempdir().unwrap();
         let journal = folder.path().join("j");
         let path = Digest::path(&journal);
@@ -273,7 +273,7 @@ mod tests {
                 assert!(fault.status() == 3 && fault.to_string().contains(&says), "{}", fault);
             }
             assert_eq!(fs::read_to_string(&path).unwrap(), old);
-            // Without lines it is a digest like any other: it makes way, and may be taken away.
+            // Without lines it is a digest like any other: it is replaced, and may be removed.
             digest(TOML, TARGETS, EPHEMERIS).write(&journal).unwrap();
             assert_eq!(fs::read_to_string(&path).unwrap(), new());
             assert!(is_known(&plan(TOML, TARGETS, EPHEMERIS).unwrap(), &journal).unwrap());
@@ -282,7 +282,7 @@ mod tests {
         }
     }
     #[test]
-    fn another_version_is_told() {
+    fn a_newer_version_and_another_title_are_refused() {
         let folder = tempfile::tempdir().unwrap();
         let journal = folder.path().join("j");
         let path = Digest::path(&journal);
@@ -303,7 +303,7 @@ mod tests {
     }
     /// As a program of version 2 hashed it, too.
     #[test]
-    fn every_nan_is_one() {
+    fn every_nan_is_hashed_alike() {
         let without = TOML.replace("tolerance = 10\n", "");
         let column = TARGETS.replace("z\n", "z,tolerance\n").replace("A,1,0,0", "A,1,0,0,nan").replace("B,0,1,0", "B,0,1,0,-NaN");
         for (toml, targets) in
@@ -313,7 +313,7 @@ mod tests {
             assert_eq!(settings(&plan), "a1358abd4afafe6cf76725ec2d67b15dbe9196f02854e5337e083c9fb038c20d", "{}", toml);
         }
     }
-    /// What is said of a plan beside the digest of another, of which the settings alone are others.
+    /// The fault of a plan beside the digest of another, which differs in the settings alone.
     fn fault_after(then: &Plan, now: &Plan) -> String {
         let folder = tempfile::tempdir().unwrap();
         let journal = folder.path().join("j");
@@ -324,8 +324,8 @@ mod tests {
         assert_eq!(fault.status(), 3);
         fault.to_string()
     }
-    /// The second of each pair is told from the first.
-    fn told_apart(read: impl Fn(&str) -> Plan, pairs: &[(&str, &str)]) {
+    /// The second of each pair has another digest than the first.
+    fn hashed_apart(read: impl Fn(&str) -> Plan, pairs: &[(&str, &str)]) {
         for (then, now) in pairs {
             let fault = fault_after(&read(then), &read(now));
             assert!(fault.starts_with("`rolls` or `tolerance` in plan.toml: its numbers are not those"), "{}", fault);
@@ -337,7 +337,7 @@ mod tests {
         let read = |tolerance: &str| plan(&TOML.replace("10", tolerance), TARGETS, EPHEMERIS).unwrap();
         // 1, 0, 0; 2, 10.0, NaN; 3, 0.0, 1.0, 0.0; 0.
         assert_eq!(settings(&read("[10, nan]")), "e934991011da3d711366f3316cc99451ea276b79f88bee9dfbcc46e5ee9636d0");
-        told_apart(
+        hashed_apart(
             read,
             &[
                 ("10", "[10, 11]"),
@@ -360,8 +360,8 @@ mod tests {
         // The same numbers in other words.
         assert_eq!(settings(&read("[\n  0.0, # first\n  1.55e1,\n]")), settings(&read("[0, 15.5]")));
         // The even steps as a table are the same rolls, and another record of them.
-        told_apart(read, &[("[0, 180]", "2"), ("2", "[0, 180]")]);
-        told_apart(read, &[("[0, 15.5]", "[0, 15.500000000000002]"), ("[0, 15.5]", "[1, 15.5]"), ("[0, 15.5]", "[-0.0, 15.5]")]);
+        hashed_apart(read, &[("[0, 180]", "2"), ("2", "[0, 180]")]);
+        hashed_apart(read, &[("[0, 15.5]", "[0, 15.500000000000002]"), ("[0, 15.5]", "[1, 15.5]"), ("[0, 15.5]", "[-0.0, 15.5]")]);
     }
     /// Of one target or none the header has the tolerance, so it can only be the rolls.
     #[test]
@@ -422,7 +422,7 @@ mod tests {
         }
     }
     #[test]
-    fn written_and_read_again() {
+    fn a_digest_that_was_written_is_read_again() {
         let folder = tempfile::tempdir().unwrap();
         let journal = folder.path().join("j");
         assert_eq!(Digest::beside(&journal, None).unwrap(), None);
@@ -437,7 +437,7 @@ mod tests {
         }
     }
     #[test]
-    fn four_lines_and_no_more() {
+    fn a_digest_has_four_lines_and_no_more() {
         let folder = tempfile::tempdir().unwrap();
         let journal = folder.path().join("j");
         let d = digest(TOML, TARGETS, EPHEMERIS);
@@ -453,8 +453,8 @@ mod tests {
         let more = ["\n", "\r\n", " ", "x", "settings", &text].map(|more| text.clone() + more);
         for other in nameless.iter().chain(&more) {
             fs::write(Digest::path(&journal), other).unwrap();
-            let said = Digest::beside(&journal, None).map_err(|e| e.to_string());
-            assert!(matches!(&said, Err(e) if e.contains("no digest of a plan")), "{:?} of {}", said, other);
+            let read = Digest::beside(&journal, None).map_err(|e| e.to_string());
+            assert!(matches!(&read, Err(e) if e.contains("no digest of a plan")), "{:?} of {}", read, other);
         }
     }
     #[test]

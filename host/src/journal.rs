@@ -55,7 +55,7 @@ impl Journal {
         Ok(())
     }
     /// Writes the frames that the buffer holds beyond the used length, up to this one, with one write at the end of the file, and makes them
-    /// last. A short write is gone on with; nothing written is ever taken back.
+    /// last. A short write is continued; nothing written is ever removed again.
     pub fn append(&mut self, upto: usize) -> Result<(), Fault> {
         self.as_left()?;
         self.file.write_all(&self.bytes[self.used..upto]).and_then(|()| self.file.sync_data()).map_err(|e| self.fault(&e))?;
@@ -112,7 +112,7 @@ fn sync_name(path: &Path) -> io::Result<()> {
 /// Opens the file for this process alone, and makes an empty one if there is none.
 fn locked(path: &Path, wait: bool) -> Result<File, Fault> {
     let asked = Instant::now();
-    let mut told = false;
+    let mut reported = false;
     loop {
         if path.is_dir() {
             return Err(Fault::Files(format!("{}: this is a folder; allowed: a journal's file", path.display())));
@@ -135,8 +135,8 @@ fn locked(path: &Path, wait: bool) -> Result<File, Fault> {
                         path.display()
                     )));
                 }
-                if wait && !told && asked.elapsed() > Duration::from_secs(1) {
-                    told = true;
+                if wait && !reported && asked.elapsed() > Duration::from_secs(1) {
+                    reported = true;
                     tell!("waiting: another process sweeps into {}", path.display());
                 }
             }
@@ -159,7 +159,7 @@ pub fn opened(path: &Path) -> io::Result<File> {
     OpenOptions::new().read(true).custom_flags(libc::O_NONBLOCK).open(path)
 }
 
-/// Refuses what is no plain file, and so cannot keep what is written.
+/// Refuses what is no plain file and so cannot keep what is written.
 fn plain(path: &Path, file: &File) -> Result<Metadata, Fault> {
     let about = file.metadata().map_err(|e| fault(path, &e))?;
     let kind = about.file_type();
@@ -173,7 +173,7 @@ fn plain(path: &Path, file: &File) -> Result<Metadata, Fault> {
     Err(Fault::Files(format!("{}: this is {}; allowed: a plain file", path.display(), what)))
 }
 
-/// The bytes of a journal, or of what stands beside it.
+/// The bytes of a journal or of its digest.
 pub fn read(path: &Path, mut file: &File) -> Result<Vec<u8>, Fault> {
     let about = plain(path, file)?;
     if about.len() > MOST {
@@ -267,7 +267,7 @@ mod tests {
         assert_eq!(look(&path).unwrap(), &bytes[..HEADER_BYTES as usize]);
     }
     #[test]
-    fn what_others_do_to_the_file_is_noticed() {
+    fn a_journal_that_others_changed_meanwhile_is_not_written() {
         let away = |path: &Path| path.with_extension("away");
         assert!(fault_after(|j| fs::remove_file(j).unwrap()).contains("was removed"));
         assert!(fault_after(|j| fs::rename(j, away(j)).unwrap()).contains("was renamed or replaced"));
@@ -286,7 +286,7 @@ mod tests {
         assert!(fault_after(|j| OpenOptions::new().write(true).open(j).unwrap().set_len(7).unwrap()).contains("has 7 bytes"));
     }
     #[test]
-    fn one_process_at_a_time() {
+    fn a_second_process_is_refused() {
         let folder = tempfile::tempdir().unwrap();
         let journal = begun(folder.path());
         assert!(is_locked(&journal.path));
@@ -297,7 +297,7 @@ mod tests {
         assert!(!is_locked(&path));
     }
     #[test]
-    fn through_a_link_that_leads_nowhere_yet() {
+    fn a_journal_is_made_where_a_link_leads() {
         let folder = tempfile::tempdir().unwrap();
         fs::create_dir(folder.path().join("disk")).unwrap();
         std::os::unix::fs::symlink("disk/real", folder.path().join("j")).unwrap();
@@ -305,7 +305,7 @@ mod tests {
         assert_eq!(fs::read(folder.path().join("disk/real")).unwrap().len() as u64, HEADER_BYTES);
     }
     #[test]
-    fn what_is_no_plain_file() {
+    fn what_is_no_plain_file_is_refused() {
         let folder = tempfile::tempdir().unwrap();
         for (path, says) in [(folder.path(), "a folder"), (Path::new("/dev/zero"), "a device")] {
             assert!(look(path).unwrap_err().to_string().contains(says));
@@ -316,7 +316,7 @@ mod tests {
         assert!(look(&path).unwrap_err().to_string().contains("16777217 bytes; allowed: at most 16777216"));
     }
     #[test]
-    fn fields() {
+    fn fields_and_whole_lines_are_read() {
         assert_eq!((hex(b"0fa9"), hex(b""), hex(b"0F"), hex(b"g")), (Some(0xfa9), Some(0), None, None));
         assert_eq!((chunk_of(b"0000001f.."), chunk_of(b"0000001")), (Some(31), None));
         assert_eq!(lines(&[0; 106]).count(), 0);

@@ -85,7 +85,7 @@ pub struct Status {
     json: bool,
 }
 
-/// How far a sweep is, as JSON has it.
+/// How far a sweep is: the keys of the JSON output.
 #[derive(Serialize)]
 struct State {
     plan: String,
@@ -371,7 +371,7 @@ mod tests {
     }
 
     #[test]
-    fn a_status_in_words() {
+    fn a_status_in_words_has_what_applies() {
         assert_eq!(state(None, 0, false).text("about", "0..5"), "about\njournal  j: not begun");
         let begun = "about\njournal  j: 174 bytes\nchunks   2 of 5 have a line\nmissing  1, 3..5";
         assert_eq!(state(Some(174), 0, false).text("about", "1, 3..5"), begun);

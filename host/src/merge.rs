@@ -24,7 +24,7 @@ pub struct Merge {
     /// The plan that the journals are of
     #[arg(value_name = "PLAN.toml")]
     plan: PathBuf,
-    /// The journals, each with its digest beside it
+    /// The journals, each with its digest J.plan beside it
     #[arg(value_name = "JOURNAL", required = true)]
     journals: Vec<PathBuf>,
     /// The new journal
@@ -40,9 +40,7 @@ pub struct Merge {
 impl Merge {
     pub fn run(&self) -> Result<(), Fault> {
         if self.output == Path::new("-") {
-            return Err(Fault::Usage(
-                "-o -: a journal is written to a file, as its digest stands beside it; allowed: a file's name".into(),
-            ));
+            return Err(Fault::Usage("-o -: a journal is written to a file, with its digest beside it; allowed: a file's name".into()));
         }
         if self.plan.extension().map_or(false, |e| e == "journal") {
             let plan = self.plan.display();

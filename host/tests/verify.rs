@@ -2,7 +2,7 @@
 //! listed and no file changes, unless --trust-journal is given; what is listed then says so.
 mod common;
 
-use common::{changed, done, json, run, signal, until_it_listens, Ended, Folder, HEADER, LINE};
+use common::{changed, document, done, json, run, signal, until_it_listens, Ended, Folder, HEADER, LINE};
 use std::{
     io::Read,
     process::{Command, Stdio},
@@ -70,6 +70,9 @@ fn the_journal_of_another_plan_with_the_same_header_is_refused() {
         assert!(f.all() == before, "a file was changed");
     };
     part(&f);
+    let (_, document) = document();
+    let message = run(&f, "sweep plan.toml").stderr.split_whitespace().collect::<Vec<_>>().join(" ");
+    assert!(document.contains(&message), "docs/JOURNAL.md does not show: {}", message);
     f.remove("plan.journal.plan");
     part(&f);
 }
