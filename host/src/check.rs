@@ -1,7 +1,7 @@
 //! `wilfnusk check`: a plan and its journal looked at, and its lines worked out again where that is asked for.
 use crate::{
     cost,
-    digest::{is_known, missing, Digest},
+    digest::{is_known, warn_missing, Digest},
     engine::{self, HEADER_BYTES},
     explain,
     fault::Fault,
@@ -11,7 +11,7 @@ use crate::{
     say,
     text::grouped,
     tolerance::nothing_violated,
-    verify::{same, unneeded, Lines},
+    verify::{missing_but_same, same, Lines},
     Files,
 };
 use clap::Args;
@@ -74,8 +74,8 @@ impl Check {
                     tell!("wrote {}", Digest::path(path).display());
                     known = true;
                 }
-                (false, true) => tell!("{}", unneeded(plan, path)),
-                (false, false) => missing(plan, path),
+                (false, true) => tell!("{}", missing_but_same(plan, path)),
+                (false, false) => warn_missing(plan, path),
             }
         }
         sentences.into_iter().try_for_each(say)?;

@@ -177,7 +177,7 @@ fn worked_out_again(plan: &Plan, journal: &Path) -> String {
 }
 
 /// Warns on standard error that lines which were not worked out again have no digest beside them.
-pub fn missing(plan: &Plan, journal: &Path) {
+pub fn warn_missing(plan: &Plan, journal: &Path) {
     tell!(
         "warning: {} is missing: nothing shows whether {} was made from these targets, positions, tolerances and rolls. To work every line out again: {} --recompute",
         Digest::path(journal).display(),

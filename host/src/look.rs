@@ -1,6 +1,6 @@
 //! The commands that only look: windows, status, mask, regard. They take no lock and change no file.
 use crate::{
-    digest::{is_known, missing},
+    digest::{is_known, warn_missing},
     engine::{self, Regarded, Roll, HEADER_BYTES},
     explain,
     fault::{csv_error, Fault},
@@ -156,7 +156,7 @@ impl Status {
             state.origin_known = !has_lines || is_known(&plan, &path)?;
         }
         if !state.origin_known {
-            missing(&plan, &path);
+            warn_missing(&plan, &path);
         }
         if !self.json {
             say(format_args!("next     {}", explain::command(if state.finished { "windows" } else { "sweep" }, &plan, &path)))?;

@@ -3,7 +3,7 @@
 //! A journal that is right by document 01 has lines that its plan could give: another plan's lines, or a line with a changed digit, may be right too.
 //! And J.plan tells which files a journal was begun with, not which lines stand in it now. So only working a line out again shows that it is the plan's.
 use crate::{
-    digest::{missing, Digest},
+    digest::{warn_missing, Digest},
     engine::{HEADER_BYTES, LINE_BYTES},
     explain,
     fault::Fault,
@@ -23,7 +23,7 @@ const NAMED: usize = 5;
 
 #[derive(Args)]
 pub struct Trust {
-    /// Leave out that the lines of the journal are worked out again; what is listed then says so
+    /// Use the journal's lines without working them out again; standard error and what is listed then say that they are not verified
     #[arg(long)]
     pub trust_journal: bool,
 }
@@ -52,8 +52,8 @@ impl Trust {
         }
         if !origin_known {
             match verified {
-                true => tell!("{}", unneeded(plan, path)),
-                false => missing(plan, path),
+                true => tell!("{}", missing_but_same(plan, path)),
+                false => warn_missing(plan, path),
             }
         }
         if !verified {
@@ -69,7 +69,7 @@ impl Trust {
         }
         for (path, _, _) in parts.iter().filter(|(_, _, origin_known)| !origin_known) {
             match self.trust_journal {
-                true => missing(plan, path),
+                true => warn_missing(plan, path),
                 false => tell!(
                     "{} is missing; every line of {} was worked out again and is the same",
                     Digest::path(path).display(),
@@ -85,8 +85,8 @@ impl Trust {
     }
 }
 
-/// That lines rest on no J.plan, where each was worked out again.
-pub fn unneeded(plan: &Plan, journal: &Path) -> String {
+/// The remark on a journal without a J.plan whose lines were all worked out again.
+pub fn missing_but_same(plan: &Plan, journal: &Path) -> String {
     format!(
         "{} is missing; every line of {} was worked out again and is the same. To write it: {} --recompute --write-digest",
         Digest::path(journal).display(),

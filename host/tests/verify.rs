@@ -264,6 +264,20 @@ fn a_signal_while_lines_are_worked_out_again_ends_the_command() {
     }
 }
 
+/// The output of a command is not held up by a signal that only asks: a reader who does not read would keep it waiting.
+#[test]
+fn a_signal_after_lines_were_worked_out_again_ends_the_command_at_once() {
+    let f = Folder::of_two_plans();
+    f.write("e.csv", common::ephemeris(1000));
+    let f = f.swept();
+    let mut command = f.command(&["mask", "plan.toml", "--form", "csv"]);
+    let mut child = command.stdin(Stdio::null()).stdout(Stdio::piped()).stderr(Stdio::piped()).spawn().unwrap();
+    // The first of more bytes than a pipe holds.
+    child.stdout.as_mut().unwrap().read_exact(&mut [0]).unwrap();
+    signal(&child, "TERM");
+    assert_eq!(Ended::of_child(child).status, -1);
+}
+
 /// On a terminal, which `script` makes.
 #[test]
 fn a_bar_is_shown_where_lines_take_more_than_a_second() {
