@@ -105,7 +105,7 @@ fn sync_name(path: &Path) -> io::Result<()> {
 /// Opens the file for this process alone, and makes an empty one if there is none.
 fn locked(path: &Path, wait: bool) -> Result<File, Fault> {
     let asked = Instant::now();
-    let mut told = false;
+    let mut reported = false;
     loop {
         if path.is_dir() {
             return Err(Fault::Files(format!("{}: this is a folder; allowed: a journal's file", path.display())));
@@ -128,8 +128,8 @@ fn locked(path: &Path, wait: bool) -> Result<File, Fault> {
                         path.display()
                     )));
                 }
-                if wait && !told && asked.elapsed() > Duration::from_secs(1) {
-                    told = true;
+                if wait && !reported && asked.elapsed() > Duration::from_secs(1) {
+                    reported = true;
                     tell!("waiting: another process sweeps into {}", path.display());
                 }
             }
@@ -152,7 +152,7 @@ pub fn opened(path: &Path) -> io::Result<File> {
     OpenOptions::new().read(true).custom_flags(libc::O_NONBLOCK).open(path)
 }
 
-/// Refuses what is no plain file, and so cannot keep what is written.
+/// Refuses what is no plain file and so cannot keep what is written.
 fn plain(path: &Path, file: &File) -> Result<Metadata, Fault> {
     let about = file.metadata().map_err(|e| fault(path, &e))?;
     let kind = about.file_type();
@@ -166,7 +166,7 @@ fn plain(path: &Path, file: &File) -> Result<Metadata, Fault> {
     Err(Fault::Files(format!("{}: this is {}; allowed: a plain file", path.display(), what)))
 }
 
-/// The bytes of a journal, or of what stands beside it.
+/// The bytes of a journal or of its digest.
 pub fn read(path: &Path, mut file: &File) -> Result<Vec<u8>, Fault> {
     let about = plain(path, file)?;
     if about.len() > MOST {

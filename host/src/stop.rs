@@ -1,5 +1,5 @@
-//! Signals. Ctrl-C and those that ask a process to end: the sweep ends after the ranges that it has begun. A limit on the size of files: the
-//! write fails, and does not end the process.
+//! Signals. Ctrl-C and those that ask a process to end: a sweep ends after the ranges that it has begun, and so does the working out of lines again.
+//! A limit on the size of files: the write fails, and does not end the process.
 use signal_hook::{
     consts::{SIGHUP, SIGINT, SIGTERM, SIGXFSZ},
     flag,
@@ -12,26 +12,37 @@ use std::{
     },
 };
 
-static ASKED: OnceLock<Arc<AtomicBool>> = OnceLock::new();
-
-fn flag() -> &'static Arc<AtomicBool> {
-    ASKED.get_or_init(Arc::default)
+#[derive(Default)]
+struct Signals {
+    /// A signal came while they were listened for.
+    asked: Arc<AtomicBool>,
+    /// They are no longer listened for: each ends the process at once, as it does a program that never listened.
+    at_once: Arc<AtomicBool>,
 }
 
-/// Listens for the signals. The second one ends the process at once. One that was ignored when the program was started stays so: that is
-/// how `nohup` protects what it runs.
+static SIGNALS: OnceLock<Signals> = OnceLock::new();
+
+/// Listens for the signals from now on. The second one ends the process at once. One that was ignored when the program was started stays so:
+/// that is how `nohup` protects what it runs.
 pub fn listen() {
-    let status = fs::read_to_string("/proc/self/status").unwrap_or_default();
-    for signal in [SIGHUP, SIGINT, SIGTERM] {
-        if is_ignored(&status, signal) {
-            continue;
+    let signals = SIGNALS.get_or_init(|| {
+        let signals = Signals::default();
+        let status = fs::read_to_string("/proc/self/status").unwrap_or_default();
+        for signal in [SIGHUP, SIGINT, SIGTERM] {
+            if is_ignored(&status, signal) {
+                continue;
+            }
+            // In this order: the first signal finds the flag not yet set.
+            let set = flag::register_conditional_default(signal, signals.at_once.clone())
+                .and_then(|_| flag::register_conditional_shutdown(signal, 130, signals.asked.clone()))
+                .and_then(|_| flag::register(signal, signals.asked.clone()));
+            if let Err(e) = set {
+                tell!("warning: signal {} will end the program at once ({})", signal, e);
+            }
         }
-        // In this order: the first signal finds the flag not yet set.
-        let set = flag::register_conditional_shutdown(signal, 130, flag().clone()).and_then(|_| flag::register(signal, flag().clone()));
-        if let Err(e) = set {
-            tell!("warning: signal {} will end the program at once ({})", signal, e);
-        }
-    }
+        signals
+    });
+    signals.at_once.store(false, Ordering::SeqCst);
 }
 
 /// Lets a write beyond the limit on the size of files fail with a reason. Without a handler the signal would end the process without a word.
@@ -40,9 +51,20 @@ pub fn outlive_file_limits() {
     let _ = flag::register(SIGXFSZ, Arc::default());
 }
 
-/// Whether one of the signals came.
+/// Listens for the signals while this work is done, which asks whether one came; so must the caller after it.
+pub fn while_listening<T>(work: impl FnOnce() -> T) -> T {
+    let listened = SIGNALS.get().map_or(false, |signals| !signals.at_once.load(Ordering::SeqCst));
+    listen();
+    let done = work();
+    if let (false, Some(signals)) = (listened, SIGNALS.get()) {
+        signals.at_once.store(true, Ordering::SeqCst);
+    }
+    done
+}
+
+/// Whether a signal came while they were listened for.
 pub fn asked() -> bool {
-    flag().load(Ordering::SeqCst)
+    SIGNALS.get().map_or(false, |signals| signals.asked.load(Ordering::SeqCst))
 }
 
 /// Whether a process of this /proc status ignores a signal.

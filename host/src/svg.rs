@@ -86,6 +86,9 @@ fn heading_of(svg: &mut String, listing: &Listing) -> f64 {
     if let Some(part) = listing.part() {
         lines.push((format!("Part of the plan: {}", part), INK));
     }
+    if let Some(note) = listing.unverified() {
+        lines.push((note.replacen("not", "Not", 1), INK));
+    }
     for (line, color) in lines {
         y += LINE;
         let _ = writeln!(svg, "<text x=\"{}\" y=\"{}\" fill=\"{}\">{}</text>", EDGE, y, color, escaped(&line));

@@ -1,6 +1,6 @@
 //! `wilfnusk sweep`: lock the journal, recover, shorten, work out what is missing, list the windows.
 use crate::{
-    digest::{same_plan, Digest},
+    digest::{is_known, Digest},
     engine::{self, HEADER_BYTES},
     explain::{self, zero_tail},
     fault::Fault,
@@ -13,6 +13,7 @@ use crate::{
     selection::{Selected, Selection},
     stop,
     text::{counted, grouped, ranges},
+    verify::{Evidence, Trust},
     workers::{cores, Workers},
     Files,
 };
@@ -41,6 +42,8 @@ pub struct Sweep {
     /// Drop the zero bytes that a power cut left at the journal's end, where all that stands before them is right
     #[arg(long)]
     drop_zero_tail: bool,
+    #[command(flatten)]
+    trust: Trust,
     #[command(flatten)]
     selection: Selection,
     #[command(flatten)]
@@ -102,7 +105,7 @@ impl Sweep {
         if self.drop_zero_tail {
             drop_zero_tail(&plan, &mut journal)?;
         }
-        start(&plan, &mut journal)?;
+        let evidence = start(&plan, &mut journal, &self.trust)?;
 
         // A chunk that was asked for twice is worked out once.
         let mut has_line = done(journal.used(), plan.chunks());
@@ -116,7 +119,7 @@ impl Sweep {
         })?;
         journal.as_left()?;
         progress.end();
-        self.end(&plan, &journal, selected)
+        self.end(&plan, &journal, selected, evidence)
     }
     /// The chunks that the command line asks for, in its order.
     fn asked(&self, plan: &Plan) -> Result<Vec<u64>, Fault> {
@@ -133,7 +136,7 @@ impl Sweep {
             (None, None) => Ok((0..chunks).collect()),
         }
     }
-    fn end(&self, plan: &Plan, journal: &Journal, selected: Selected) -> Result<(), Fault> {
+    fn end(&self, plan: &Plan, journal: &Journal, selected: Selected, evidence: Evidence) -> Result<(), Fault> {
         let has_line = done(journal.used(), plan.chunks());
         let count = has_line.iter().filter(|&&d| d).count();
         let about = format!("{}: {} of {} chunks have a line", journal.path.display(), grouped(count), grouped(plan.chunks()));
@@ -151,7 +154,7 @@ impl Sweep {
         let bytes = journal.used();
         let (mask, probes) = engine::collect(plan, bytes).map_err(|r| explain::journal(plan, &journal.path, bytes, r))?;
         tell!("{}; {} tried", about, counted(probes, "roll"));
-        let listing = Listing::of_mask(plan, selected, &mask, probes).map_err(|(i, r)| explain::row(plan, i, r))?;
+        let listing = Listing::of_mask(plan, selected, &mask, probes, evidence).map_err(|(i, r)| explain::row(plan, i, r))?;
         self.outputs.write(&listing)
     }
 }
@@ -166,13 +169,12 @@ fn drop_zero_tail(plan: &Plan, journal: &mut Journal) -> Result<(), Fault> {
     Ok(())
 }
 
-/// The start-up of every sweep, after a power cut or not: recover, hold the plan against the digest, shorten, begin.
-fn start(plan: &Plan, journal: &mut Journal) -> Result<(), Fault> {
+/// The start-up of every sweep, after a power cut or not: recover, compare the plan with the digest, work the lines found out again, shorten, begin.
+fn start(plan: &Plan, journal: &mut Journal, trust: &Trust) -> Result<Evidence, Fault> {
     let found = journal.used().len();
     let keep = engine::recover(plan, journal.used()).map_err(|r| explain::journal(plan, &journal.path, journal.used(), r))?;
-    if keep > HEADER_BYTES as usize {
-        same_plan(plan, &journal.path)?;
-    }
+    let origin_known = keep <= HEADER_BYTES as usize || is_known(plan, &journal.path)?;
+    let evidence = trust.evidence(plan, &journal.path, &journal.used()[..keep], origin_known)?;
     journal.shorten(keep)?;
     if keep < found {
         tell!("recovered {}: removed {} of a write that did not end", journal.path.display(), counted(found - keep, "byte"));
@@ -184,7 +186,7 @@ fn start(plan: &Plan, journal: &mut Journal) -> Result<(), Fault> {
     if keep == 0 {
         journal.append(&engine::header(plan).map_err(|r| explain::plan(plan, r))?)?;
     }
-    Ok(())
+    Ok(evidence)
 }
 
 #[cfg(test)]

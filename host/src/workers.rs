@@ -145,7 +145,7 @@ fn lines_of(plan: &Plan, header: &[u8], chunks: &[u64]) -> Result<Vec<u8>, Refus
 }
 
 /// The chunks at the front of the list, as long as each follows the one before.
-pub fn first_run(chunks: &[u64]) -> Range<u64> {
+fn first_run(chunks: &[u64]) -> Range<u64> {
     let from = chunks[0];
     let run = (from..).zip(chunks).take_while(|(next, chunk)| next == *chunk);
     from..from + run.count() as u64
