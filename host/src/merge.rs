@@ -9,7 +9,7 @@ use crate::{
     plan::Plan,
     say,
     text::{counted, grouped, ranges},
-    verify::{digits, Trust},
+    verify::{digits, Part, Trust},
     Files,
 };
 use clap::Args;
@@ -52,17 +52,17 @@ impl Merge {
         }
         let mut parts = Vec::new();
         for path in &self.journals {
-            let mut bytes = look(path)?;
-            let keep = engine::recover(&plan, &bytes).map_err(|r| explain::journal(&plan, path, &bytes, r))?;
-            bytes.truncate(keep);
+            let mut journal = look(path)?;
+            let keep = engine::recover(&plan, &journal).map_err(|r| explain::journal(&plan, path, &journal, r))?;
+            journal.truncate(keep);
             let origin_known = keep <= HEADER_BYTES as usize || is_known(&plan, path)?;
-            parts.push((path.as_path(), bytes, origin_known));
+            parts.push(Part { path, journal, origin_known });
         }
         let mut sentences = self.trust.parts(&plan, &parts)?;
         let merged = united(&plan, &parts, &mut sentences)?;
         engine::recover(&plan, &merged).map_err(|r| explain::journal(&plan, &self.output, &merged, r))?;
         // The digest first, or its absence: the new journal never stands beside one that vouches for lines of unknown origin.
-        if !self.trust.trust_journal || parts.iter().all(|(_, _, origin_known)| *origin_known) {
+        if !self.trust.trust_journal || parts.iter().all(|part| part.origin_known) {
             Digest::of(&plan).write(&self.output)?;
         } else {
             Digest::remove(&self.output)?;
@@ -89,12 +89,12 @@ impl Merge {
 }
 
 /// The plan's header and each line of these right journals once, in the order in which they come. A sentence on what each of them adds.
-fn united(plan: &Plan, parts: &[(&Path, Vec<u8>, bool)], sentences: &mut Vec<String>) -> Result<Vec<u8>, Fault> {
+fn united(plan: &Plan, parts: &[Part], sentences: &mut Vec<String>) -> Result<Vec<u8>, Fault> {
     let mut merged = engine::header(plan).map_err(|r| explain::plan(plan, r))?;
     let mut from: HashMap<u64, (&Path, usize, &[u8])> = HashMap::new();
-    for (path, bytes, _) in parts {
+    for Part { path, journal, .. } in parts {
         let before = from.len();
-        for (i, line) in lines(bytes).enumerate() {
+        for (i, line) in lines(journal).enumerate() {
             let chunk = chunk_of(line).expect("a line of a right journal");
             match from.get(&chunk) {
                 None => {
@@ -120,7 +120,7 @@ fn united(plan: &Plan, parts: &[(&Path, Vec<u8>, bool)], sentences: &mut Vec<Str
         sentences.push(format!(
             "{}: {}, {} of them new",
             path.display(),
-            counted(lines(bytes).count(), "line"),
+            counted(lines(journal).count(), "line"),
             grouped(from.len() - before)
         ));
     }
@@ -142,8 +142,11 @@ mod tests {
         }
         journal
     }
+    fn part(name: &'static str, journal: Vec<u8>) -> Part<'static> {
+        Part { path: Path::new(name), journal, origin_known: true }
+    }
     fn merge(parts: &[&[u64]]) -> (Vec<u8>, Vec<String>) {
-        let parts: Vec<_> = parts.iter().map(|chunks| (Path::new("j"), journal(chunks), true)).collect();
+        let parts: Vec<_> = parts.iter().map(|chunks| part("j", journal(chunks))).collect();
         let mut sentences = Vec::new();
         (united(&small(), &parts, &mut sentences).unwrap(), sentences)
     }
@@ -158,14 +161,14 @@ mod tests {
         );
         assert_eq!(merge(&[]).0, journal(&[]));
         // A journal that was not begun adds nothing.
-        assert_eq!(united(&small(), &[(Path::new("j"), Vec::new(), true)], &mut Vec::new()).unwrap(), journal(&[]));
+        assert_eq!(united(&small(), &[part("j", Vec::new())], &mut Vec::new()).unwrap(), journal(&[]));
     }
     #[test]
     fn two_lines_of_a_chunk_name_both_journals() {
         let mut other = journal(&[2, 1]);
         let last = other.len() - 2;
         other[last] = b'x';
-        let parts = [(Path::new("a"), journal(&[0, 1]), true), (Path::new("b"), other, true)];
+        let parts = [part("a", journal(&[0, 1])), part("b", other)];
         let fault = united(&small(), &parts, &mut Vec::new()).unwrap_err().to_string();
         assert!(
             fault.starts_with("chunk 1 has two different lines") && fault.contains(" in a, line 3\n") && fault.ends_with("x in b, line 3"),

@@ -28,12 +28,20 @@ pub struct Trust {
     pub trust_journal: bool,
 }
 
+/// A right journal that is merged with others.
+pub struct Part<'a> {
+    pub path: &'a Path,
+    pub journal: Vec<u8>,
+    /// The J.plan beside it is this plan's, or it has no line.
+    pub origin_known: bool,
+}
+
 /// What is known of the lines that windows are listed from.
 #[derive(Clone, Copy, Debug, PartialEq, Eq)]
 pub struct Evidence {
     /// Each line was worked out again and is the same, or was written by this process.
     pub verified: bool,
-    /// The J.plan beside the journal is this plan's.
+    /// The J.plan beside the journal is this plan's, or it has no line.
     pub origin_known: bool,
 }
 
@@ -61,23 +69,23 @@ impl Trust {
         }
         Ok(Evidence { verified, origin_known })
     }
-    /// The same of the parts of a split sweep, each with whether its J.plan is this plan's. What was compared, in words.
-    pub fn parts(&self, plan: &Plan, parts: &[(&Path, Vec<u8>, bool)]) -> Result<Vec<String>, Fault> {
+    /// The same of the parts of a split sweep. What was compared, in words.
+    pub fn parts(&self, plan: &Plan, parts: &[Part]) -> Result<Vec<String>, Fault> {
         let mut compared = Vec::new();
         if !self.trust_journal {
-            compared = same(plan, &parts.iter().map(|(path, journal, _)| Lines::all(path, journal)).collect::<Vec<_>>(), NAMED)?;
+            compared = same(plan, &parts.iter().map(|part| Lines::all(part.path, &part.journal)).collect::<Vec<_>>(), NAMED)?;
         }
-        for (path, _, _) in parts.iter().filter(|(_, _, origin_known)| !origin_known) {
+        for path in parts.iter().filter(|part| !part.origin_known).map(|part| part.path) {
             match self.trust_journal {
                 true => warn_missing(plan, path),
-                false => tell!(
-                    "{} is missing; every line of {} was worked out again and is the same",
-                    Digest::path(path).display(),
-                    path.display()
-                ),
+                false => {
+                    let digest = Digest::path(path);
+                    tell!("{} is missing; every line of {} was worked out again and is the same", digest.display(), path.display());
+                }
             }
         }
-        let names: Vec<_> = parts.iter().filter(|part| lines(&part.1).next().is_some()).map(|part| part.0.display().to_string()).collect();
+        let with_lines = parts.iter().filter(|part| lines(&part.journal).next().is_some());
+        let names: Vec<_> = with_lines.map(|part| part.path.display().to_string()).collect();
         if self.trust_journal && !names.is_empty() {
             tell!("{}", trusted(&names.join(", ")));
         }
@@ -172,6 +180,9 @@ fn differing(plan: &Plan, journals: &[Lines]) -> Result<Vec<Vec<(usize, Vec<u8>)
     chunks.dedup();
 
     let mut differ = vec![Vec::new(); journals.len()];
+    if chunks.is_empty() {
+        return Ok(differ);
+    }
     let mut left = wanted.as_slice();
     let mut progress = Progress::again(chunks.len());
     let take = |run: &[u64], again: &[u8]| {
