@@ -163,15 +163,15 @@ fn roll(plan: &Plan, table: &[f64]) -> Option<String> {
         }
         text => text.to_owned(),
     };
-    let told = |i: usize, before: &str| {
+    let fault = |i: usize, before: &str| {
         let allowed = "0 up to but not at 360 degrees, each above the one before it";
         format!("{}: entry {} of rolls reads {}{}; allowed: {}", plan.entry("rolls", i).0, grouped(i + 1), reads(i), before, allowed)
     };
     (0..table.len()).find_map(|i| {
         if !(table[i] >= 0.0 && table[i] < 360.0) {
-            Some(told(i, ""))
+            Some(fault(i, ""))
         } else if i > 0 && !(table[i - 1] < table[i]) {
-            Some(told(i, &format!(", and entry {} before it {}", grouped(i), reads(i - 1))))
+            Some(fault(i, &format!(", and entry {} before it {}", grouped(i), reads(i - 1))))
         } else {
             None
         }

@@ -31,7 +31,7 @@ impl Journal {
     /// Opens the plan's journal, or makes an empty one, locks it and reads it.
     pub fn open(path: &Path, wait: bool) -> Result<Journal, Fault> {
         let file = locked(path, wait)?;
-        // What a killed process left may never have been synced: it lasts before a line follows it or a window is listed from it.
+        // What a killed process left may never have been synced: it is, before a line follows it or a window is listed from it.
         file.sync_all().and_then(|()| sync_name(path)).map_err(|e| fault(path, &e))?;
         Ok(Journal { path: path.to_owned(), bytes: read(path, &file)?, file })
     }

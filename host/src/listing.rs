@@ -687,7 +687,7 @@ mod tests {
         fn consecutive_ranges_add_up(mask in prop::collection::vec(0u8..2, 1..120), cut in 0i64..70_000_000_000, gap in 0i64..2) {
             let p = half_seconds(mask.len());
             let (from, to) = (p.times[0], p.times[0] + cut);
-            let of = |from, to| Listing::of_mask(&p, Selected { from, to, ..whole() }, &mask, 7).unwrap().all;
+            let of = |from, to| Listing::of_mask(&p, Selected { from, to, ..whole() }, &mask, 7, VERIFIED).unwrap().all;
             let (all, parts) = (of(None, None), [of(Some(from), Some(to)), of(Some(to + gap), None)]);
             for kind in [|totals: &Totals| totals.visible.clone(), |totals: &Totals| totals.violated.clone()] {
                 let (whole, [a, b]) = (kind(&all), [kind(&parts[0]), kind(&parts[1])]);

@@ -14,7 +14,7 @@ pub struct Progress {
     waits: bool,
     total: usize,
     done: usize,
-    told: Instant,
+    printed: Instant,
     begun: Instant,
 }
 
@@ -33,7 +33,7 @@ impl Progress {
     }
     fn shown(bar: ProgressBar, what: &'static str, waits: bool) -> Progress {
         // The two last columns are left to the terminal's ^C.
-        let template = format!("{{wide_bar}} {{human_pos}}/{{human_len}} {}, {{rate}} a second, {{eta}} left  ", what);
+        let template = format!("{{wide_bar}} {{human_pos}}/{{human_len}} {}, {{rate}} per second, {{eta}} left  ", what);
         if let Ok(style) = ProgressStyle::with_template(&template) {
             let rate = |state: &ProgressState, out: &mut dyn fmt::Write| {
                 let _ = write!(out, "{:.0}", state.per_sec());
@@ -41,7 +41,7 @@ impl Progress {
             bar.set_style(style.with_key("rate", rate));
         }
         let total = bar.length().unwrap_or(0) as usize;
-        Progress { bar, what, waits, total, done: 0, told: Instant::now(), begun: Instant::now() }
+        Progress { bar, what, waits, total, done: 0, printed: Instant::now(), begun: Instant::now() }
     }
     pub fn add(&mut self, chunks: usize) {
         self.done += chunks;
@@ -50,8 +50,8 @@ impl Progress {
             self.bar.set_draw_target(ProgressDrawTarget::stderr());
         }
         self.bar.inc(chunks as u64);
-        if self.bar.is_hidden() && self.told.elapsed() >= PLAIN_EVERY {
-            self.told = Instant::now();
+        if self.bar.is_hidden() && self.printed.elapsed() >= PLAIN_EVERY {
+            self.printed = Instant::now();
             tell!("{}", plain(self.done, self.total, self.what, self.begun.elapsed()));
         }
     }
@@ -64,7 +64,7 @@ impl Progress {
 fn plain(done: usize, total: usize, what: &str, taken: Duration) -> String {
     let rate = done as f64 / taken.as_secs_f64();
     let left = (total - done) as f64 / rate;
-    format!("{} of {} {}, {:.0} a second, {:.0} s left", grouped(done), grouped(total), what, rate, left)
+    format!("{} of {} {}, {:.0} per second, {:.0} s left", grouped(done), grouped(total), what, rate, left)
 }
 
 #[cfg(test)]
@@ -73,8 +73,8 @@ mod tests {
 
     #[test]
     fn a_line_says_rate_and_time_left() {
-        assert_eq!(plain(640, 16_384, "chunks", Duration::from_secs(5)), "640 of 16,384 chunks, 128 a second, 123 s left");
-        assert_eq!(plain(64, 64, "chunks", Duration::from_millis(500)), "64 of 64 chunks, 128 a second, 0 s left");
+        assert_eq!(plain(640, 16_384, "chunks", Duration::from_secs(5)), "640 of 16,384 chunks, 128 per second, 123 s left");
+        assert_eq!(plain(64, 64, "chunks", Duration::from_millis(500)), "64 of 64 chunks, 128 per second, 0 s left");
     }
     #[test]
     fn what_is_added_counts_to_the_end() {

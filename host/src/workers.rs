@@ -157,12 +157,12 @@ mod tests {
     use crate::testing::small;
     use proptest::prelude::*;
 
-    fn runs() -> impl Strategy<Value = (Vec<u64>, usize, Option<usize>)> {
+    fn lists() -> impl Strategy<Value = (Vec<u64>, usize, Option<usize>)> {
         (Just((0..5u64).collect::<Vec<_>>()).prop_shuffle(), 1usize..7, prop_oneof![Just(None), (1usize..4).prop_map(Some)])
     }
 
     #[test]
-    fn a_run_ends_where_a_chunk_does_not_follow_the_one_before() {
+    fn a_run_ends_where_a_chunk_does_not_follow_the_one_before_it() {
         assert_eq!(first_run(&[7]), 7..8);
         assert_eq!(first_run(&[3, 4, 5, 7, 8]), 3..6);
         assert_eq!(first_run(&[5, 4, 3]), 5..6);
@@ -171,7 +171,7 @@ mod tests {
     proptest! {
         #![proptest_config(ProptestConfig::with_cases(64))]
         #[test]
-        fn lines_come_in_the_order_of_the_list_whatever_the_threads((order, jobs, most) in runs(), count in 0usize..=5) {
+        fn lines_are_handed_over_in_the_order_of_the_list_for_any_number_of_threads((order, jobs, most) in lists(), count in 0usize..=5) {
             let plan = small();
             let workers = Workers { jobs: NonZeroUsize::new(jobs).unwrap(), most: most.and_then(NonZeroUsize::new) };
             let (mut chunks, mut lines) = (Vec::new(), Vec::new());
@@ -193,7 +193,14 @@ mod tests {
         }
     }
     #[test]
-    fn a_fault_ends_the_work() {
+    fn ranges_are_as_long_as_was_measured_and_towards_the_end_shorter() {
+        assert_eq!([next_length(256, 100_000, 2), next_length(256, 100_000, 5)], [256, 256]);
+        // Shared among the threads, and no shorter than a quarter.
+        assert_eq!([next_length(4096, 5000, 2), next_length(4096, 5000, 1), next_length(4096, 5000, 100)], [2500, 4096, 1024]);
+        assert_eq!([next_length(256, 3, 2), next_length(1, 3, 5), next_length(2, 1, 1)], [3, 1, 1]);
+    }
+    #[test]
+    fn a_fault_of_the_caller_ends_the_work() {
         let workers = Workers { jobs: NonZeroUsize::new(3).unwrap(), most: NonZeroUsize::new(1) };
         let mut taken = 0;
         let done = workers.work(
@@ -212,7 +219,7 @@ mod tests {
         assert_eq!((done.unwrap_err().to_string(), taken), ("no".into(), 2));
     }
     #[test]
-    fn a_stop_is_asked_before_each_run() {
+    fn a_stop_is_asked_for_before_each_range_and_begun_ranges_are_handed_over() {
         let workers = Workers { jobs: NonZeroUsize::MIN, most: NonZeroUsize::new(2) };
         let (asked, mut taken) = (std::sync::atomic::AtomicUsize::new(0), Vec::new());
         let stop = || asked.fetch_add(1, std::sync::atomic::Ordering::Relaxed) == 1;
