@@ -1,5 +1,5 @@
-//! The digest that stands beside a journal. Targets, positions, the tolerances after the first and a table's rolls are not in its header, so an
-//! edited file of equal size would resume into wrong windows: J.plan has a digest of every number of the plan, and tells which file changed.
+//! The digest that stands beside a journal. Targets, positions, the tolerances after the first and a table's rolls are not in its header: J.plan has a
+//! digest of every number of the plan, and shows which file was edited since. It knows the files that a journal was begun with, not its lines.
 use crate::{
     explain,
     fault::Fault,
@@ -18,8 +18,8 @@ use std::{
 
 /// The first line: this and the version.
 pub const TITLE: &str = "wilfnusk plan ";
-/// The version that is written. An older one says that the lines rest on rolls that were not yet folded: it is known as a digest, and speaks
-/// for no line.
+/// The version that is written. An older one shows that the lines rest on rolls that were not yet folded: it is known as a digest, and refused
+/// beside lines.
 const VERSION: u64 = 3;
 const PARTS: [&str; 3] = ["settings", "targets", "ephemeris"];
 
@@ -49,20 +49,24 @@ impl Digest {
         let lines = (0..3).map(|i| format!("{} {} {}\n", PARTS[i], self.digests[i], self.files[i]));
         format!("{}{}\n{}", TITLE, self.version, lines.collect::<String>())
     }
-    /// The digest beside a journal, if there is one. `rests`: lines rest on it, so that without it they would have to be worked out again.
-    fn beside(journal: &Path, rests: bool) -> Result<Option<Digest>, Fault> {
+    /// The digest beside a journal, if there is one. `lines_of`: the plan of the journal's lines, if it has some; without the digest they would have
+    /// to be worked out again, and the message on a file that cannot be read says how.
+    fn beside(journal: &Path, lines_of: Option<&Plan>) -> Result<Option<Digest>, Fault> {
         let path = Digest::path(journal);
-        match opened(&path) {
-            Ok(file) => Digest::parse(&Source::of(&path, read(&path, &file)?)?, rests).map(Some),
-            Err(e) if e.kind() == io::ErrorKind::NotFound => Ok(None),
-            Err(e) => Err(files::fault(&path, &e)),
-        }
+        let bytes = match opened(&path) {
+            Ok(file) => read(&path, &file)?,
+            Err(e) if e.kind() == io::ErrorKind::NotFound => return Ok(None),
+            Err(e) => return Err(files::fault(&path, &e)),
+        };
+        let again = lines_of.map_or(String::new(), |plan| format!(" and {}", worked_out_again(plan, journal)));
+        // Bytes that are no text are no digest either.
+        let source = Source::of(&path, bytes).or_else(|_| Source::of(&path, Vec::new()))?;
+        Digest::parse(&source, &again).map(Some)
     }
-    fn parse(source: &Source, rests: bool) -> Result<Digest, Fault> {
+    fn parse(source: &Source, again: &str) -> Result<Digest, Fault> {
         let mut lines = source.text.lines();
         let version = lines.next().and_then(version).unwrap_or(0);
         if version > VERSION {
-            let again = if rests { " and work every line out again with check --recompute --write-digest" } else { "" };
             return Err(source.fault(
                 0,
                 format!("a digest of version {}, which a newer wilfnusk wrote and this one cannot read", version),
@@ -82,7 +86,7 @@ impl Digest {
         if good && lines.next().is_none() {
             Ok(digest)
         } else {
-            Err(source.fault(0, "no digest of a plan", "what `wilfnusk sweep` writes; without the file the check is left out"))
+            Err(source.fault(0, "no digest of a plan", &format!("what `wilfnusk sweep` writes. Move the file away{}", again)))
         }
     }
     /// The files of this one whose numbers are not the other's.
@@ -91,15 +95,15 @@ impl Digest {
     }
     /// Writes it beside a journal, whole or not at all. Only a digest is overwritten: another file of that name is a fault.
     pub fn write(&self, journal: &Path) -> Result<(), Fault> {
-        match Digest::beside(journal, false)? {
+        match Digest::beside(journal, None)? {
             Some(there) if there == *self => Ok(()),
             _ => write_whole(&Digest::path(journal), self.text().as_bytes()),
         }
     }
-    /// Takes away the digest of a journal that is gone, which would speak for lines that it does not know. Whether there was one.
+    /// Removes the digest of a journal that is gone, which would vouch for lines that it does not know. Whether there was one.
     pub fn remove(journal: &Path) -> Result<bool, Fault> {
         let path = Digest::path(journal);
-        match Digest::beside(journal, false)? {
+        match Digest::beside(journal, None)? {
             None => Ok(false),
             Some(_) => {
                 let removed = fs::remove_file(&path).and_then(|()| sync_folder(&path));
@@ -120,9 +124,9 @@ fn one_line(name: &str) -> String {
     name.chars().map(|c| if c.is_control() { c.escape_default().to_string() } else { c.to_string() }).collect()
 }
 
-/// Holds the plan against the digest beside a journal that has lines. Whether there is one.
+/// Compares the plan with the digest beside a journal that has lines. Whether there is one; one of another plan is refused.
 pub fn is_known(plan: &Plan, journal: &Path) -> Result<bool, Fault> {
-    let then = match Digest::beside(journal, true)? {
+    let then = match Digest::beside(journal, Some(plan))? {
         Some(then) => then,
         None => return Ok(false),
     };
@@ -149,41 +153,44 @@ pub fn is_known(plan: &Plan, journal: &Path) -> Result<bool, Fault> {
     )))
 }
 
-/// What is said of lines beside a digest of an older version.
+/// The refusal of lines beside a digest of an older version.
 fn unfolded(version: u64, plan: &Plan, journal: &Path) -> Fault {
     Fault::Files(format!(
         "{1}, line 1, column 1: a digest of version {2}; allowed: version {3}. The lines of {0} were worked out by an earlier wilfnusk (before 0.3.0), \
          whose optimal rolls were not yet folded into 0 to 360, so some lines might come out differently now; nothing was changed\n  \
          to work all out again: sweep into another journal with --journal, or move {0} and {1} away and sweep\n  \
-         to keep the lines: move {1} away and work every line out again with `{4} --recompute --write-digest`, which writes a new digest if \
-         every line is the same",
+         to keep the lines: move {1} away and {4}",
         shown(journal),
         shown(&Digest::path(journal)),
         version,
         VERSION,
-        explain::command("check", plan, journal)
+        worked_out_again(plan, journal)
     ))
 }
 
-/// As `is_known`, and says on standard error if there is none.
-pub fn same_plan(plan: &Plan, journal: &Path) -> Result<bool, Fault> {
-    let known = is_known(plan, journal)?;
-    if !known {
-        tell!(
-            "warning: {} is missing: nothing tells whether {} was made from these targets, positions, tolerances and rolls. To work every line out again: {} --recompute",
-            shown(&Digest::path(journal)),
-            shown(journal),
-            explain::command("check", plan, journal)
-        );
-    }
-    Ok(known)
+/// What puts a new digest into the place of one that was moved away.
+fn worked_out_again(plan: &Plan, journal: &Path) -> String {
+    format!(
+        "work every line out again with `{} --recompute --write-digest`, which writes a new digest if every line is the same",
+        explain::command("check", plan, journal)
+    )
+}
+
+/// Warns on standard error that lines which were not worked out again have no digest beside them.
+pub fn warn_missing(plan: &Plan, journal: &Path) {
+    tell!(
+        "warning: {} is missing: nothing shows whether {} was made from these targets, positions, tolerances and rolls. To work every line out again: {} --recompute",
+        shown(&Digest::path(journal)),
+        shown(journal),
+        explain::command("check", plan, journal)
+    );
 }
 
 /// The settings' digest: n, whether a roll is configured, that roll or 0; then lists, each after the count of its numbers: tolerances, panels
-/// (three numbers each), rolls. Even steps are said by n alone, and their list of rolls is empty. It stands last, so that a table of rolls
+/// (three numbers each), rolls. Even steps are given by n alone, and their list of rolls is empty. It stands last, so that a table of rolls
 /// moves nothing before it.
 ///
-/// The tolerances are one number where it is the same for all targets, so that it does not matter how the files tell it, else one a target;
+/// The tolerances are one number where it is the same for all targets, so that it does not matter how the files give it, else one per target;
 /// without targets +0, as the header has it.
 fn settings(plan: &Plan) -> String {
     let (n, is_configured, roll) = (plan.rolls.count(), plan.configured_roll.is_some() as u64, bits(&plan.configured_roll.unwrap_or(0.0)));
@@ -242,9 +249,9 @@ mod tests {
         OLD[1].replace("plan 2\n", "plan 3\n")
     }
 
-    /// The settings as bytes put together by another program: 1, 0, 0; 1, 10.0; 3, 0.0, 1.0, 0.0; 0. However one tolerance is told.
+    /// The settings as bytes put together by another program: 1, 0, 0; 1, 10.0; 3, 0.0, 1.0, 0.0; 0.
     #[test]
-    fn what_is_written() {
+    fn one_tolerance_is_hashed_alike_however_it_is_given() {
         let without = TOML.replace("tolerance = 10\n", "");
         let column = TARGETS.replace("z\n", "z,tolerance\n").replace("0\n", "0,10\n");
         for (toml, targets) in [(TOML, TARGETS), (&(without.clone() + "tolerance = [10, 1e1]\n"), TARGETS), (&without, &column)] {
@@ -252,7 +259,7 @@ mod tests {
         }
     }
     #[test]
-    fn an_older_digest_speaks_for_no_line() {
+    fn an_older_digest_is_refused_beside_lines() {
         let folder = tempfile::tempdir().unwrap();
         let journal = folder.path().join("j");
         let path = Digest::path(&journal);
@@ -261,13 +268,12 @@ mod tests {
             // Whether the plan changed since or not.
             for toml in [TOML.to_owned(), TOML.replace("10", "11")] {
                 let plan = plan(&toml, TARGETS, EPHEMERIS).unwrap();
-                for fault in [is_known(&plan, &journal).unwrap_err(), same_plan(&plan, &journal).unwrap_err()] {
-                    let says = format!("j.plan, line 1, column 1: a digest of version {}; allowed: version 3. ", &old[14..15]);
-                    assert!(fault.status() == 3 && fault.to_string().contains(&says), "{}", fault);
-                }
+                let fault = is_known(&plan, &journal).unwrap_err();
+                let says = format!("j.plan, line 1, column 1: a digest of version {}; allowed: version 3. ", &old[14..15]);
+                assert!(fault.status() == 3 && fault.to_string().contains(&says), "{}", fault);
             }
             assert_eq!(fs::read_to_string(&path).unwrap(), old);
-            // Without lines it is a digest like any other: it makes way, and may be taken away.
+            // Without lines it is a digest like any other: it is replaced, and may be removed.
             digest(TOML, TARGETS, EPHEMERIS).write(&journal).unwrap();
             assert_eq!(fs::read_to_string(&path).unwrap(), new());
             assert!(is_known(&plan(TOML, TARGETS, EPHEMERIS).unwrap(), &journal).unwrap());
@@ -276,7 +282,7 @@ mod tests {
         }
     }
     #[test]
-    fn another_version_is_told() {
+    fn a_newer_version_and_another_title_are_refused() {
         let folder = tempfile::tempdir().unwrap();
         let journal = folder.path().join("j");
         let path = Digest::path(&journal);
@@ -292,12 +298,12 @@ mod tests {
         for title in ["wilfnusk plan", "wilfnusk plan ", "wilfnusk plan 03", "wilfnusk plan +3", "wilfnusk plan 3 ", "wilfnusk plan three"]
         {
             fs::write(&path, new().replace("wilfnusk plan 3", title)).unwrap();
-            assert!(Digest::beside(&journal, true).unwrap_err().to_string().contains("no digest of a plan"), "{}", title);
+            assert!(Digest::beside(&journal, None).unwrap_err().to_string().contains("no digest of a plan"), "{}", title);
         }
     }
     /// As a program of version 2 hashed it, too.
     #[test]
-    fn every_nan_is_one() {
+    fn every_nan_is_hashed_alike() {
         let without = TOML.replace("tolerance = 10\n", "");
         let column = TARGETS.replace("z\n", "z,tolerance\n").replace("A,1,0,0", "A,1,0,0,nan").replace("B,0,1,0", "B,0,1,0,-NaN");
         for (toml, targets) in
@@ -307,7 +313,7 @@ mod tests {
             assert_eq!(settings(&plan), "a1358abd4afafe6cf76725ec2d67b15dbe9196f02854e5337e083c9fb038c20d", "{}", toml);
         }
     }
-    /// What is said of a plan beside the digest of another, of which the settings alone are others.
+    /// The fault of a plan beside the digest of another, which differs in the settings alone.
     fn fault_after(then: &Plan, now: &Plan) -> String {
         let folder = tempfile::tempdir().unwrap();
         let journal = folder.path().join("j");
@@ -318,8 +324,8 @@ mod tests {
         assert_eq!(fault.status(), 3);
         fault.to_string()
     }
-    /// The second of each pair is told from the first.
-    fn told_apart(read: impl Fn(&str) -> Plan, pairs: &[(&str, &str)]) {
+    /// The second of each pair has another digest than the first.
+    fn hashed_apart(read: impl Fn(&str) -> Plan, pairs: &[(&str, &str)]) {
         for (then, now) in pairs {
             let fault = fault_after(&read(then), &read(now));
             assert!(fault.starts_with("`rolls` or `tolerance` in plan.toml: its numbers are not those"), "{}", fault);
@@ -331,7 +337,7 @@ mod tests {
         let read = |tolerance: &str| plan(&TOML.replace("10", tolerance), TARGETS, EPHEMERIS).unwrap();
         // 1, 0, 0; 2, 10.0, NaN; 3, 0.0, 1.0, 0.0; 0.
         assert_eq!(settings(&read("[10, nan]")), "e934991011da3d711366f3316cc99451ea276b79f88bee9dfbcc46e5ee9636d0");
-        told_apart(
+        hashed_apart(
             read,
             &[
                 ("10", "[10, 11]"),
@@ -354,8 +360,8 @@ mod tests {
         // The same numbers in other words.
         assert_eq!(settings(&read("[\n  0.0, # first\n  1.55e1,\n]")), settings(&read("[0, 15.5]")));
         // The even steps as a table are the same rolls, and another record of them.
-        told_apart(read, &[("[0, 180]", "2"), ("2", "[0, 180]")]);
-        told_apart(read, &[("[0, 15.5]", "[0, 15.500000000000002]"), ("[0, 15.5]", "[1, 15.5]"), ("[0, 15.5]", "[-0.0, 15.5]")]);
+        hashed_apart(read, &[("[0, 180]", "2"), ("2", "[0, 180]")]);
+        hashed_apart(read, &[("[0, 15.5]", "[0, 15.500000000000002]"), ("[0, 15.5]", "[1, 15.5]"), ("[0, 15.5]", "[-0.0, 15.5]")]);
     }
     /// Of one target or none the header has the tolerance, so it can only be the rolls.
     #[test]
@@ -416,29 +422,29 @@ mod tests {
         }
     }
     #[test]
-    fn written_and_read_again() {
+    fn a_digest_that_was_written_is_read_again() {
         let folder = tempfile::tempdir().unwrap();
         let journal = folder.path().join("j");
-        assert_eq!(Digest::beside(&journal, true).unwrap(), None);
+        assert_eq!(Digest::beside(&journal, None).unwrap(), None);
         let d = digest(TOML, TARGETS, EPHEMERIS);
         d.write(&journal).unwrap();
-        assert_eq!(Digest::beside(&journal, true).unwrap(), Some(d));
+        assert_eq!(Digest::beside(&journal, None).unwrap(), Some(d));
         let path = Digest::path(&journal);
         let text = fs::read_to_string(&path).unwrap();
         for cut in 0..text.len() - TARGETS.len() {
             fs::write(&path, &text[..cut]).unwrap();
-            assert!(Digest::beside(&journal, true).is_err());
+            assert!(Digest::beside(&journal, None).is_err());
         }
     }
     #[test]
-    fn four_lines_and_no_more() {
+    fn a_digest_has_four_lines_and_no_more() {
         let folder = tempfile::tempdir().unwrap();
         let journal = folder.path().join("j");
         let d = digest(TOML, TARGETS, EPHEMERIS);
         let text = d.text();
         for same in [text.clone(), text.replace('\n', "\r\n"), text.trim_end().to_owned()] {
             fs::write(Digest::path(&journal), same).unwrap();
-            assert_eq!(Digest::beside(&journal, true).unwrap(), Some(d.clone()));
+            assert_eq!(Digest::beside(&journal, None).unwrap(), Some(d.clone()));
         }
         let nameless = PARTS.map(|part| {
             let at = text.find(part).unwrap() + part.len() + 66;
@@ -447,8 +453,8 @@ mod tests {
         let more = ["\n", "\r\n", " ", "x", "settings", &text].map(|more| text.clone() + more);
         for other in nameless.iter().chain(&more) {
             fs::write(Digest::path(&journal), other).unwrap();
-            let said = Digest::beside(&journal, true).map_err(|e| e.to_string());
-            assert!(matches!(&said, Err(e) if e.contains("no digest of a plan")), "{:?} of {}", said, other);
+            let read = Digest::beside(&journal, None).map_err(|e| e.to_string());
+            assert!(matches!(&read, Err(e) if e.contains("no digest of a plan")), "{:?} of {}", read, other);
         }
     }
     #[test]
@@ -458,7 +464,7 @@ mod tests {
         let mut d = digest(TOML, TARGETS, EPHEMERIS);
         d.files = ["a\nb", " c\r", "\u{85}\té"].map(one_line);
         d.write(&journal).unwrap();
-        assert_eq!(Digest::beside(&journal, true).unwrap(), Some(d));
+        assert_eq!(Digest::beside(&journal, None).unwrap(), Some(d));
         assert_eq!(fs::read_to_string(Digest::path(&journal)).unwrap().lines().count(), 4);
     }
     #[test]
@@ -468,7 +474,7 @@ mod tests {
         let (d, other) = (digest(TOML, TARGETS, EPHEMERIS), digest(&TOML.replace("10", "11"), TARGETS, EPHEMERIS));
         other.write(&journal).unwrap();
         d.write(&journal).unwrap();
-        assert_eq!(Digest::beside(&journal, true).unwrap(), Some(d.clone()));
+        assert_eq!(Digest::beside(&journal, None).unwrap(), Some(d.clone()));
         assert!(Digest::remove(&journal).unwrap() && !Digest::remove(&journal).unwrap());
         let path = Digest::path(&journal);
         fs::write(&path, TOML).unwrap();

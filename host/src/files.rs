@@ -114,7 +114,7 @@ pub fn write_whole(path: &Path, bytes: &[u8]) -> Result<(), Fault> {
     });
     done.map_err(|e| fault(path, &e))?;
     if stop::is_due() {
-        return Err(Fault::Stopped(format!("stopped after {} was written", path.display())));
+        return Err(Fault::Stopped(format!("stopped after {} was written", shown(path))));
     }
     Ok(())
 }

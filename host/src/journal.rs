@@ -32,7 +32,7 @@ impl Journal {
     /// Opens the plan's journal, or makes an empty one, locks it and reads it.
     pub fn open(path: &Path, wait: bool) -> Result<Journal, Fault> {
         let file = locked(path, wait)?;
-        // What a killed process left may never have been synced: it lasts before a line follows it or a window is listed from it.
+        // What a killed process left may never have been synced: it is, before a line follows it or a window is listed from it.
         file.sync_all().and_then(|()| sync_name(path)).map_err(|e| fault(path, &e))?;
         Ok(Journal { path: path.to_owned(), bytes: read(path, &file)?, file })
     }
@@ -106,7 +106,7 @@ fn sync_name(path: &Path) -> io::Result<()> {
 /// Opens the file for this process alone, and makes an empty one if there is none.
 fn locked(path: &Path, wait: bool) -> Result<File, Fault> {
     let asked = Instant::now();
-    let mut told = false;
+    let mut reported = false;
     loop {
         if path.is_dir() {
             return Err(Fault::Files(format!("{}: this is a folder; allowed: a journal's file", shown(path))));
@@ -129,8 +129,8 @@ fn locked(path: &Path, wait: bool) -> Result<File, Fault> {
                         shown(path)
                     )));
                 }
-                if wait && !told && asked.elapsed() > Duration::from_secs(1) {
-                    told = true;
+                if wait && !reported && asked.elapsed() > Duration::from_secs(1) {
+                    reported = true;
                     tell!("waiting: another process sweeps into {}", shown(path));
                 }
             }
@@ -153,7 +153,7 @@ pub fn opened(path: &Path) -> io::Result<File> {
     OpenOptions::new().read(true).custom_flags(libc::O_NONBLOCK).open(path)
 }
 
-/// Refuses what is no plain file, and so cannot keep what is written.
+/// Refuses what is no plain file and so cannot keep what is written.
 fn plain(path: &Path, file: &File) -> Result<Metadata, Fault> {
     let about = file.metadata().map_err(|e| fault(path, &e))?;
     let kind = about.file_type();
@@ -167,7 +167,7 @@ fn plain(path: &Path, file: &File) -> Result<Metadata, Fault> {
     Err(Fault::Files(format!("{}: this is {}; allowed: a plain file", shown(path), what)))
 }
 
-/// The bytes of a journal, or of what stands beside it.
+/// The bytes of a journal or of its digest.
 pub fn read(path: &Path, mut file: &File) -> Result<Vec<u8>, Fault> {
     let about = plain(path, file)?;
     if about.len() > MOST {

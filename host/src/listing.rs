@@ -7,6 +7,7 @@ use crate::{
     selection::Selected,
     text::{counted, grouped, number, printable},
     tolerance,
+    verify::Evidence,
 };
 use serde::{Serialize, Serializer};
 use std::{
@@ -119,6 +120,8 @@ pub struct Listing<'a> {
     pub probes: Option<u64>,
     /// Whether each target is shown with its tolerance, as one does not hold for all.
     pub has_tolerances: bool,
+    /// What is known of the journal's lines; none if no journal was read.
+    pub evidence: Option<Evidence>,
 }
 
 /// The target whose windows were refused, and why.
@@ -126,10 +129,11 @@ pub type RowRefusal = (usize, Refusal);
 
 impl<'a> Listing<'a> {
     /// The windows of a sweep's mask. Their severities are zero.
-    pub fn of_mask(plan: &'a Plan, selected: Selected, mask: &[u8], probes: u64) -> Result<Listing<'a>, RowRefusal> {
+    pub fn of_mask(plan: &'a Plan, selected: Selected, mask: &[u8], probes: u64, evidence: Evidence) -> Result<Listing<'a>, RowRefusal> {
         let times = plan.times.len();
         let severities = vec![0.0; times];
-        Listing::of(plan, selected, Some(probes), |range, i| Row::of(plan, range, i, &mask[i * times..(i + 1) * times], &severities))
+        let row = |range: &Range, i: usize| Row::of(plan, range, i, &mask[i * times..(i + 1) * times], &severities);
+        Ok(Listing { evidence: Some(evidence), ..Listing::of(plan, selected, Some(probes), row)? })
     }
     /// The windows and severities at the configured roll.
     pub fn of_configured_roll(plan: &'a Plan, selected: Selected) -> Result<Listing<'a>, RowRefusal> {
@@ -149,7 +153,11 @@ impl<'a> Listing<'a> {
         let rows = rows.collect::<Result<Vec<_>, _>>()?;
         let all = Totals::of_all(rows.iter().map(|row| &row.totals));
         let has_tolerances = tolerance::common(&plan.tolerances).is_none();
-        Ok(Listing { plan, selected, rows, all, probes, has_tolerances })
+        Ok(Listing { plan, selected, rows, all, probes, has_tolerances, evidence: None })
+    }
+    /// That the journal's lines were not worked out again, if it is so here.
+    pub fn unverified(&self) -> Option<&'static str> {
+        self.evidence.filter(|evidence| !evidence.verified).map(|_| Evidence::UNVERIFIED)
     }
     pub fn has_severities(&self) -> bool {
         self.probes.is_none()
@@ -185,6 +193,9 @@ impl<'a> Listing<'a> {
     pub fn table(&self, mut out: impl Write) -> io::Result<()> {
         if self.plan.names.is_empty() {
             return writeln!(out, "no targets");
+        }
+        if let Some(note) = self.unverified() {
+            writeln!(out, "{}", note)?;
         }
         if let Some(part) = self.part() {
             wrapped(&mut out, &format!("part of the plan: {}", part))?;
@@ -280,6 +291,8 @@ impl<'a> Listing<'a> {
             first_time: p.times.first().copied().map(time),
             last_time: p.times.last().copied().map(time),
             probes: self.probes,
+            verified: self.evidence.map(|evidence| evidence.verified),
+            origin_known: self.evidence.map(|evidence| evidence.origin_known),
             part: if self.selected.is_whole() {
                 None
             } else {
@@ -571,6 +584,8 @@ struct Json<'a> {
     first_time: Option<String>,
     last_time: Option<String>,
     probes: Option<u64>,
+    verified: Option<bool>,
+    origin_known: Option<bool>,
     part: Option<JsonPart>,
     totals: &'a Totals,
     targets: Vec<JsonRow<'a>>,
@@ -626,6 +641,8 @@ mod tests {
     use crate::testing::plan;
     use proptest::prelude::*;
 
+    const VERIFIED: Evidence = Evidence { verified: true, origin_known: true };
+
     /// A plan of one target, and of a time every half second.
     fn half_seconds(samples: usize) -> Plan {
         let time = |j: usize| format!("2026-03-20T00:{:02}:{:02}.{}Z,0,1,0,0,0,0\n", j / 120, j / 2 % 60, j % 2 * 5);
@@ -650,7 +667,7 @@ mod tests {
         let p = half_seconds(300);
         let mask: Vec<u8> = (0..300).map(|j| u8::from(j % 7 < 3)).collect();
         let mut table = Vec::new();
-        Listing::of_mask(&p, whole(), &mask, 1).unwrap().table(&mut table).unwrap();
+        Listing::of_mask(&p, whole(), &mask, 1, VERIFIED).unwrap().table(&mut table).unwrap();
         for line in String::from_utf8(table).unwrap().lines() {
             assert!(line.len() <= 80, "{}", line);
         }
@@ -670,7 +687,7 @@ mod tests {
         #[test]
         fn every_sample_is_accounted_for(mask in prop::collection::vec(0u8..2, 1..200), a in 0usize..200, b in 0usize..200) {
             let p = half_seconds(mask.len());
-            let all = Listing::of_mask(&p, whole(), &mask, 7).unwrap();
+            let all = Listing::of_mask(&p, whole(), &mask, 7, VERIFIED).unwrap();
             let row = &all.rows[0];
             for (j, &mark) in mask.iter().enumerate() {
                 prop_assert_eq!(inside(row, Kind::Violated, j), usize::from(mark));
@@ -690,7 +707,7 @@ mod tests {
 
             let (from, to) = (a.min(b).min(mask.len() - 1), a.max(b).min(mask.len() - 1));
             let part = Selected { from: Some(p.times[from]), to: Some(p.times[to]), ..whole() };
-            let part = Listing::of_mask(&p, part, &mask, 7).unwrap();
+            let part = Listing::of_mask(&p, part, &mask, 7, VERIFIED).unwrap();
             let met = |l: &&Listed| l.window.last >= from as u64 && l.window.first <= to as u64;
             let windows = |list: Vec<&Listed>| list.iter().map(|l| (l.kind, l.window)).collect::<Vec<_>>();
             prop_assert_eq!(windows(part.rows[0].windows.iter().collect()), windows(row.windows.iter().filter(met).collect()));
@@ -704,7 +721,7 @@ mod tests {
         fn consecutive_ranges_add_up(mask in prop::collection::vec(0u8..2, 1..120), cut in 0i64..70_000_000_000, gap in 0i64..2) {
             let p = half_seconds(mask.len());
             let (from, to) = (p.times[0], p.times[0] + cut);
-            let of = |from, to| Listing::of_mask(&p, Selected { from, to, ..whole() }, &mask, 7).unwrap().all;
+            let of = |from, to| Listing::of_mask(&p, Selected { from, to, ..whole() }, &mask, 7, VERIFIED).unwrap().all;
             let (all, parts) = (of(None, None), [of(Some(from), Some(to)), of(Some(to + gap), None)]);
             for kind in [|totals: &Totals| totals.visible.clone(), |totals: &Totals| totals.violated.clone()] {
                 let (whole, [a, b]) = (kind(&all), [kind(&parts[0]), kind(&parts[1])]);

@@ -1,6 +1,6 @@
 //! The commands that only look: windows, status, mask, regard. They take no lock and change no file.
 use crate::{
-    digest::same_plan,
+    digest::{is_known, warn_missing},
     engine::{self, Regarded, Roll, HEADER_BYTES},
     explain,
     fault::{csv_error, Fault},
@@ -17,6 +17,7 @@ use crate::{
     text::{all_ranges, counted, grouped, number, printable, ranges},
     tolerance,
     tried::Rolls,
+    verify::{Evidence, Trust},
     Files,
 };
 use clap::{Args, ValueEnum};
@@ -33,6 +34,8 @@ pub struct Windows {
     /// List the windows and severities at the configured roll; needs no journal
     #[arg(long)]
     evaluate: bool,
+    #[command(flatten)]
+    trust: Trust,
     #[command(flatten)]
     selection: Selection,
     #[command(flatten)]
@@ -52,14 +55,14 @@ impl Windows {
             let listing = Listing::of_configured_roll(&plan, selected).map_err(|(i, r)| explain::row(&plan, i, r))?;
             return self.outputs.write(&listing);
         }
-        let (mask, probes) = swept(&plan, &path)?;
-        let listing = Listing::of_mask(&plan, selected, &mask, probes).map_err(|(i, r)| explain::row(&plan, i, r))?;
+        let (mask, probes, evidence) = swept(&plan, &path, &self.trust)?;
+        let listing = Listing::of_mask(&plan, selected, &mask, probes, evidence).map_err(|(i, r)| explain::row(&plan, i, r))?;
         self.outputs.write(&listing)
     }
 }
 
-/// The mask and the probes of the plan's journal, once every chunk has a line.
-fn swept(plan: &Plan, path: &Path) -> Result<(Vec<u8>, u64), Fault> {
+/// The mask and the probes of the plan's journal, once every chunk has a line and each line was worked out again or is trusted.
+fn swept(plan: &Plan, path: &Path, trust: &Trust) -> Result<(Vec<u8>, u64, Evidence), Fault> {
     if !path.exists() {
         return Err(Fault::Unfinished(format!(
             "{}: there is no such journal; `{}` makes one",
@@ -69,12 +72,11 @@ fn swept(plan: &Plan, path: &Path) -> Result<(Vec<u8>, u64), Fault> {
     }
     let bytes = look(path)?;
     let keep = engine::recover(plan, &bytes).map_err(|r| explain::journal(plan, path, &bytes, r))?;
-    if keep > HEADER_BYTES as usize {
-        same_plan(plan, path)?;
-    }
+    let origin_known = keep <= HEADER_BYTES as usize || is_known(plan, path)?;
     // An empty journal is one that lacks its lines, like any other unfinished one.
     let bytes = if keep == 0 { engine::header(plan).map_err(|r| explain::plan(plan, r))? } else { bytes[..keep].to_vec() };
-    engine::collect(plan, &bytes).map_err(|r| explain::journal(plan, path, &bytes, r))
+    let (mask, probes) = engine::collect(plan, &bytes).map_err(|r| explain::journal(plan, path, &bytes, r))?;
+    Ok((mask, probes, trust.evidence(plan, path, &bytes, origin_known)?))
 }
 
 #[derive(Args)]
@@ -86,7 +88,7 @@ pub struct Status {
     json: bool,
 }
 
-/// How far a sweep is, as JSON has it.
+/// How far a sweep is: the keys of the JSON output.
 #[derive(Serialize)]
 struct State {
     plan: String,
@@ -113,7 +115,7 @@ struct State {
     /// As --chunks takes them.
     missing: Vec<String>,
     finished: bool,
-    /// Whether J.plan tells what the lines were made from.
+    /// The J.plan beside the journal is this plan's, or there is no line. It says nothing about the lines themselves.
     origin_known: bool,
 }
 
@@ -150,21 +152,22 @@ impl Status {
         let has_lines = keep > HEADER_BYTES as usize;
         if self.json {
             // A program takes what it reads as true of these files.
-            if has_lines {
-                state.origin_known = same_plan(&plan, &path)?;
-            }
+            state.origin_known = !has_lines || is_known(&plan, &path)?;
             say_json(&state)?;
         } else {
             say(state.text(&about(&plan), &ranges(&has_line, false)))?;
-            if has_lines {
-                same_plan(&plan, &path)?;
-            }
+            state.origin_known = !has_lines || is_known(&plan, &path)?;
+        }
+        if !state.origin_known {
+            warn_missing(&plan, &path);
+        }
+        if !self.json {
             say(format_args!("next     {}", explain::command(if state.finished { "windows" } else { "sweep" }, &plan, &path)))?;
         }
         if state.finished {
             Ok(())
         } else {
-            // It is said already.
+            // It was printed already.
             Err(Fault::Unfinished(String::new()))
         }
     }
@@ -225,6 +228,8 @@ pub struct Mask {
     #[arg(long, value_enum, default_value_t = Form::Rows)]
     form: Form,
     #[command(flatten)]
+    trust: Trust,
+    #[command(flatten)]
     selection: Selection,
 }
 
@@ -253,7 +258,7 @@ impl Mask {
                 at(Roll::Sweep(roll))?
             }
             (None, Some(roll)) => at(Roll::Fixed(roll))?,
-            (None, None) => swept(&plan, &path)?.0,
+            (None, None) => swept(&plan, &path, &self.trust)?.0,
         };
         buffered(io::stdout().lock(), |out| self.form.print(&plan, &selected, &mask, out)).map_err(Fault::output)
     }
@@ -396,7 +401,7 @@ mod tests {
     }
 
     #[test]
-    fn a_status_in_words() {
+    fn a_status_in_words_has_what_applies() {
         assert_eq!(state(None, 0, false).text("about", "0..5"), "about\njournal  j: not begun");
         let begun = "about\njournal  j: 174 bytes\nchunks   2 of 5 have a line\nmissing  1, 3..5";
         assert_eq!(state(Some(174), 0, false).text("about", "1, 3..5"), begun);

@@ -36,6 +36,7 @@ mod sweep;
 mod testing;
 mod tolerance;
 mod tried;
+mod verify;
 mod workers;
 
 use clap::{Args, CommandFactory, Parser, Subcommand};

@@ -5,7 +5,7 @@ use crate::{
     source::{shown, Source},
     text::{excerpt, grouped},
 };
-use csv::{ErrorKind, Position, ReaderBuilder, StringRecord, Trim};
+use csv::{ErrorKind, Position, ReaderBuilder, StringRecord};
 use std::{io::Read, path::Path};
 
 /// As many rows as a plan may have targets or times.
@@ -29,9 +29,34 @@ pub struct Sheet {
     lookalikes: Vec<(usize, String, &'static str)>,
     /// The byte where the record starts that names the columns.
     header: usize,
-    /// The wanted columns of the first rows: one row more than is allowed, so that the library sees it and refuses.
-    records: Vec<StringRecord>,
+    /// The first rows: one more than is allowed, so that the library sees it and refuses.
+    kept: Kept,
     rows: usize,
+}
+
+/// The wanted columns of rows, in one text, as a list of texts per row takes most of the time that reading a large file does.
+#[derive(Debug, Default)]
+struct Kept {
+    text: String,
+    /// Where each field ends in the text, row after row.
+    ends: Vec<usize>,
+    /// For each row a byte of the file: its first one, or one of the line ends and comments before it.
+    starts: Vec<usize>,
+}
+
+impl Kept {
+    fn push(&mut self, record: &StringRecord, columns: &[usize], start: usize) {
+        for &column in columns {
+            self.text.push_str(record.get(column).unwrap_or("").trim());
+            self.ends.push(self.text.len());
+        }
+        self.starts.push(start);
+    }
+    /// The field with this number, counted over all rows.
+    fn field(&self, number: usize) -> &str {
+        let start = number.checked_sub(1).map_or(0, |before| self.ends[before]);
+        &self.text[start..self.ends[number]]
+    }
 }
 
 /// A field of a sheet: record and wanted column, both from 0.
@@ -60,24 +85,23 @@ impl Sheet {
         if !next(&mut record)? {
             return Err(source.fault(0, "the file is empty", &allowed(forms)));
         }
-        let header = start(&source, record.position());
+        record.trim();
+        let header = start(&source, byte_of(record.position()));
         let (form, names, columns) = find(&source, &record, forms, beside)?;
         let lookalikes = lookalikes(&record, forms, beside, &columns);
-        let (mut records, mut rows) = (Vec::new(), 0);
-        let mut last = record.position().cloned();
+        let (mut kept, mut rows) = (Kept::default(), 0);
+        let mut last = byte_of(record.position());
         while next(&mut record)? {
             rows += 1;
-            last = record.position().cloned();
+            last = byte_of(record.position());
             if rows <= MOST_ROWS + 1 {
-                let mut kept: StringRecord = columns.iter().map(|&c| record.get(c).unwrap_or("")).collect();
-                kept.set_position(last.clone());
-                records.push(kept);
+                kept.push(&record, &columns, last);
             }
         }
-        if let Some(fault) = open_quote(&source, start(&source, last.as_ref())) {
+        if let Some(fault) = open_quote(&source, start(&source, last)) {
             return Err(fault);
         }
-        Ok(Sheet { source, form, names, columns, lookalikes, header, records, rows })
+        Ok(Sheet { source, form, names, columns, lookalikes, header, kept, rows })
     }
     pub fn form(&self) -> Form {
         self.form
@@ -116,13 +140,13 @@ impl Sheet {
         Field { sheet: self, record, column }
     }
     pub fn fields(&self) -> impl Iterator<Item = Vec<Field<'_>>> {
-        (0..self.records.len()).map(move |r| (0..self.names.len()).map(|c| self.field(r, c)).collect())
+        (0..self.kept.starts.len()).map(move |r| (0..self.names.len()).map(|c| self.field(r, c)).collect())
     }
 }
 
 fn builder() -> ReaderBuilder {
     let mut builder = ReaderBuilder::new();
-    builder.has_headers(false).trim(Trim::All).comment(Some(b'#'));
+    builder.has_headers(false).comment(Some(b'#')).buffer_capacity(1 << 16);
     builder
 }
 
@@ -168,7 +192,7 @@ fn find(
     forms: &[Form],
     beside: &[&'static str],
 ) -> Result<(Form, Vec<&'static str>, Vec<usize>), Fault> {
-    let fault = |read: String| source.fault(start(source, header.position()), read, &allowed(forms));
+    let fault = |read: String| source.fault(start(source, byte_of(header.position())), read, &allowed(forms));
     let form = form_of(header, forms).map_err(fault)?;
     let is_there = |name: &&&str| header.iter().any(|column| column.eq_ignore_ascii_case(name));
     let names: Vec<_> = form.iter().chain(beside.iter().filter(is_there)).copied().collect();
@@ -254,9 +278,12 @@ fn lookalikes(header: &StringRecord, forms: &[Form], beside: &[&'static str], us
     unused.filter_map(|(i, column)| Some((i, column.to_owned(), resembled(column)?))).collect()
 }
 
-/// Where a record starts: after the line ends and the comments that the position still has before it.
-fn start(source: &Source, position: Option<&Position>) -> usize {
-    let byte = position.map_or(0, |p| p.byte() as usize);
+fn byte_of(position: Option<&Position>) -> usize {
+    position.map_or(0, |p| p.byte() as usize)
+}
+
+/// Where a record starts: after the line ends and the comments that its position still has before it.
+fn start(source: &Source, byte: usize) -> usize {
     let mut rest = source.text.get(byte..).unwrap_or("").trim_start_matches(['\r', '\n']);
     while rest.starts_with('#') {
         rest = rest.find('\n').map_or("", |end| &rest[end..]).trim_start_matches(['\r', '\n']);
@@ -334,7 +361,7 @@ fn place(text: &str, record: usize, column: usize, inside: usize) -> usize {
 fn csv_fault(source: &Source, e: csv::Error) -> Fault {
     match e.kind() {
         ErrorKind::UnequalLengths { pos, expected_len, len } => {
-            let record = start(source, pos.as_ref());
+            let record = start(source, byte_of(pos.as_ref()));
             open_quote(source, record).unwrap_or_else(|| {
                 let is_comment = source.text[record..].trim_start().starts_with('#');
                 let comment = if is_comment { "; a comment starts with # at the line's start" } else { "" };
@@ -364,7 +391,7 @@ fn is_sexagesimal(text: &str) -> bool {
 
 impl<'a> Field<'a> {
     pub fn text(self) -> &'a str {
-        &self.sheet.records[self.record][self.column]
+        self.sheet.kept.field(self.record * self.sheet.columns.len() + self.column)
     }
     /// Its text as a message shows it.
     pub fn shown(self) -> String {
@@ -376,7 +403,7 @@ impl<'a> Field<'a> {
     /// The byte of the file where byte `inside` of its text stands.
     fn byte(self, inside: usize) -> usize {
         let source = &self.sheet.source;
-        let record = start(source, self.sheet.records[self.record].position());
+        let record = start(source, self.sheet.kept.starts[self.record]);
         place(&source.text, record, self.sheet.columns[self.column], inside)
     }
     /// Its line, from 1.
@@ -783,8 +810,8 @@ mod tests {
             let source = Source::of(Path::new("t.csv"), text.into()).unwrap();
             let reader = builder().flexible(true).from_reader(source.text.as_bytes().chain(&b"\n"[..]));
             for record in reader.into_records().map(Result::unwrap) {
-                let from = start(&source, record.position());
-                for (column, field) in record.iter().enumerate() {
+                let from = start(&source, byte_of(record.position()));
+                for (column, field) in record.iter().map(str::trim).enumerate() {
                     for (inside, c) in field.char_indices() {
                         let at = place(&source.text, from, column, inside);
                         prop_assert!(source.text[at..].starts_with(c), "{:?} {:?} {}", source.text, field, inside);

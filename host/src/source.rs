@@ -26,9 +26,10 @@ impl Source {
             return Err(Fault::Files(format!("{}: it is a {}; allowed: a plain file", shown(path), word(kind))));
         }
         let file = File::open(path).map_err(fault)?;
-        let mut bytes = Vec::new();
         // The length is asked first, so that a file far too long is not read; what grows meanwhile is not followed.
-        if file.metadata().map_err(fault)?.len() <= most {
+        let length = file.metadata().map_err(fault)?.len();
+        if length <= most {
+            let mut bytes = Vec::with_capacity(length as usize + 1);
             file.take(most + 1).read_to_end(&mut bytes).map_err(fault)?;
             if bytes.len() as u64 <= most {
                 return Source::of(path, bytes);

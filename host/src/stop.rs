@@ -1,4 +1,4 @@
-//! Signals. Ctrl-C and those that ask a process to end: the sweep ends after the ranges that it has begun, and an output that is not whole is
+//! Signals. Ctrl-C and those that ask a process to end: a sweep ends after the ranges that it has begun, and an output that is not whole is
 //! removed. A limit on the size of files: the write fails, and does not end the process.
 use signal_hook::{
     consts::{SIGHUP, SIGINT, SIGTERM, SIGXFSZ},

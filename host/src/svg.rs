@@ -107,6 +107,9 @@ fn heading_of(svg: &mut String, listing: &Listing, axis: &Axis) -> f64 {
     if listing.rows.iter().any(|row| pieces(row).iter().any(is_narrow)) {
         lines.push(("Where windows are narrower than a pixel, heights show their shares of the time.".into(), INK));
     }
+    if let Some(note) = listing.unverified() {
+        lines.push((note.replacen("not", "Not", 1), INK));
+    }
     for (line, color) in lines {
         y += LINE;
         let _ = writeln!(svg, "<text x=\"{}\" y=\"{}\" fill=\"{}\">{}</text>", EDGE, y, color, escaped(&line));

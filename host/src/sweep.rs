@@ -1,6 +1,6 @@
 //! `wilfnusk sweep`: lock the journal, recover, shorten, work out what is missing, list the windows.
 use crate::{
-    digest::{same_plan, Digest},
+    digest::{is_known, Digest},
     engine::{self, HEADER_BYTES},
     explain::{self, zero_tail},
     fault::Fault,
@@ -14,6 +14,7 @@ use crate::{
     source::shown,
     stop,
     text::{counted, grouped, ranges},
+    verify::{Evidence, Trust},
     workers::{cores, Workers},
     Files,
 };
@@ -42,6 +43,8 @@ pub struct Sweep {
     /// Drop the zero bytes that a power cut left at the journal's end, where all that stands before them is right
     #[arg(long)]
     drop_zero_tail: bool,
+    #[command(flatten)]
+    trust: Trust,
     #[command(flatten)]
     selection: Selection,
     #[command(flatten)]
@@ -100,10 +103,7 @@ impl Sweep {
         tell_remarks(&plan);
         stop::listen();
         let mut journal = Journal::open(&path, self.wait)?;
-        if self.drop_zero_tail {
-            drop_zero_tail(&plan, &mut journal)?;
-        }
-        start(&plan, &mut journal)?;
+        let evidence = self.start(&plan, &mut journal)?;
 
         // A chunk that was asked for twice is worked out once.
         let mut has_line = done(journal.used(), plan.chunks());
@@ -117,7 +117,34 @@ impl Sweep {
         })?;
         journal.as_left()?;
         progress.end();
-        self.end(&plan, &journal, selected)
+        self.end(&plan, &journal, selected, evidence)
+    }
+    /// The start of every sweep, after a power cut or not: recover, compare the plan with the digest, work the lines found out again, and only then
+    /// shorten and begin.
+    fn start(&self, plan: &Plan, journal: &mut Journal) -> Result<Evidence, Fault> {
+        let found = journal.used().len();
+        let zeros = if self.drop_zero_tail { zero_tail(plan, journal.used()) } else { None };
+        let keep = match &zeros {
+            Some(tail) => tail.keep,
+            None => engine::recover(plan, journal.used()).map_err(|r| explain::journal(plan, &journal.path, journal.used(), r))?,
+        };
+        let origin_known = keep <= HEADER_BYTES as usize || is_known(plan, &journal.path)?;
+        let evidence = self.trust.evidence(plan, &journal.path, &journal.used()[..keep], origin_known)?;
+        journal.shorten(keep)?;
+        let (path, bytes) = (shown(&journal.path), counted(found - keep, "byte"));
+        match zeros {
+            Some(tail) => tell!("{}: the last {} dropped, {}", path, bytes, tail.in_words()),
+            None if keep < found => tell!("recovered {}: removed {} of a write that did not end", path, bytes),
+            None => {}
+        }
+        // Without a line nothing depends on the digest: it is made this plan's, before the first line can follow.
+        if keep <= HEADER_BYTES as usize {
+            Digest::of(plan).write(&journal.path)?;
+        }
+        if keep == 0 {
+            journal.append(&engine::header(plan).map_err(|r| explain::plan(plan, r))?)?;
+        }
+        Ok(evidence)
     }
     /// The chunks that the command line asks for, in its order.
     fn asked(&self, plan: &Plan) -> Result<Vec<u64>, Fault> {
@@ -134,7 +161,7 @@ impl Sweep {
             (None, None) => Ok((0..chunks).collect()),
         }
     }
-    fn end(&self, plan: &Plan, journal: &Journal, selected: Selected) -> Result<(), Fault> {
+    fn end(&self, plan: &Plan, journal: &Journal, selected: Selected, evidence: Evidence) -> Result<(), Fault> {
         let has_line = done(journal.used(), plan.chunks());
         let count = has_line.iter().filter(|&&d| d).count();
         let about = format!("{}: {} of {} chunks have a line", shown(&journal.path), grouped(count), grouped(plan.chunks()));
@@ -152,40 +179,9 @@ impl Sweep {
         let bytes = journal.used();
         let (mask, probes) = engine::collect(plan, bytes).map_err(|r| explain::journal(plan, &journal.path, bytes, r))?;
         tell!("{}; {} tried", about, counted(probes, "roll"));
-        let listing = Listing::of_mask(plan, selected, &mask, probes).map_err(|(i, r)| explain::row(plan, i, r))?;
+        let listing = Listing::of_mask(plan, selected, &mask, probes, evidence).map_err(|(i, r)| explain::row(plan, i, r))?;
         self.outputs.write(&listing)
     }
-}
-
-/// Shortens the journal to the lines before a tail of zero bytes.
-fn drop_zero_tail(plan: &Plan, journal: &mut Journal) -> Result<(), Fault> {
-    if let Some(tail) = zero_tail(plan, journal.used()) {
-        let bytes = journal.used().len() - tail.keep;
-        journal.shorten(tail.keep)?;
-        tell!("{}: the last {} dropped, {}", shown(&journal.path), counted(bytes, "byte"), tail.in_words());
-    }
-    Ok(())
-}
-
-/// The start-up of every sweep, after a power cut or not: recover, hold the plan against the digest, shorten, begin.
-fn start(plan: &Plan, journal: &mut Journal) -> Result<(), Fault> {
-    let found = journal.used().len();
-    let keep = engine::recover(plan, journal.used()).map_err(|r| explain::journal(plan, &journal.path, journal.used(), r))?;
-    if keep > HEADER_BYTES as usize {
-        same_plan(plan, &journal.path)?;
-    }
-    journal.shorten(keep)?;
-    if keep < found {
-        tell!("recovered {}: removed {} of a write that did not end", shown(&journal.path), counted(found - keep, "byte"));
-    }
-    // Without a line nothing depends on the digest: it is made this plan's, before the first line can follow.
-    if keep <= HEADER_BYTES as usize {
-        Digest::of(plan).write(&journal.path)?;
-    }
-    if keep == 0 {
-        journal.append(&engine::header(plan).map_err(|r| explain::plan(plan, r))?)?;
-    }
-    Ok(())
 }
 
 #[cfg(test)]

@@ -1,7 +1,7 @@
 //! What a sweep costs: `cost`, the line with which `check` ends, and the plans of a size that `example` writes, which cost the most and the least.
 mod common;
 
-use common::{document, done, json, run, Folder};
+use common::{document, done, json, run, Folder, HEADER, LINE};
 use fs2::FileExt;
 use proptest::prelude::*;
 use serde_json::json;
@@ -10,8 +10,6 @@ use std::{
     process::Command,
 };
 
-const HEADER: usize = 107;
-const LINE: usize = 33;
 const EPHEMERIS: &str = "time,sun_x,sun_y,sun_z,observer_x,observer_y,observer_z\n";
 
 fn empty() -> Folder {
@@ -366,29 +364,31 @@ fn check_ends_with_the_cost() {
     ends(" --journal none/j", 0, "accepted; none/j is not begun", &[]);
     ends(" --recompute --write-digest", 0, "accepted; plan.journal is not begun", &[]);
     f.write("plan.journal", "");
-    ends("", 0, "accepted; plan.journal is right", &[]);
+    ends("", 0, "accepted; plan.journal is right: 0 of 3 chunks have a line", &[]);
     done(&f, "sweep plan.toml --chunks 1");
-    let known = "accepted; plan.journal is right, and the files are those it was begun with";
-    ends("", 0, known, &[]);
+    let right = |count: usize| format!("accepted; plan.journal is right: {} of 3 chunks have a line", count);
+    let known = |count: usize| format!("{}; plan.journal.plan is this plan's", right(count));
+    let again = "\nits lines could be this plan's; to work every line out again: wilfnusk check plan.toml --recompute";
+    ends("", 0, &(known(1) + again), &[]);
     done(&f, "sweep plan.toml -q");
-    ends("", 0, known, &[]);
-    ends(" --recompute", 0, known, &[]);
-    ends(" --recompute --sample 2", 0, known, &[]);
+    ends("", 0, &(known(3) + again), &[]);
+    ends(" --recompute", 0, &known(3), &[]);
+    ends(" --recompute --sample 2", 0, &known(3), &[]);
     let (journal, digest) = (f.read("plan.journal"), f.read("plan.journal.plan"));
     assert_eq!(journal.len(), HEADER + 3 * LINE);
     f.write("plan.journal", &journal[..journal.len() - 1]);
-    ends("", 0, known, &[]);
+    ends("", 0, &(known(2) + again), &[]);
     f.write("plan.journal", &journal[..HEADER - 1]);
-    ends("", 0, "accepted; plan.journal is right", &[]);
+    ends("", 0, &right(0), &[]);
     f.write("plan.journal", &journal);
     fs::remove_file(f.path("plan.journal.plan")).unwrap();
-    ends("", 0, "accepted; plan.journal is right", &["warning: plan.journal.plan is missing"]);
+    ends("", 0, &(right(3) + again), &["warning: plan.journal.plan is missing"]);
     {
         let lock = File::open(f.path("plan.journal")).unwrap();
         lock.lock_exclusive().unwrap();
         ends(" --recompute --write-digest", 3, warning, &["another process sweeps into it"]);
     }
-    ends(" --recompute --write-digest", 0, "accepted; plan.journal is right", &["wrote plan.journal.plan"]);
+    ends(" --recompute --write-digest", 0, &known(3), &["wrote plan.journal.plan"]);
     assert_eq!(f.read("plan.journal.plan"), digest);
     // Why a journal is refused is printed on standard error.
     f.write("plan.journal.plan", &digest.replace("plan 3", "plan 4"));

@@ -1,8 +1,8 @@
 //! J.plan of an earlier program, whose optimal rolls were not yet folded into 0 to 360. Beside lines it is refused, and no byte changes; where there
-//! is none it makes way.
+//! is none it is replaced.
 mod common;
 
-use common::Folder;
+use common::{Folder, HEADER, LINE};
 
 /// What the programs of versions 1 and 2 wrote for the plan below, and what this one writes.
 const OLD: [&str; 2] = [
@@ -20,15 +20,12 @@ const NEW: &str = "wilfnusk plan 3\n\
     targets 4787a52766c2d47c0d1ba11d22ddb34a2beee258c82364eb9a6fbb8754c63d20 t.csv\n\
     ephemeris ed8df92f9ec4858c6a17c84cbe660f1558dcfacaf17b236ccb9485aa5a1f7b9d e.csv\n";
 
-const HEADER: usize = 107;
-const LINE: usize = 33;
-
 /// Two targets at 40 times, 80 cells in 2 chunks.
 fn folder() -> Folder {
     Folder::new(&["A", "B"], &"01".repeat(20), "tolerance = 10\n")
 }
 
-/// What is said of an old digest beside a journal, whose plan has a journal of its own by the name of plan.journal.
+/// The refusal of an old digest beside a journal of plan.toml.
 fn says(old: &str, journal: &str) -> Vec<String> {
     let option = if journal == "plan.journal" { String::new() } else { format!(" --journal {}", journal) };
     vec![
@@ -43,20 +40,20 @@ fn says(old: &str, journal: &str) -> Vec<String> {
     ]
 }
 
-/// Refused with these words, and no file in the folder is another afterwards.
+/// Refused with these words, and no file in the folder changes.
 #[track_caller]
 fn refused(f: &Folder, words: &str, says: &[String]) {
     let before = f.all();
     let ended = f.run(&words.split(' ').collect::<Vec<_>>());
     ended.says(3, &says.iter().map(String::as_str).collect::<Vec<_>>());
-    for certified in ["origin_known", "accepted", "is the same", "are those it was begun with"] {
+    for certified in ["origin_known", "accepted", "is the same", "is this plan's"] {
         assert!(!ended.stdout.contains(certified), "{}: {}", words, ended.stdout);
     }
     assert!(f.all() == before, "{}: a file was changed", words);
 }
 
 #[test]
-fn every_command_that_reads_the_lines_refuses_them() {
+fn every_command_that_reads_lines_refuses_those_with_an_older_digest() {
     for old in OLD {
         // Some lines, a line more whose writing did not end, all lines.
         for (part, tail) in [("1/2", ""), ("1/2", "0000"), ("1/1", "")] {
@@ -82,11 +79,12 @@ fn every_command_that_reads_the_lines_refuses_them() {
                 "mask plan.toml",
                 "mask plan.toml --form csv",
                 "merge plan.toml plan.journal -o all.journal",
-                "merge plan.toml plan.journal -o all.journal --recompute",
+                "merge plan.toml plan.journal -o all.journal --trust-journal",
+                "windows plan.toml --trust-journal",
             ] {
                 refused(&f, words, &says);
             }
-            // An edited file, too: the lines are not this program's, whatever they were made from.
+            // Of an edited plan too: the lines are not this program's, whatever they were made from.
             f.write("plan.toml", &f.read("plan.toml").replace("rolls = 1", "# rolls\nrolls = 1"));
             f.write("t.csv", "name,x,y,z\nA,1,0,0\nB,0,1,0\n");
             refused(&f, "sweep plan.toml", &says);
@@ -95,7 +93,7 @@ fn every_command_that_reads_the_lines_refuses_them() {
 }
 
 #[test]
-fn what_reads_no_line_is_not_refused() {
+fn commands_that_read_no_line_ignore_an_older_digest() {
     let f = folder().swept();
     f.write("plan.toml", &(f.read("plan.toml") + "configured_roll = 0\n"));
     f.write("plan.journal.plan", OLD[1]);
@@ -115,9 +113,9 @@ fn what_reads_no_line_is_not_refused() {
     assert!(f.all() == before);
 }
 
-/// Each part is held against its own digest, in whatever order they are given.
+/// Each part is compared with its own digest, in whatever order they are given.
 #[test]
-fn merge_refuses_each_part() {
+fn merge_refuses_a_part_with_an_older_digest() {
     for old in OLD {
         let f = folder();
         for (part, journal) in [("1/2", "a.journal"), ("2/2", "b.journal")] {
@@ -126,9 +124,9 @@ fn merge_refuses_each_part() {
         for (journal, other) in [("a.journal", "b.journal"), ("b.journal", "a.journal")] {
             let digest = format!("{}.plan", journal);
             f.write(&digest, old);
-            for again in ["", " --recompute", " --recompute --sample 1"] {
-                refused(&f, &format!("merge plan.toml a.journal b.journal -o all.journal{}", again), &says(old, journal));
-                refused(&f, &format!("merge plan.toml {} {} -o all.journal{}", other, journal, again), &says(old, journal));
+            for trust in ["", " --trust-journal"] {
+                refused(&f, &format!("merge plan.toml a.journal b.journal -o all.journal{}", trust), &says(old, journal));
+                refused(&f, &format!("merge plan.toml {} {} -o all.journal{}", other, journal, trust), &says(old, journal));
             }
             f.write(&digest, NEW);
         }
@@ -138,16 +136,20 @@ fn merge_refuses_each_part() {
         f.write("bare.journal.plan", old);
         f.run(&["merge", "plan.toml", "bare.journal", "a.journal", "b.journal", "-o", "all.journal"]).says(0, &[]);
         assert_eq!((f.read("all.journal.plan").as_str(), f.read("bare.journal.plan").as_str()), (NEW, old));
-        // It is taken away where the merged lines are of unknown origin.
-        std::fs::remove_file(f.path("b.journal.plan")).unwrap();
+        // It is removed where the merged lines are of unknown origin, and replaced where they were worked out again.
+        f.remove("b.journal.plan");
         f.write("more.journal.plan", old);
-        f.run(&["merge", "plan.toml", "a.journal", "b.journal", "-o", "more.journal"]).says(0, &["warning: b.journal.plan is missing"]);
-        assert!(!f.path("more.journal.plan").exists());
+        f.run(&["merge", "plan.toml", "a.journal", "b.journal", "-o", "more.journal", "--trust-journal"])
+            .says(0, &["warning: b.journal.plan is missing"]);
+        assert!(!f.has("more.journal.plan"));
+        f.write("again.journal.plan", old);
+        f.run(&["merge", "plan.toml", "a.journal", "b.journal", "-o", "again.journal"]).says(0, &["b.journal.plan is missing; every line"]);
+        assert_eq!(f.read("again.journal.plan"), NEW);
     }
 }
 
 #[test]
-fn beside_a_journal_without_a_line_it_makes_way() {
+fn an_older_digest_is_replaced_where_the_journal_has_no_line() {
     let whole = folder().swept();
     let (journal, windows) = (whole.read("plan.journal"), whole.run(&["windows", "plan.toml"]).stdout);
     assert_eq!((journal.len(), whole.read("plan.journal.plan").as_str()), (HEADER + 2 * LINE, NEW));
@@ -171,7 +173,7 @@ fn beside_a_journal_without_a_line_it_makes_way() {
             f.write("plan.journal.plan", old);
             match left {
                 Some(left) => f.write("plan.journal", &journal[..left]),
-                None => std::fs::remove_file(f.path("plan.journal")).unwrap(),
+                None => f.remove("plan.journal"),
             }
             let ended = f.run(&["sweep", "plan.toml"]);
             ended.says(0, &["2 of 2 chunks have a line"]);
@@ -181,9 +183,9 @@ fn beside_a_journal_without_a_line_it_makes_way() {
     }
 }
 
-/// The command that the sentence shows, once J.plan is moved away, and another journal.
+/// The command that the message shows, once J.plan is moved away; and another journal.
 #[test]
-fn what_the_sentence_says_to_do_does_it() {
+fn the_advice_on_an_older_digest_works() {
     for journal in ["plan.journal", "it's.journal"] {
         let f = folder();
         f.run(&["sweep", "plan.toml", "-q", "--journal", journal, "--part", "1/2"]).says(0, &[]);
@@ -195,22 +197,22 @@ fn what_the_sentence_says_to_do_does_it() {
         f.run(&["sweep", "plan.toml", "--journal", "another.journal"]).says(0, &["2 of 2 chunks have a line"]);
         assert_eq!((f.read(&digest).as_str(), f.read(journal)), (OLD[1], lines.clone()));
 
-        std::fs::remove_file(f.path(&digest)).unwrap();
+        f.remove(&digest);
         f.shell(&command).says(0, &[&format!("wrote {}\n", digest)]);
         assert_eq!((f.read(&digest).as_str(), &f.read(journal)), (NEW, &lines));
         f.run(&["sweep", "plan.toml", "--journal", journal]).says(0, &["2 of 2 chunks have a line"]);
 
-        // A line that comes out differently now is told, and no digest is written: here the marks of four cells are others.
-        std::fs::remove_file(f.path(&digest)).unwrap();
+        // A line that comes out differently now is named, and no digest is written: here the marks of four cells are changed.
+        f.remove(&digest);
         f.write(journal, &lines.replacen("aaaa", "aaa5", 1));
         f.shell(&command).says(1, &["1 is not the same", "line 2, chunk 0: ", "or by a wilfnusk before 0.3.0"]);
-        assert!(!f.path(&digest).exists());
+        assert!(!f.has(&digest));
     }
 }
 
-/// What hashed as version 1 did is no digest of this plan under the new title.
+/// The hashes of version 1 are not this plan's under the title of version 3.
 #[test]
-fn another_title_does_not_make_it_new() {
+fn an_older_digest_with_the_new_title_is_refused() {
     let f = folder().swept();
     f.write("plan.journal.plan", &OLD[0].replace("plan 1\n", "plan 3\n"));
     refused(&f, "sweep plan.toml", &["plan.toml: its numbers are not those that plan.journal was begun with".into()]);

@@ -68,7 +68,7 @@ fn a_sweep_continues_with_the_same_table() {
         run(&f, "status plan.toml").says(4, &[]);
         f.write("plan.journal", &(f.read("plan.journal") + "0000000"));
         write_plan(&f, other, TOLERANCE);
-        assert!(done(&f, "check plan.toml --recompute").contains("1 lines worked out again: each is the same"));
+        assert!(done(&f, "check plan.toml --recompute").contains("1 line worked out again: each is the same"));
         run(&f, "sweep plan.toml -q")
             .says(0, &["recovered plan.journal: removed 7 bytes of a write that did not end\n", "3 of 3 chunks have a line"]);
         assert_eq!(f.sorted("plan.journal"), unbroken.sorted("plan.journal"));
@@ -118,8 +118,8 @@ fn another_table_of_the_same_length_is_another_plan() {
     // Without J.plan the lines show it, where they are worked out again.
     fs::remove_file(f.path("plan.journal.plan")).unwrap();
     run(&f, "check plan.toml")
-        .says(0, &["warning: plan.journal.plan is missing: nothing tells whether", "positions, tolerances and rolls."]);
-    run(&f, "check plan.toml --recompute").says(1, &["plan.journal: 1 lines worked out again, and 1 is not the same"]);
+        .says(0, &["warning: plan.journal.plan is missing: nothing shows whether", "positions, tolerances and rolls."]);
+    run(&f, "check plan.toml --recompute").says(1, &["plan.journal: 1 line worked out again, and 1 is not the same"]);
 }
 
 #[test]

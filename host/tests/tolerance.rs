@@ -116,7 +116,7 @@ fn a_sweep_continues_with_tolerances_given_in_another_way() {
                 let f = folder(&first.0, &first.1);
                 run(&f, "sweep plan.toml -q --chunks 1").says(0, &["1 of 3 chunks have a line"]);
                 write_plan(&f, second);
-                assert!(done(&f, "check plan.toml --recompute").contains("the files are those it was begun with"));
+                assert!(done(&f, "check plan.toml --recompute").contains("plan.journal.plan is this plan's"));
                 run(&f, "sweep plan.toml -q").says(0, &["3 of 3 chunks have a line"]);
                 assert_eq!(f.sorted("plan.journal"), unbroken.sorted("plan.journal"));
                 assert_eq!(f.read("plan.journal.plan"), unbroken.read("plan.journal.plan"));

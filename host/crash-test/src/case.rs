@@ -9,12 +9,12 @@ pub struct Case {
     pub times: Vec<i64>,
     /// Right ascensions and declinations, where the targets file has those in place of vectors.
     positions: Option<(Vec<f64>, Vec<f64>)>,
-    told: Told,
+    given: Given,
 }
 
-/// How the plan's files tell its tolerances.
+/// How the plan's files give its tolerances.
 #[derive(Clone, Copy)]
-pub enum Told {
+pub enum Given {
     Number(f64),
     List,
     Column,
@@ -27,9 +27,9 @@ const FIRST_TIME: i64 = 1_774_000_000_000_000_000;
 const STEP: i64 = 60_000_000_000;
 
 impl Case {
-    fn new(name: &'static str, plan: Plan, told: Told) -> Case {
+    fn new(name: &'static str, plan: Plan, given: Given) -> Case {
         let times = (0..plan.times() as i64).map(|j| FIRST_TIME + STEP * j).collect();
-        Case { name, sweep: Sweep::new(plan).expect("an accepted plan"), times, positions: None, told }
+        Case { name, sweep: Sweep::new(plan).expect("an accepted plan"), times, positions: None, given }
     }
     /// Document 01's example.
     pub fn example() -> Case {
@@ -42,7 +42,7 @@ impl Case {
             panels: vec![0.0, 1.0, 0.0],
             rolls: Rolls::Even(1),
         };
-        Case::new("document 01's example", plan, Told::Number(10.0))
+        Case::new("document 01's example", plan, Given::Number(10.0))
     }
     /// Random directions, and Suns that turn slowly, so that marks come in runs.
     pub fn drawn(name: &'static str, seed: u64, targets: usize, times: usize, n: u64, tolerance_deg: f64, roll_deg: Option<f64>) -> Case {
@@ -57,20 +57,20 @@ impl Case {
             plan.suns.extend([1.5e8 * c, 1.4e8 * s, 0.6e8 * s]);
             plan.observers.extend(direction(&mut seeded).map(|x| 7000.0 * x));
         }
-        Case::new(name, plan, Told::Number(tolerance_deg))
+        Case::new(name, plan, Given::Number(tolerance_deg))
     }
     /// The same with other targets, by right ascension and declination; their vectors are the model's.
     pub fn of_catalogue(self, seed: u64) -> Case {
         let mut plan = self.sweep.plan;
         let (ra, dec) = positions(&mut Seeded::new(seed), plan.rows());
         plan.targets = ra.iter().zip(&dec).flat_map(|(&ra, &dec)| radec_to_unit(ra, dec)).collect();
-        Case { positions: Some((ra, dec)), ..Case::new(self.name, plan, self.told) }
+        Case { positions: Some((ra, dec)), ..Case::new(self.name, plan, self.given) }
     }
     /// The same over a table of rolls. Over as many even steps the sweep would be another.
     pub fn over(self, table: &[f64]) -> Case {
         let plan = Plan { rolls: Rolls::Table(table.to_vec()), ..self.sweep.plan };
         let stepped = Sweep::new(plan.stepped()).expect("an accepted plan");
-        let case = Case { positions: self.positions, ..Case::new(self.name, plan, self.told) };
+        let case = Case { positions: self.positions, ..Case::new(self.name, plan, self.given) };
         assert!(case.sweep.mask != stepped.mask, "{}: rolls that mark alike", case.name);
         case
     }
@@ -78,16 +78,16 @@ impl Case {
         self.sweep.plan.rolls.table().is_some()
     }
     /// The same with a tolerance for each target: these, over and over. With the first for all of them the sweep would be another.
-    pub fn with_tolerances(self, told: Told, tolerances: &[f64]) -> Case {
+    pub fn with_tolerances(self, given: Given, tolerances: &[f64]) -> Case {
         let mut plan = self.sweep.plan.clone();
         plan.tolerances = tolerances.iter().copied().cycle().take(plan.rows()).collect();
         let one = Plan { tolerances: vec![plan.tolerances[0]; plan.rows()], ..plan.clone() };
-        let case = Case { positions: self.positions, ..Case::new(self.name, plan, told) };
+        let case = Case { positions: self.positions, ..Case::new(self.name, plan, given) };
         assert!(case.sweep.mask != Sweep::new(one).expect("an accepted plan").mask, "{}: tolerances that mark alike", case.name);
         case
     }
     pub fn has_tolerances(&self) -> bool {
-        !matches!(self.told, Told::Number(_))
+        !matches!(self.given, Given::Number(_))
     }
     pub fn chunks(&self) -> usize {
         self.sweep.chunks()
@@ -103,10 +103,10 @@ impl Case {
         let _ = writeln!(toml, "panel = {:?}", plan.head_panel());
         let list: Vec<_> = plan.tolerances.iter().copied().map(toml_number).collect();
         let (mut column, mut cells) = ("", vec![String::new(); plan.rows()]);
-        let _ = match self.told {
-            Told::Number(x) => writeln!(toml, "tolerance = {}", toml_number(x)),
-            Told::List => writeln!(toml, "tolerance = [{}]", list.join(", ")),
-            Told::Column => {
+        let _ = match self.given {
+            Given::Number(x) => writeln!(toml, "tolerance = {}", toml_number(x)),
+            Given::List => writeln!(toml, "tolerance = [{}]", list.join(", ")),
+            Given::Column => {
                 (column, cells) = (",tolerance", list.iter().map(|cell| format!(",{}", cell)).collect());
                 Ok(())
             }
@@ -139,7 +139,7 @@ impl Case {
         assert!(day <= 31);
         format!("2026-03-{:02}T{:02}:{:02}:{:02}.000000000Z", day, of_day / 3600, of_day / 60 % 60, of_day % 60)
     }
-    /// The windows of the whole sweep as the program's CSV says them.
+    /// The windows of the whole sweep as the program's CSV has them.
     pub fn windows_csv(&self) -> String {
         let mut csv = String::from("target,kind,first_sample,last_sample,start,end,seconds,severity_deg,data_end,target_number\n");
         let times = self.times.len();

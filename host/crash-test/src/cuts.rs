@@ -140,7 +140,7 @@ pub fn every_byte_of_the_digest(case: &Case, folder: &Path, tally: &mut Tally) {
     }
 }
 
-/// The power fails on entry to each system call of a sweep that finds an earlier program's digest beside a journal without a line: it has made way
+/// The power fails on entry to each system call of a sweep that finds an earlier program's digest beside a journal without a line: it is replaced
 /// before the first line is there, as every later command would refuse that line.
 pub fn every_call_over_an_old_digest(case: &Case, folder: &Path, tally: &mut Tally) {
     let machine = Machine::new(case, folder);

@@ -13,7 +13,7 @@ mod syncs;
 mod trace;
 mod trouble;
 
-use case::{Case, Told};
+use case::{Case, Given};
 use cases::Seeded;
 use machine::{Machine, WAYS};
 use std::{
@@ -113,10 +113,10 @@ fn run(folder: &Path, seconds: u64, seed: u64) -> Tally {
     let catalogue = Case::drawn("3 targets by ra and dec, 21 times, 24 rolls", 7, 3, 21, 24, 5.0, None).of_catalogue(5);
     // The first chunk has cells of all six targets, and the second the last of them.
     let list = Case::drawn("6 targets, a list of tolerances, 11 times, 8 rolls", 8, 6, 11, 8, 15.0, None)
-        .with_tolerances(Told::List, &[15.0, 3.0, f64::NAN, -1.0, 21.0, 9.0]);
+        .with_tolerances(Given::List, &[15.0, 3.0, f64::NAN, -1.0, 21.0, 9.0]);
     let column = Case::drawn("4 targets by ra and dec, a column of tolerances, 19 times, a configured roll", 9, 4, 19, 5, 30.0, Some(20.5))
         .of_catalogue(6)
-        .with_tolerances(Told::Column, &[30.0, -1.0, f64::INFINITY, 75.0]);
+        .with_tolerances(Given::Column, &[30.0, -1.0, f64::INFINITY, 75.0]);
     let table = Case::drawn("5 targets, 14 times, a table of 7 rolls", 10, 5, 14, 7, 12.0, None)
         .over(&[0.0, 15.5, 47.0, 90.0, 200.125, 240.0, 305.25]);
     let mut ways = WAYS.into_iter().cycle();
@@ -189,7 +189,7 @@ fn run(folder: &Path, seconds: u64, seed: u64) -> Tally {
     cuts::any_moment(&large, &at("moments"), &mut seeded, half, &mut tally);
     done(format!("any moment: {}: {} cuts on one journal", large.name, tally.cuts - before));
     let middle = Case::drawn("9 targets, a list of tolerances, 200 times, 90 rolls", 6, 9, 200, 90, 1.7, None)
-        .with_tolerances(Told::List, &[1.7, 0.4, 1.2]);
+        .with_tolerances(Given::List, &[1.7, 0.4, 1.2]);
     let squares: Vec<_> = (0..90).map(|k| f64::from(k * k) / 22.5).collect();
     let uneven = Case::drawn("7 targets, 250 times, a table of 90 rolls", 11, 7, 250, 90, 1.7, None).over(&squares);
     loop {

@@ -71,7 +71,7 @@ fn merged(case: &Case, folder: &Path, all: &[Machine], tally: &mut Tally) {
     whole(&target, &target.sweep(None));
     assert!(target.windows_csv() == case.windows_csv(), "the windows are not those of one machine");
 
-    // Once more, with the merged journal and a part of it: nothing is new. A line that differs stops it.
+    // Once more, with the merged journal and a part of it: nothing is new.
     let words = ["merge", "plan.toml", "-o", "again.journal", "plan.journal", &journals[0]];
     assert_eq!(target.run(&words).status, 0);
     assert!(fs::read(target.folder.join("again.journal")).unwrap() == target.journal());
@@ -79,10 +79,15 @@ fn merged(case: &Case, folder: &Path, all: &[Machine], tally: &mut Tally) {
     let other = (0..case.chunks()).find_map(|line| still_right(&good, line)).expect("a mask of some cells");
     fs::write(target.folder.join("other.journal"), &other).unwrap();
     fs::copy(target.folder.join("plan.journal.plan"), target.folder.join("other.journal.plan")).unwrap();
+    // Every line is worked out again, and the one that differs is named. Where the lines are trusted, two that differ are refused all the same.
     let words = ["merge", "plan.toml", "-o", "never.journal", "plan.journal", "other.journal"];
+    let at = good.iter().zip(&other).position(|(a, b)| a != b).unwrap();
     let ended = target.run(&words);
+    let says = format!("other.journal: {} lines worked out again, and 1 is not the same", case.chunks());
+    let line = format!("\n  line {}, chunk ", (at - HEADER) / LINE + 2);
+    assert!(ended.status == 1 && ended.stderr.contains(&says) && ended.stderr.contains(&line), "{}", ended.stderr);
+    let ended = target.run(&[&words[..], &["--trust-journal"]].concat());
     assert!(ended.status == 3 && ended.stderr.contains("has two different lines"), "{}", ended.stderr);
-    // Worked out again, every line of the split sweep is the same, and the one that differs is named.
     let ended = target.run(&["check", "plan.toml", "--recompute"]);
     let says = format!("plan.journal: {} lines worked out again: each is the same", case.chunks());
     let said = String::from_utf8(ended.stdout).unwrap();
@@ -92,17 +97,12 @@ fn merged(case: &Case, folder: &Path, all: &[Machine], tally: &mut Tally) {
         said,
         ended.stderr
     );
-    let at = good.iter().zip(&other).position(|(a, b)| a != b).unwrap();
-    let ended = target.run(&[&words[..], &["--recompute"]].concat());
-    let says = format!("other.journal: {} lines worked out again, and 1 is not the same", case.chunks());
-    let line = format!("\n  line {}, chunk ", (at - HEADER) / LINE + 2);
-    assert!(ended.status == 1 && ended.stderr.contains(&says) && ended.stderr.contains(&line), "{}", ended.stderr);
     assert!(!target.folder.join("never.journal").exists());
     tally.splits += 1;
 }
 
-/// The power fails on entry to each system call of a merge: the new journal is there whole or not at all, and a digest stands beside it only
-/// if every part had one, though another stood there before.
+/// The power fails on entry to each system call of a merge: the new journal is there whole or not at all, and this plan's digest stands beside it only
+/// if the lines were worked out again or every part had one, though another stood there before.
 pub fn every_call_of_merge(case: &Case, folder: &Path, tally: &mut Tally) {
     let machine = Machine::new(case, folder);
     let file = |name: &str| machine.folder.join(name);
@@ -116,19 +116,20 @@ pub fn every_call_of_merge(case: &Case, folder: &Path, tally: &mut Tally) {
     let at = digest.find("settings ").unwrap() + "settings ".len();
     let other = [&digest[..at], if &digest[at..=at] == "0" { "1" } else { "0" }, &digest[at + 1..]].concat();
     let whole = [&case.sweep.header[..], &case.sweep.lines.concat()].concat();
-    for all_known in [true, false] {
-        if !all_known {
+    for trusted in [false, true] {
+        if trusted {
             fs::remove_file(file("part2.journal.plan")).unwrap();
         }
         for number in 1.. {
             let _ = fs::remove_file(file("all.journal"));
-            fs::write(file("all.journal.plan"), if all_known { &other } else { &digest }).unwrap();
-            let words = ["merge", "plan.toml", "part1.journal", "part2.journal", "-o", "all.journal"];
-            let killed = run_to(&machine, machine.command(&words), Stop::Call(number), 0).killed;
+            fs::write(file("all.journal.plan"), if trusted { &digest } else { &other }).unwrap();
+            let mut command = machine.command(&["merge", "plan.toml", "part1.journal", "part2.journal", "-o", "all.journal"]);
+            command.args(Some("--trust-journal").filter(|_| trusted));
+            let killed = run_to(&machine, command, Stop::Call(number), 0).killed;
             if file("all.journal").exists() {
                 assert!(fs::read(file("all.journal")).unwrap() == whole, "a part of the merged journal");
                 let beside = fs::read_to_string(file("all.journal.plan")).ok();
-                assert!(beside.as_ref() == Some(&digest).filter(|_| all_known), "a digest that speaks for other lines");
+                assert!(beside.as_ref() == Some(&digest).filter(|_| !trusted), "a digest that speaks for other lines");
             } else {
                 assert!(killed, "no merged journal");
             }

@@ -185,7 +185,7 @@ fn edited(machine: &Machine) {
     let digest = machine.folder.join("plan.journal.plan");
     let text = fs::read(&digest).unwrap();
     fs::remove_file(&digest).unwrap();
-    says(&machine.sweep(None), 0, &["warning: plan.journal.plan is missing"]);
+    says(&machine.sweep(None), 0, &["plan.journal.plan is missing", "worked out again"]);
     assert!(!digest.exists(), "a digest was made up for lines of unknown origin");
     fs::write(&digest, &text[..40]).unwrap();
     says(&machine.sweep(None), 3, &["plan.journal.plan, line 1, column 1: no digest of a plan"]);

@@ -5,9 +5,14 @@
 use std::{
     env, fs,
     path::PathBuf,
-    process::{Command, Output},
+    process::{Child, Command, Output, Stdio},
+    thread::sleep,
+    time::{Duration, Instant},
 };
 use tempfile::TempDir;
+
+pub const HEADER: usize = 107;
+pub const LINE: usize = 33;
 
 pub struct Folder(TempDir);
 
@@ -23,14 +28,38 @@ impl Folder {
         folder.write("e.csv", &format!("time,sun_x,sun_y,sun_z,observer_x,observer_y,observer_z\n{}", rows.collect::<String>()));
         folder
     }
+    /// Two plans of 3 targets at 100 times, 300 cells in 5 chunks, which have the same journal header: other.toml differs from plan.toml in the
+    /// position of target C alone, a number of t.csv that is another in other.csv.
+    pub fn of_two_plans() -> Folder {
+        let folder = Folder(tempfile::tempdir().unwrap());
+        folder.plan("plan.toml", "t.csv");
+        folder.write("t.csv", "name,x,y,z\nA,1,0,0\nB,0,0.6,0.8\nC,0,-1,0\n");
+        folder.plan("other.toml", "other.csv");
+        folder.write("other.csv", "name,x,y,z\nA,1,0,0\nB,0,0.6,0.8\nC,0,0,-1\n");
+        folder.write("e.csv", ephemeris(100));
+        folder
+    }
+    /// A plan file with 8 rolls and these targets, at the times of e.csv.
+    pub fn plan(&self, name: &str, targets: &str) {
+        self.write(name, format!("targets = \"{}\"\nephemeris = \"e.csv\"\nrolls = 8\ntolerance = 15\n", targets));
+    }
     pub fn path(&self, name: &str) -> PathBuf {
         self.0.path().join(name)
     }
-    pub fn write(&self, name: &str, text: &str) {
-        fs::write(self.path(name), text).unwrap();
+    pub fn write(&self, name: &str, bytes: impl AsRef<[u8]>) {
+        fs::write(self.path(name), bytes).unwrap();
     }
     pub fn read(&self, name: &str) -> String {
         fs::read_to_string(self.path(name)).unwrap()
+    }
+    pub fn has(&self, name: &str) -> bool {
+        fs::symlink_metadata(self.path(name)).is_ok()
+    }
+    pub fn remove(&self, name: &str) {
+        fs::remove_file(self.path(name)).unwrap();
+    }
+    pub fn copy(&self, from: &str, to: &str) {
+        fs::copy(self.path(from), self.path(to)).unwrap();
     }
     /// The header and lines of a journal, in an order that does not tell which was worked out first.
     pub fn sorted(&self, journal: &str) -> Vec<String> {
@@ -52,6 +81,13 @@ impl Folder {
     }
     pub fn run(&self, words: &[&str]) -> Ended {
         Ended::of(self.command(words).output().unwrap())
+    }
+    /// A run whose standard output nobody reads.
+    pub fn run_unread(&self, words: &str) -> Ended {
+        let mut command = self.command(&words.split(' ').collect::<Vec<_>>());
+        let mut child = command.stdin(Stdio::null()).stdout(Stdio::piped()).stderr(Stdio::piped()).spawn().unwrap();
+        drop(child.stdout.take());
+        Ended::of_child(child)
     }
     /// The same from a shell's line, where $W is the program.
     pub fn shell(&self, line: &str) -> Ended {
@@ -152,6 +188,31 @@ pub fn document() -> (String, String) {
     (text, unwrapped)
 }
 
+/// The journal with another mask digit in the line with this number, from 0. The line is still right: as many cells are marked.
+pub fn changed(journal: &str, number: usize) -> String {
+    let mask = HEADER + number * LINE + 8;
+    let at = (mask..mask + 16).rev().find(|&i| !["0", "f"].contains(&&journal[i..=i])).expect("a mask of some cells");
+    let digit = u8::from_str_radix(&journal[at..=at], 16).unwrap();
+    format!("{}{:x}{}", &journal[..at], (digit << 1 | digit >> 3) & 15, &journal[at + 1..])
+}
+
+/// Waits until the program in this process listens for SIGTERM, the last of its signals, or was started with it ignored.
+pub fn until_it_listens(child: &Child) {
+    let begun = Instant::now();
+    let listens = || {
+        let text = fs::read_to_string(format!("/proc/{}/status", child.id())).unwrap();
+        let bits = |name: &str| u64::from_str_radix(text.lines().find_map(|l| l.strip_prefix(name)).unwrap().trim(), 16).unwrap();
+        text.starts_with("Name:\twilfnusk\n") && (bits("SigCgt:") | bits("SigIgn:")) >> 14 & 1 == 1
+    };
+    while !listens() {
+        assert!(begun.elapsed() < Duration::from_secs(10), "it does not listen for signals");
+        sleep(Duration::from_millis(2));
+    }
+}
+pub fn signal(child: &Child, signal: &str) {
+    assert!(Command::new("kill").args(["-s", signal, &child.id().to_string()]).status().unwrap().success());
+}
+
 /// The program that was built, or what WILFNUSK names.
 fn program() -> PathBuf {
     env::var_os("WILFNUSK").map_or_else(|| env!("CARGO_BIN_EXE_wilfnusk").into(), PathBuf::from)
@@ -168,6 +229,18 @@ impl Ended {
     fn of(output: Output) -> Ended {
         let text = |bytes: Vec<u8>| String::from_utf8(bytes).unwrap();
         Ended { status: output.status.code().unwrap_or(-1), stdout: text(output.stdout), stderr: text(output.stderr) }
+    }
+    /// Waits for a child that prints little, and fails if it does not end.
+    pub fn of_child(mut child: Child) -> Ended {
+        let begun = Instant::now();
+        while child.try_wait().unwrap().is_none() {
+            if begun.elapsed() > Duration::from_secs(20) {
+                child.kill().unwrap();
+                panic!("it did not end");
+            }
+            sleep(Duration::from_millis(3));
+        }
+        Ended::of(child.wait_with_output().unwrap())
     }
     /// Ended with this status and said these words on standard error.
     #[track_caller]
