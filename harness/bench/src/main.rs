@@ -81,7 +81,7 @@ extern "C" fn bench_measured(side: &mut Box<dyn Side>) {
     black_box(());
 }
 
-/// A unit's time; a byte's as bytes a second.
+/// A unit's time; a byte's as bytes per second.
 fn shown(unit: &str, seconds: f64) -> String {
     let ns = seconds * 1e9;
     match unit {
@@ -167,7 +167,7 @@ fn main() {
     if let (Some(name), Some(port)) = (&name, port) {
         return once(name, port, targets);
     }
-    println!("| | marked | a | this library | compared with | ratio | limit | met |");
+    println!("| | marked | per | this library | compared with | ratio | limit | met |");
     println!("|---|---|---|---|---|---|---|---|");
     let mut before = HashMap::new();
     let mut met = true;

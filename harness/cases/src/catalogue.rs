@@ -149,7 +149,7 @@ mod tests {
     }
 
     #[test]
-    fn outside_is_outside() {
+    fn numbers_outside_the_ranges_are_no_positions() {
         assert!(RA.outside().iter().all(|&ra| !is_position(ra, 0.0)));
         assert!(DEC.outside().iter().all(|&dec| !is_position(0.0, dec)));
         assert_eq!(RA.outside()[..2], [-5e-324, 360.00000000000006]);

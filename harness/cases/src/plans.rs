@@ -550,7 +550,7 @@ mod tests {
     use model::roll::folded;
 
     #[test]
-    fn folding_to_the_bit() {
+    fn rolls_are_folded_to_the_bit() {
         for (roll, to) in FOLDED {
             let found = folded(roll);
             assert!(bits(found) == bits(to), "{roll:e} to {found:e} and not {to:e}");
@@ -590,7 +590,7 @@ mod tests {
     }
 
     #[test]
-    fn even_steps_lent_as_a_table_give_the_same_journal() {
+    fn even_steps_passed_as_a_table_give_the_same_journal() {
         let mut s = Seeded::new(2);
         for k in 0..300 {
             let mut p = plan(&mut s, Targets::Unit, 3, 30);

@@ -1,5 +1,5 @@
-//! What each call says no to, and in which order: faulty inputs, often several faults at once, against the plain model. That a refused call
-//! changes nothing, and an accepted one nothing beyond its answer, is looked at in every call.
+//! What each call refuses, and in which order: faulty inputs, often several faults at once, compared with the plain model. Every call is checked to
+//! change nothing if it refuses, and nothing beyond its answer if it accepts.
 //! `refusals [FACTOR]` multiplies the number of inputs.
 use cases::catalogue::{positions, DEC, RA};
 use cases::{plans, rows, Seeded};
@@ -442,7 +442,7 @@ fn of_both_rolls() -> [(Rolls, &'static [Fault]); 2] {
     ]
 }
 
-/// By even steps and by a table: with a list of tolerances that is not one a target each call says 17 to all of its own reasons, and what comes
+/// By even steps and by a table: with a list of tolerances that is too short or too long each call answers 17 before all of its own reasons, and what comes
 /// before 17 before it.
 fn of_tolerances(t: &mut Tally) {
     for (rolls, faults_of_rolls) in of_both_rolls() {
@@ -702,7 +702,7 @@ const OVER: [(u64, u64); 25] = [
     (1, u64::MAX / 3 + 1),
 ];
 
-/// What cost and both plans say to a size, lent so much: 0 for accepted.
+/// What cost and both plans answer to a size, with outputs of these lengths: 0 for accepted.
 fn of_size(t: &mut Tally, (targets, times): (u64, u64), n: u64, places: usize, lists: [usize; 5]) -> [u8; 3] {
     let size = Size { targets, times, n };
     let shown = || format!("{size:?} {places} {lists:?}");

@@ -1,12 +1,12 @@
-//! Writes a sample of the customer's Rust's answers for the program `replay`: one file a section of document 01, catalogue positions in a file of
-//! their own, and sweeps over tables of rolls in another. The seeds stand here, so every run writes the same files. At the repository's root, after
+//! Writes a sample of the customer's Rust's answers for the program `replay`: one file per section of document 01, catalogue positions in a file of
+//! their own, and sweeps over tables of rolls in another. The seeds are here, so every run writes the same files. At the repository's root, after
 //! `harness/run`, which builds it:
 //!
 //!     target/cargo/release/record crates/replay/data
 //!
 //! A line is words of hexadecimal digits, the first its kind. A line of kind 0 gives a plan, a row of samples or positions. Each other line
 //! asks about what was given last: two words of what is asked (0 where nothing is), then the Rust's answer up to the line's end. A float is
-//! its bits (every NaN 7ff8000000000000), a time its 64 bits, a mask a word a sample.
+//! its bits (every NaN 7ff8000000000000), a time its 64 bits, a mask one word per sample.
 //!
 //! A line of kind 19, `TABLE`, has its table behind the answer, by these words:
 //!
