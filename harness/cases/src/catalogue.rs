@@ -75,7 +75,7 @@ pub fn positions(s: &mut Seeded, count: usize) -> (Vec<f64>, Vec<f64>) {
     (0..count).map(|_| position(s)).unzip()
 }
 
-/// A plan with these targets. Now and then the Sun stands at one of them, opposite, or close by.
+/// A plan with these targets. Now and then the Sun is at one of them, opposite, or close by.
 pub fn plan(s: &mut Seeded, targets: Vec<f64>, times: usize) -> Plan {
     let mut p = plans::plan(s, Targets::Unit, 0, times);
     p.targets = targets;

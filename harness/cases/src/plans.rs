@@ -519,7 +519,7 @@ fn between_two(s: &mut Seeded, distance: impl Fn(&mut Seeded) -> f64) -> f64 {
 }
 
 /// How work over a range of so many chunks gets the Sun's units, as `pays` of crates/journal/src/range.rt decides: from a table of all times,
-/// or chunk by chunk, as the range is too short for a table or there are too many times. The answer must not tell; the comparisons count that they
+/// or chunk by chunk, as the range is too short for a table or there are too many times. The answer must be the same; the comparisons count that they
 /// saw each.
 #[derive(Clone, Copy, PartialEq, Debug)]
 pub enum Units {

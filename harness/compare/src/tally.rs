@@ -148,7 +148,7 @@ impl Tally {
         }
         false
     }
-    /// A difference that docs/DIFFERENCES.md lists: (ours, the original's) as it says.
+    /// A difference that docs/DIFFERENCES.md lists: (ours, the original's) as given there.
     pub fn known<T: PartialEq + Debug>(&mut self, what: &'static str, found: (Answer<Vec<T>>, Vec<T>), listed: (Answer<Vec<T>>, Vec<T>)) {
         let k = self.kinds.entry(what).or_default();
         k.answers += 1;

@@ -17,7 +17,7 @@
 //! | 2 | the word at which they begin, 100 |
 //! | 3 | probes |
 //! | 4 up to 4 + cells | the mask |
-//! | 4 + cells up to 100 | 7 each: what the program's words are past a line's last, and its lent mask of 96 places before a call |
+//! | 4 + cells up to 100 | 7 each: what the program's words are past a line's last, and its mask of 96 bytes before a call |
 //! | 100 up to 100 + rolls | the rolls' bits, in their order |
 use cases::catalogue::{beside, positions};
 use cases::plans::{self, for_roll, for_rolls, for_sweep, plan, roll, samples, Entries, Targets, SPREADS};
@@ -56,7 +56,7 @@ const SECONDS: u64 = 17; // the seconds
 const VECTORS: u64 = 18; // x, y, z of each position
 const TABLE: u64 = 19; // how many rolls, the word at which they begin: probes, mask; see above
 
-/// The program's lent mask begins with word 4 and has 96 places.
+/// The program's mask begins with word 4 and has 96 bytes.
 const TABLE_BEGINS: usize = 100;
 /// The program's `UNWRITTEN`.
 const UNWRITTEN: u64 = 7;
