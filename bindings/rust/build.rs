@@ -1,4 +1,4 @@
-//! Links libwilfnusk.a, which `rt staticlib wilfnusk` writes to target/staticlib of the repository.
+//! Links libwilfnusk.a, which `tools/library` puts into target/staticlib of the repository.
 //! WILFNUSK_LIB_DIR names another folder.
 use std::{env, path::PathBuf, process::exit};
 
@@ -9,7 +9,10 @@ fn main() {
         .unwrap_or_else(|_| PathBuf::from(env::var("CARGO_MANIFEST_DIR").unwrap()).join("../../target/staticlib"));
     let archive = dir.join("libwilfnusk.a");
     if !archive.exists() {
-        eprintln!("{} is not there: run `rt staticlib wilfnusk` in the repository, or set WILFNUSK_LIB_DIR", archive.display());
+        eprintln!(
+            "{} is not there: run `tools/library` in the repository, or set WILFNUSK_LIB_DIR to the archive's folder",
+            archive.display()
+        );
         exit(1);
     }
     println!("cargo:rerun-if-changed={}", archive.display());

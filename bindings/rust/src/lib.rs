@@ -1,7 +1,7 @@
 //! Solar roll, windows and the sweep journal for Rust: slices in, `Result` out.
 //!
-//! Every answer is the proved library's own: this crate only passes slices on. A refused call leaves everything
-//! that it was lent unchanged and gives a [`Refusal`] with the number of the reason and its sentence.
+//! Every answer comes from the proved library: this crate only passes slices on. A refused call writes nothing and gives a
+//! [`Refusal`] with the reason, its number and its sentence.
 //! A call needs up to 448 KiB of stack.
 //!
 //! ```
@@ -32,14 +32,14 @@ pub const LINE_BYTES: u64 = 33;
 /// Cells of a chunk; the last chunk may have fewer.
 pub const CHUNK_CELLS: u64 = 64;
 
-/// A plan, borrowed. Three numbers a direction or position, flat.
+/// A plan, borrowed. Directions and positions are flat lists, three numbers each.
 #[derive(Clone, Copy, Debug)]
 pub struct Plan<'a> {
     /// Unit vectors: the squared length of each is within 1e-9 of 1.
     pub targets: &'a [f64],
     pub suns: &'a [f64],
     pub observers: &'a [f64],
-    /// In degrees, one a target.
+    /// In degrees, one per target.
     pub tolerances: &'a [f64],
     /// The configured roll.
     pub roll_deg: Option<f64>,
@@ -129,7 +129,7 @@ impl Plan<'_> {
     pub fn in_constraint_batch(&self, mask: &mut [u8]) -> Result<(), Refusal> {
         with_plan!(self, Masks, wilfnusk_in_constraint_batch, mask.as_mut_ptr(), mask.len()).map(drop)
     }
-    /// The mask at this roll, or at the configured one where it stands in its place.
+    /// The mask at this roll, or at the configured one where that replaces it.
     pub fn in_constraint_batch_at_roll(&self, roll: Roll, mask: &mut [u8]) -> Result<(), Refusal> {
         let (fixed, degrees) = match roll {
             Roll::Sweep(r) => (0, r),
@@ -137,7 +137,7 @@ impl Plan<'_> {
         };
         with_plan!(self, Masks, wilfnusk_in_constraint_batch_at_roll, fixed, degrees, mask.as_mut_ptr(), mask.len()).map(drop)
     }
-    /// The mask by the distance to the nearest of n even steps. At rounding it is not always the sweep's.
+    /// The mask by the distance to the nearest of n even steps. Where rounding decides, it is not always the sweep's mask.
     pub fn constrained_at_every_roll(&self, n: u64, mask: &mut [u8]) -> Result<(), Refusal> {
         with_plan!(self, Masks, wilfnusk_constrained_at_every_roll, n, mask.as_mut_ptr(), mask.len()).map(drop)
     }
@@ -266,7 +266,7 @@ pub fn cell(target: [f64; 3], sun: [f64; 3], observer: [f64; 3], panel_normal: [
     accepted(Call::Cell, answer).map(|at| if at == 0 { OptimalRoll::Free } else { OptimalRoll::At(roll) })
 }
 
-/// Writes the unit vector of each catalogue position, right ascension and declination in degrees: x, y, z a position. Places beyond stay.
+/// Writes the unit vector of each catalogue position, right ascension and declination in degrees: x, y, z for each. Elements beyond keep their values.
 /// No vector that it writes is refused as a target of a [`Plan`].
 ///
 /// ```
@@ -309,7 +309,7 @@ pub fn cost_into(targets: u64, times: u64, n: u64, out: &mut [u64]) -> Result<()
     accepted(Call::Cost, unsafe { sys::wilfnusk_cost(targets, times, n, out.as_mut_ptr(), out.len()) }).map(drop)
 }
 
-/// The lists into which a plan is written: 3 numbers a target, 3 a time twice, 1 a target, and 3. Places beyond stay.
+/// The lists into which a plan is written: 3 numbers per target, 3 per time, 3 per time, 1 per target, and 3. Elements beyond keep their values.
 #[derive(Debug)]
 pub struct PlanLists<'a> {
     pub target_numbers: &'a mut [f64],
@@ -345,11 +345,11 @@ macro_rules! write_plan {
     }};
 }
 
-/// Writes a plan of this size whose sweep tries the most rolls, every tolerance -1. Lend it without a configured roll.
+/// Writes a plan of this size whose sweep tries the most rolls, every tolerance -1. Pass it without a configured roll.
 pub fn costliest_plan(targets: u64, times: u64, n: u64, out: PlanLists) -> Result<(), Refusal> {
     write_plan!(wilfnusk_costliest_plan, targets, times, n, out)
 }
-/// Writes a plan of this size whose sweep tries the fewest rolls, every tolerance 180. Lend it without a configured roll.
+/// Writes a plan of this size whose sweep tries the fewest rolls, every tolerance 180. Pass it without a configured roll.
 pub fn cheapest_plan(targets: u64, times: u64, n: u64, out: PlanLists) -> Result<(), Refusal> {
     write_plan!(wilfnusk_cheapest_plan, targets, times, n, out)
 }
@@ -431,7 +431,7 @@ pub fn visibility_records(mask: &[u8], times: &[i64], out: &mut [Window]) -> Res
         sys::wilfnusk_visibility_records(mask.as_ptr(), mask.len(), times.as_ptr(), times.len(), out.as_mut_ptr(), out.len())
     })
 }
-/// Marks the samples whose times lie in a window. With repeated or reordered times this is not always the way back from a listing.
+/// Marks the samples whose times lie in a window. With repeated or reordered times this does not always give the listed mask back.
 pub fn expand(first_time: &[i64], last_time: &[i64], times: &[i64], mask: &mut [u8]) -> Result<(), Refusal> {
     accepted(Call::Expand, unsafe {
         sys::wilfnusk_expand(
@@ -447,7 +447,7 @@ pub fn expand(first_time: &[i64], last_time: &[i64], times: &[i64], mask: &mut [
     })
     .map(drop)
 }
-/// The windows' lengths in whole seconds, each cut off toward zero, summed.
+/// The windows' lengths in whole seconds, each truncated toward zero, summed.
 pub fn total_violation_duration(first_time: &[i64], last_time: &[i64]) -> Result<f64, Refusal> {
     let mut seconds = 0.0;
     accepted(Call::Seconds, unsafe {

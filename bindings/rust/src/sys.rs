@@ -1,7 +1,7 @@
 //! The C names as include/wilfnusk.h documents them.
 use std::os::raw::c_double;
 
-/// A window record, as the calls for records write it: 48 bytes, 8 a field.
+/// A window record, as the calls for records write it: 48 bytes, 8 per field.
 #[repr(C)]
 #[derive(Clone, Copy, Debug, Default, PartialEq)]
 pub struct Window {

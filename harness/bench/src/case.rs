@@ -9,7 +9,7 @@ pub trait Side {
     fn answer(&self) -> Vec<u8>;
 }
 
-/// A side whose run writes what it is lent.
+/// A side whose run writes into its arguments.
 struct Lent<B, R, U, A> {
     lent: B,
     run: R,
@@ -44,7 +44,7 @@ pub enum Limit {
     Ratio(f64),
     /// At most the first, and the second is aimed at.
     Aim(f64, f64),
-    /// Gigabytes a second, where a unit is a byte.
+    /// Gigabytes per second, where a unit is a byte.
     Rate(f64),
     /// A unit's time is at most so many times that of the named case, both on the library's side.
     Times(f64, &'static str),
@@ -56,7 +56,7 @@ pub struct Case {
     pub title: String,
     pub unit: &'static str,
     pub limit: Limit,
-    /// Its answer is a mask, whose share of marked cells is told.
+    /// Its answer is a mask, whose share of marked cells is reported.
     pub mask: bool,
     pub port: Box<dyn Side>,
     pub other: Option<Box<dyn Side>>,

@@ -60,7 +60,7 @@ pub fn right_check_case(name: &'static str, in_order: bool, limit: Limit) -> Cas
     }
 }
 
-/// Each cell's byte from its bit of the chunk's word, one store a byte.
+/// Each cell's byte from its bit of the chunk's word, one store per byte.
 #[inline(never)]
 fn write_bytes(words: &[u64], mask: &mut [u8]) {
     for (word, bytes) in words.iter().zip(mask.chunks_exact_mut(64)) {

@@ -81,7 +81,7 @@ extern "C" fn bench_measured(side: &mut Box<dyn Side>) {
     black_box(());
 }
 
-/// A unit's time; a byte's as bytes a second.
+/// A unit's time; a byte's as bytes per second.
 fn shown(unit: &str, seconds: f64) -> String {
     let ns = seconds * 1e9;
     match unit {

@@ -1,4 +1,4 @@
-//! Windows of a row, listed again and again into the same lent columns. A unit is a sample, which is a byte of the mask.
+//! Windows of a row, listed again and again into the same columns. A unit is a sample, which is a byte of the mask.
 use crate::case::{side, Case, Limit, Side};
 use crate::inputs;
 use checks::Lists;

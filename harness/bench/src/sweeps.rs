@@ -59,7 +59,7 @@ pub fn sweep_case(name: &'static str, (targets, times): (usize, usize), n: u64, 
     Case {
         name,
         title: format!("sweep, n = {n}, tolerance {tolerance_deg}"),
-        // One probe a cell: the first, which is the only one or violates nothing.
+        // One probe per cell: the first, which is the only one or violates nothing.
         unit: if n == 1 || tolerance_deg >= 180.0 { "cell" } else { "probe" },
         limit,
         mask: true,
@@ -68,7 +68,7 @@ pub fn sweep_case(name: &'static str, (targets, times): (usize, usize), n: u64, 
     }
 }
 
-/// A sweep over its even steps lent as a table, which is the same work, against the even steps themselves: both sides are the library's.
+/// A sweep over its even steps passed as a table, which is the same work, against the even steps themselves: both sides are the library's.
 pub fn table_case(name: &'static str, (targets, times): (usize, usize), n: u64, tolerance_deg: f64, limit: Limit) -> Case {
     let even = inputs::plan(targets, times, n, tolerance_deg);
     let table = Plan { rolls: Rolls::Table(even.all_rolls()), ..even.clone() };

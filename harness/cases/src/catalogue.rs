@@ -75,7 +75,7 @@ pub fn positions(s: &mut Seeded, count: usize) -> (Vec<f64>, Vec<f64>) {
     (0..count).map(|_| position(s)).unzip()
 }
 
-/// A plan with these targets. Now and then the Sun stands at one of them, opposite, or close by.
+/// A plan with these targets. Now and then the Sun is at one of them, opposite, or close by.
 pub fn plan(s: &mut Seeded, targets: Vec<f64>, times: usize) -> Plan {
     let mut p = plans::plan(s, Targets::Unit, 0, times);
     p.targets = targets;
@@ -149,7 +149,7 @@ mod tests {
     }
 
     #[test]
-    fn outside_is_outside() {
+    fn numbers_outside_the_ranges_are_no_positions() {
         assert!(RA.outside().iter().all(|&ra| !is_position(ra, 0.0)));
         assert!(DEC.outside().iter().all(|&dec| !is_position(0.0, dec)));
         assert_eq!(RA.outside()[..2], [-5e-324, 360.00000000000006]);

@@ -519,7 +519,7 @@ fn between_two(s: &mut Seeded, distance: impl Fn(&mut Seeded) -> f64) -> f64 {
 }
 
 /// How work over a range of so many chunks gets the Sun's units, as `pays` of crates/journal/src/range.rt decides: from a table of all times,
-/// or chunk by chunk, as the range is too short for a table or there are too many times. The answer must not tell; the comparisons count that they
+/// or chunk by chunk, as the range is too short for a table or there are too many times. The answer must be the same; the comparisons count that they
 /// saw each.
 #[derive(Clone, Copy, PartialEq, Debug)]
 pub enum Units {
@@ -550,7 +550,7 @@ mod tests {
     use model::roll::folded;
 
     #[test]
-    fn folding_to_the_bit() {
+    fn rolls_are_folded_to_the_bit() {
         for (roll, to) in FOLDED {
             let found = folded(roll);
             assert!(bits(found) == bits(to), "{roll:e} to {found:e} and not {to:e}");
@@ -590,7 +590,7 @@ mod tests {
     }
 
     #[test]
-    fn even_steps_lent_as_a_table_give_the_same_journal() {
+    fn even_steps_passed_as_a_table_give_the_same_journal() {
         let mut s = Seeded::new(2);
         for k in 0..300 {
             let mut p = plan(&mut s, Targets::Unit, 3, 30);

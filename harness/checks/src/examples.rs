@@ -47,7 +47,7 @@ pub enum Asked {
     SweptOver(&'static [f64], Option<f64>),
     /// That journal over this table.
     TableJournal(&'static [f64]),
-    /// What these targets, with this panel, are refused by, 0 for accepted: as a plan's, and where there is one as a cell's.
+    /// The number that refuses these targets with this panel, 0 for accepted: as a plan's, and where there is one as a cell's.
     Directions(&'static [[f64; 3]], [f64; 3]),
 }
 
@@ -203,7 +203,7 @@ pub const REQUEST_FIVE: [(Asked, &str); 12] = [
     (SweptOver(&[10.000000000000016, 79.99999999999996], None), "11 4"),
     // The number below 360.
     (SweptOver(&[100.0, 359.99999999999994], None), "00 3"),
-    // A configured roll stands for each.
+    // A configured roll replaces each.
     (SweptOver(&[0.0, 5.0, 7.0], Some(90.0)), "10 4"),
     (SweptOver(&[85.0], Some(f64::NAN)), "00 2"),
     (TableJournal(&[15.0, 80.0]), TABLE_JOURNAL),
@@ -224,7 +224,7 @@ pub const REQUEST_SEVEN: [(Asked, &str); 20] = [
     (Directions(&[[0.0, 0.0, 0.0]], PANEL), "20"),
     (Directions(&[[2.0, 0.0, 0.0]], PANEL), "5"),
     (Directions(&[[f64::NAN, 0.0, 1.0]], PANEL), "5"),
-    // The component that is too large stands in the second.
+    // The second has the component that is too large.
     (Directions(&[[0.5, 0.0, 0.0], [2.0, 0.0, 0.0]], PANEL), "5"),
     (Directions(&[[1.0, 0.0, 0.0], [0.0, 0.5, 0.0]], PANEL), "20"),
     // The last y beside 1 that is near enough to 0, and the next; the first x alone that is near enough to 1, and the one before,
@@ -235,7 +235,7 @@ pub const REQUEST_SEVEN: [(Asked, &str); 20] = [
     (Directions(&[[f64::from_bits(0x3fef_ffff_ffbb_47d0), 0.0, 0.0]], PANEL), "20"),
     // Summed from the right it would be 20.
     (Directions(&[SUMMED_FROM_THE_LEFT], PANEL), "0"),
-    // Six digits a number are too few.
+    // Six digits per number are too few.
     (Directions(&[[0.577350, 0.577350, 0.577350]], PANEL), "20"),
     (Directions(&[[0.5773502692, 0.5773502692, 0.5773502692]], PANEL), "0"),
     // Before the panel, and the panel after it.
@@ -246,7 +246,7 @@ pub const REQUEST_SEVEN: [(Asked, &str); 20] = [
 const SUMMED_FROM_THE_LEFT: [f64; 3] =
     [f64::from_bits(0x3fd8_b064_c87a_740b), f64::from_bits(0xbfed_58c3_fbb2_f6f8), f64::from_bits(0x3fb9_c6c7_cf2f_4894)];
 
-/// The examples' target and panel, with a Sun a time, seen from 0; n is 1.
+/// The examples' target and panel, with one Sun per time, seen from 0; n is 1.
 pub fn plan(suns: &[[f64; 3]], tolerance_deg: f64) -> Plan {
     Plan {
         targets: vec![1.0, 0.0, 0.0],
@@ -320,7 +320,7 @@ fn swept(calls: &dyn Calls, plan: &Plan) -> Answer<String> {
     Ok(format!("{} {sum}", marks(&mask)))
 }
 
-/// What an implementation says, as document 01 prints it.
+/// An implementation's answer, as document 01 prints it.
 pub fn answer(calls: &dyn Calls, asked: Asked) -> Answer<String> {
     Ok(match asked {
         Difference(a, b) => calls.difference(a, b).to_string(),
@@ -386,7 +386,7 @@ const SOURCES: [(&str, &[(Asked, &str)]); 6] = [
     ("request Seven", &REQUEST_SEVEN),
 ];
 
-/// Holds an implementation's answers against the printed ones: how many differ.
+/// Compares an implementation's answers with the printed ones: how many differ.
 pub fn run(who: &str, answer: impl Fn(Asked) -> Answer<String>) -> usize {
     let mut differ = 0;
     for (source, list) in SOURCES {

@@ -1,4 +1,4 @@
-//! The calls as one trait, so that the library and the plain model can be asked the same: `Library` calls the C names, `Model` is
+//! The calls as one trait, so that the library and the plain model can be called alike: `Library` calls the C names, `Model` is
 //! document 01, and document 02's requests One to Five and Seven, in plain Rust.
 pub mod examples;
 mod library;
@@ -12,7 +12,7 @@ use model::windows::Window;
 use model::{Answer, Optimal, Plan, Roll};
 use std::ops::Range;
 
-/// What `lent` lengths mean: the room of each output.
+/// `lent` is the length of each output.
 pub trait Calls {
     fn root(&self, x: f64) -> f64;
     fn arctangent(&self, y: f64, z: f64) -> f64;
@@ -35,7 +35,7 @@ pub trait Calls {
     /// The used length after it, of a journal all of whose bytes are used.
     fn recover(&self, plan: &Plan, journal: &[u8]) -> Answer<u64>;
     fn cost(&self, size: Size, lent: usize) -> Answer<Cost>;
-    /// The room of each list is in the order of `Size::places`.
+    /// The length of each list, in the order of `Size::places`.
     fn extreme_plan(&self, extreme: Extreme, size: Size, lent: [usize; 5]) -> Answer<Plan>;
     fn violation_windows(&self, mask: &[u8], times: &[i64], severities: &[f64], columns: [usize; 6]) -> Answer<Vec<Window>>;
     fn visibility_windows(&self, mask: &[u8], times: &[i64], columns: [usize; 6]) -> Answer<Vec<Window>>;
@@ -45,7 +45,7 @@ pub trait Calls {
     fn seconds(&self, first: &[i64], last: &[i64]) -> Answer<f64>;
 }
 
-/// The bits of a plan's lists in the order of `Size::places`: how often each triple comes, or each tolerance, and then the next. Nothing is left
+/// The bits of a plan's lists in the order of `Size::places`: how often each triple, or each tolerance, is repeated, and then the next. Nothing is left
 /// out, and a list that repeats itself is short in a message.
 pub fn runs(plan: &Plan) -> [Vec<(usize, Vec<u64>)>; 5] {
     let Plan { targets, suns, observers, tolerances, panels, .. } = plan;

@@ -1,5 +1,5 @@
-//! The library's calls. Every output is lent full of a pattern, and what a call should leave alone must still hold it afterwards:
-//! all of it where the call refuses, else the places beyond the answer.
+//! The library's calls. Every output is filled with a pattern before, and what a call should leave alone must still hold it afterwards:
+//! all of it where the call refuses, else the elements beyond the answer.
 use crate::Calls;
 use model::cost::{Cost, Extreme, Size};
 use model::plan::Rolls;
@@ -37,7 +37,7 @@ pub fn rolls(p: &Plan) -> wilfnusk::Rolls<'_> {
     }
 }
 
-/// Lends a list of `lent` patterns, and gives its first `written` places if the call is accepted.
+/// Passes a list of `lent` patterns, and gives its first `written` elements if the call is accepted.
 fn output<T: Copy + PartialEq>(
     lent: usize,
     pattern: T,
@@ -52,7 +52,7 @@ fn output<T: Copy + PartialEq>(
     answer.map(|()| out).map_err(|r| r.number())
 }
 
-/// Six columns to lend, full of patterns.
+/// Six columns, filled with patterns.
 pub struct Lists {
     pub first: Vec<u64>,
     pub last: Vec<u64>,
@@ -85,7 +85,7 @@ impl Lists {
     }
 }
 
-/// Lends six columns, and gives the windows that the call says it wrote.
+/// Passes six columns, and gives the windows that the call wrote by its answer.
 fn columns(lent: [usize; 6], call: impl FnOnce(Columns) -> Result<u64, Refusal>) -> Answer<Vec<Window>> {
     let mut lists = Lists::new(lent);
     let answer = call(lists.lend());
@@ -109,7 +109,7 @@ fn columns(lent: [usize; 6], call: impl FnOnce(Columns) -> Result<u64, Refusal>)
     answer.map(|n| (0..n as usize).map(window).collect()).map_err(|r| r.number())
 }
 
-/// Lends records, and gives the windows that the call says it wrote.
+/// Passes records, and gives the windows that the call wrote by its answer.
 fn records(lent: usize, call: impl FnOnce(&mut [wilfnusk::Window]) -> Result<u64, Refusal>) -> Answer<Vec<Window>> {
     let mut out = vec![RECORD; lent];
     let answer = call(&mut out);
@@ -151,7 +151,7 @@ fn written(
     Ok((journal, mask, sum))
 }
 
-/// Lends five lists, and gives the plan that was written into them.
+/// Passes five lists, and gives the plan that was written into them.
 fn written_plan(size: Size, lent: [usize; 5], call: impl FnOnce(u64, u64, u64, PlanLists) -> Result<(), Refusal>) -> Answer<Plan> {
     let mut lists = lent.map(|places| vec![FLOAT; places]);
     let [target_numbers, suns, observers, tolerances, panel] = &mut lists;
@@ -196,7 +196,7 @@ impl Calls for Library {
             Ok(OptimalRoll::At(roll)) => Ok(Optimal::At(roll)),
             Err(refusal) => Err(refusal.number()),
         };
-        // The lent roll, which the wrapper keeps to itself.
+        // The roll that the C name writes, which the wrapper keeps to itself.
         let ([a, b, c], [d, e, f], [g, h, i], [x, y, z]) = (target, sun, observer, panel);
         let mut roll = FLOAT;
         let number = unsafe { wilfnusk::sys::wilfnusk_cell(a, b, c, d, e, f, g, h, i, x, y, z, &mut roll) };
@@ -301,7 +301,7 @@ impl Calls for Library {
     }
     fn seconds(&self, first: &[i64], last: &[i64]) -> Answer<f64> {
         let answer = wilfnusk::total_violation_duration(first, last).map_err(|r| r.number());
-        // The lent number, which the wrapper keeps to itself.
+        // The number that the C name writes, which the wrapper keeps to itself.
         let mut seconds = FLOAT;
         let (a, b) = (first.as_ptr(), last.as_ptr());
         let number = unsafe { wilfnusk::sys::wilfnusk_total_violation_duration(a, first.len(), b, last.len(), &mut seconds) };

@@ -1,6 +1,6 @@
 //! Request Four. The original has no such call: what is compared with it is how often its sweep tries a roll. Both plans of every small
-//! shape are swept by both sides, into a journal that is written to a file and read back; and every random plan costs what its size
-//! foretells.
+//! shape are swept by both sides, into a journal that is written to a file and read back; and the journal and the probes of every random plan are those
+//! that follow from its size.
 use crate::plans::{lines, Original};
 use crate::tally::Tally;
 use cases::Seeded;
@@ -77,7 +77,7 @@ fn one(calls: &dyn Calls, t: &mut Tally, s: &mut Seeded, size: Size, folder: &Pa
             Extreme::Costliest => ("costliest plan, plain model", "most probes, the original's", "most probes, collected"),
             Extreme::Cheapest => ("cheapest plan, plain model", "fewest probes, the original's", "fewest probes, collected"),
         };
-        // Just long enough, or with places beyond.
+        // Just long enough, or longer.
         let room = size.places().map(|places| places as usize + s.index(3));
         let plan = calls.extreme_plan(extreme, size, room);
         let lists = |plan: &Answer<Plan>| plan.as_ref().map(runs).map_err(|&number| number);
@@ -113,7 +113,7 @@ fn one(calls: &dyn Calls, t: &mut Tally, s: &mut Seeded, size: Size, folder: &Pa
     }
 }
 
-/// A random plan's sweep: its journal is as long as foretold, and the original's probes lie from the fewest to the most.
+/// A random plan's sweep: its journal has the length computed beforehand, and the original's probes lie from the fewest to the most.
 pub fn of_sweep(calls: &dyn Calls, t: &mut Tally, p: &Plan, journal: &[u8], tried: u64) {
     let size = Size::of(p);
     let shown = || format!("{size:?} {p:?}");

@@ -19,7 +19,7 @@ fn as_it_is<A>(answer: impl Fn() -> A) -> A {
     without(&patch::ATAN2, || without(&patch::FOLD, || without(&patch::TRIG, answer)))
 }
 
-/// What it answers with one patch off, which is to tell that this patch removes the difference, and as it is.
+/// What it answers with one patch off, to show that this patch removes the difference, and as it is.
 fn original<A>(patch: &AtomicBool, answer: impl Fn() -> A) -> [A; 2] {
     let unpatched = || without(patch, &answer);
     [unpatched(), as_it_is(unpatched)]
@@ -135,7 +135,7 @@ fn unfolded(calls: &dyn Calls, t: &mut Tally) {
     }
 }
 
-/// The optimal roll is 90. The original has as many even steps; with the table lent it sweeps over tables that are refused here.
+/// The optimal roll is 90. The original has as many even steps; with the table it also sweeps over tables that are refused here.
 fn table(calls: &dyn Calls, t: &mut Tally) {
     let over = |table: &[f64]| Plan { rolls: Rolls::Table(table.to_vec()), ..plan([1.0, 0.0, 0.0], [0.0, 0.0, 1.0], 10.0, None) };
     let ours = |p: &Plan| calls.swept(p, &[0]).map(|(_, mask, probes)| vec![mask[0] as u64, probes]);

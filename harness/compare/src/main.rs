@@ -1,6 +1,6 @@
 //! Same inputs to the library and to the customer's Rust, every result compared.
 //!
-//! `compare [model] [FACTOR]`: FACTOR times as many inputs; `model` compares the plain model in the library's place.
+//! `compare [model] [FACTOR]`: FACTOR times as many inputs; `model` compares the plain model instead of the library.
 mod catalogue;
 mod cost;
 mod examples;

@@ -15,7 +15,7 @@ use oracle::Oracle;
 pub type Positions<'a> = (&'a [f64], &'a [f64]);
 
 /// The original, asked row by row, each with its own tolerance; and, where all rows have the same, by one evaluator too, as its users ask it, which
-/// goes through the original's own chunks of 65,536 cells and must say the same.
+/// goes through the original's own chunks of 65,536 cells and must give the same.
 pub struct Original<'a> {
     plan: &'a Plan,
     by_row: Oracle,
@@ -238,7 +238,7 @@ fn mixed_chunks(p: &Plan) -> u64 {
     (0..p.cells().div_ceil(64)).filter(mixed).count() as u64
 }
 
-/// The chunks in a random order: each line, the mask, the sum of probes, and that the plan's size foretold them. Where a chunk has several
+/// The chunks in a random order: each line, the mask, the sum of probes, and that they follow from the plan's size. Where a chunk has several
 /// tolerances, and over a table, the model's journal too.
 pub fn sweep(calls: &dyn Calls, t: &mut Tally, s: &mut Seeded, p: &Plan, swept: (Vec<u8>, Vec<u64>)) {
     let mut order: Vec<u64> = (0..p.cells().div_ceil(64) as u64).collect();
@@ -303,7 +303,7 @@ fn row(calls: &dyn Calls, t: &mut Tally, p: &Plan, o: &Original, i: usize, insta
         return;
     }
     let shown = || format!("target {i} {p:?}");
-    // Of the row's evaluator alone: it takes a call a sample, and asked twice would take half as long again as all else.
+    // Of the row's evaluator alone: it takes one call per sample, and asked twice would take half as long again as all else.
     let (mask, severities) = o.by_row.row(i);
     let (ours_mask, ours_severities) = match calls.evaluate(p, i as u64, times, times) {
         Ok((m, v)) => (Ok(m), Ok(v)),

@@ -40,7 +40,7 @@ pub fn run(calls: &dyn Calls, t: &mut Tally, factor: u64) {
     }
 }
 
-/// A sweep over a table, and over as many even steps: the same where the table has them, or where a configured roll stands for each.
+/// A sweep over a table, and over as many even steps: the same where the table has them, or where a configured roll replaces each.
 fn one(calls: &dyn Calls, t: &mut Tally, s: &mut Seeded, mut p: Plan, spread: Spread, length: usize, entries: Entries) {
     let instants = rows::times(s, p.times());
     let table = table(s, &p, spread, length);

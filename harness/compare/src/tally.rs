@@ -76,7 +76,7 @@ pub struct Tally {
     pub uncounted: bool,
 }
 
-/// A float stands for its bits, every NaN for one.
+/// A float is compared by its bits, every NaN being one.
 pub trait Shape {
     type Bits: PartialEq + Debug;
     fn shape(&self) -> Self::Bits;
@@ -148,7 +148,7 @@ impl Tally {
         }
         false
     }
-    /// A difference that docs/DIFFERENCES.md lists: (ours, the original's) as it says.
+    /// A difference that docs/DIFFERENCES.md lists: (ours, the original's) as given there.
     pub fn known<T: PartialEq + Debug>(&mut self, what: &'static str, found: (Answer<Vec<T>>, Vec<T>), listed: (Answer<Vec<T>>, Vec<T>)) {
         let k = self.kinds.entry(what).or_default();
         k.answers += 1;
@@ -179,7 +179,7 @@ impl Tally {
         }
         self.same(kind, ours, theirs, input)
     }
-    /// Counts the rows of a sweep's mask that tell one tolerance from another.
+    /// Counts the rows of a sweep's mask in which one tolerance differs from another.
     pub fn count_rows(&mut self, mask: &[u8], times: usize) {
         if times >= 10 {
             self.rows += (mask.len() / times) as u64;
@@ -246,7 +246,7 @@ impl Tally {
         let [fewest, between, most] = self.reached;
         println!("cost: of plans of two rolls or more, {fewest} have the fewest probes, {between} a number between, {most} the most");
     }
-    /// Prints the counts and what is demanded of them in vain; false where something differs or is so.
+    /// Prints the counts and each demand that they do not meet; false if there is one, or if something differs.
     fn table(&self, demanded: &[(bool, String)]) -> bool {
         let mut good = true;
         let mut fail = |text: &str| {
@@ -328,7 +328,7 @@ impl Tally {
         let mut demanded = self.of_plans();
         demanded.extend(self.of_ranges(20));
         demanded.extend(kinds.iter().map(|(count, what)| (*count >= 30, format!("fewer than 30 tables {what}"))));
-        // Else a library that tried even steps in the place of the table's rolls would not be seen.
+        // Else a library that tried even steps instead of the table's rolls would not be noticed.
         demanded.push((
             2 * self.other_marks >= self.could_differ,
             "fewer than half of the tables mark other cells than even steps do".to_string(),

@@ -156,14 +156,14 @@ mod tests {
 
     /// Each step rounded once; also where q stays at 4, far beyond a turn.
     #[test]
-    fn bits_of_some_angles() {
+    fn sines_and_cosines_of_some_angles_have_these_bits() {
         assert_eq!(of(0.1), [0x3fb9_8eae_cb8b_cb2c, 0x3fef_d712_f9a8_17c0]);
         assert_eq!(of(2.0), [0x3fed_18f6_ead1_b446, 0xbfda_a226_5753_7205]);
         assert_eq!(of(100.0), [0x43df_6321_475e_5394, 0x43b6_db18_9127_48a1]);
     }
 
     #[test]
-    fn near_the_true_ones_within_a_turn() {
+    fn sines_and_cosines_within_a_turn_are_near_the_c_librarys() {
         for k in -10_000..=10_000 {
             let r = k as f64 * (2.0 * P / 10_000.0);
             let (sine, cosine) = sin_cos(r);

@@ -13,7 +13,7 @@ pub fn radec_to_unit(ra: f64, dec: f64) -> [f64; 3] {
     [cd * cr, cd * sr, sd]
 }
 
-/// x, y and z, one position after the other. `lent`: the output's room.
+/// x, y and z, one position after the other. `lent`: the output's length.
 pub fn radec_to_unit_vectors_batch(ra: &[f64], dec: &[f64], lent: usize) -> Answer<Vec<f64>> {
     let positions = || ra.iter().copied().zip(dec.iter().copied());
     first(&[(ra.len() != dec.len(), 1), (positions().any(|(ra, dec)| !is_position(ra, dec)), 16), (lent / 3 < ra.len(), 7)])?;
@@ -26,7 +26,7 @@ mod tests {
     use crate::arithmetic::bits;
 
     #[test]
-    fn vectors_of_the_axes() {
+    fn vectors_along_the_axes_are_exact() {
         for (ra, dec, vector) in [
             (0.0, 0.0, [1.0, 0.0, 0.0]),
             (90.0, 0.0, [-0.0, 1.0, 0.0]),
@@ -44,7 +44,7 @@ mod tests {
     }
 
     #[test]
-    fn refusals_in_their_order() {
+    fn refusals_come_in_the_listed_order() {
         let list = |ra: &[f64], dec: &[f64], lent| radec_to_unit_vectors_batch(ra, dec, lent).map(|out| out.len());
         assert_eq!(list(&[], &[], 0), Ok(0));
         assert_eq!(list(&[10.0, 20.0], &[0.0, 5.0], 6), Ok(6));

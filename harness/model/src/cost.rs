@@ -38,13 +38,13 @@ impl Size {
     fn refusal(self, short: bool) -> Answer<()> {
         first(&[(too_many(self.targets, self.times), 2), (bad_samples(self.n), 3), (short, 7)])
     }
-    /// `lent`: the output's room.
+    /// `lent`: the output's length.
     pub fn cost(self, lent: usize) -> Answer<Cost> {
         self.refusal(lent < 3)?;
         let cells = self.targets * self.times;
         Ok(Cost { length: 107 + 33 * cells.div_ceil(64), fewest: cells, most: self.n * cells })
     }
-    /// `lent`: the room of each list, in the order of `places`.
+    /// `lent`: the length of each list, in the order of `places`.
     pub fn extreme_plan(self, extreme: Extreme, lent: [usize; 5]) -> Answer<Plan> {
         self.refusal(lent.iter().zip(self.places()).any(|(&lent, needed)| (lent as u128) < needed))?;
         let (targets, times) = (self.targets as usize, self.times as usize);
@@ -72,7 +72,7 @@ mod tests {
     const ROOM: [usize; 5] = [400; 5];
 
     #[test]
-    fn both_plans_cost_what_is_foretold() {
+    fn both_plans_try_as_many_rolls_as_computed_beforehand() {
         for (targets, times) in [(0, 0), (0, 3), (2, 0), (1, 1), (1, 63), (8, 8), (5, 13), (128, 1), (1, 129)] {
             for n in [1, 2, 7] {
                 let size = Size { targets, times, n };
@@ -87,7 +87,7 @@ mod tests {
     }
 
     #[test]
-    fn refusals_in_their_order() {
+    fn refusals_come_in_the_listed_order() {
         let said = |targets, times, n, lent: usize, lists| {
             let size = Size { targets, times, n };
             [size.cost(lent).err(), size.extreme_plan(Extreme::Costliest, lists).err(), size.extreme_plan(Extreme::Cheapest, lists).err()]

@@ -6,7 +6,7 @@ use crate::{first, Answer, Plan};
 pub const HEADER: usize = 107;
 pub const LINE: usize = 33;
 
-/// A plan, and what section 3 says of it, worked out once.
+/// A plan, and section 3's marks and probes of it, worked out once.
 pub struct Sweep {
     pub plan: Plan,
     pub header: Vec<u8>,
@@ -16,7 +16,7 @@ pub struct Sweep {
     pub probes: u64,
 }
 
-/// What a line says.
+/// What a line holds.
 struct Line {
     chunk: u64,
     mask: u64,

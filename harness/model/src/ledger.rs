@@ -46,7 +46,7 @@ pub struct Ledger<'a> {
     written: Written,
 }
 
-/// What an entry answers: nothing but its being accepted, the chunk at which a range stopped, or collect's mask and sum.
+/// What an entry answers: only that it is accepted, the chunk at which a range stopped, or collect's mask and sum.
 #[derive(Debug, PartialEq)]
 pub enum Said<'a> {
     Done,

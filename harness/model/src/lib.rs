@@ -1,7 +1,7 @@
 //! Document 01, and document 02's requests One to Five and Seven, in plain Rust: a second implementation, written from their text for comparing,
 //! not for speed.
 //!
-//! A refusal is its number; `Answer` is what a call says.
+//! A refusal is its number; `Answer` is what a call returns.
 pub mod arithmetic;
 pub mod catalogue;
 pub mod cost;

@@ -2,19 +2,19 @@
 use crate::{first, Answer};
 use std::fmt;
 
-/// Its lists are asked by row through `target`, `tolerance` and `panel`, its rolls by sample through `roll`, so that what a row or a sample has of
-/// them is said in one place.
+/// Its lists are read by row through `target`, `tolerance` and `panel`, its rolls by sample through `roll`, so that one place defines what a row or a
+/// sample has of them.
 #[derive(Clone, Debug, Default)]
 pub struct Plan {
-    /// Three numbers a direction or position.
+    /// Three numbers per direction or position.
     pub targets: Vec<f64>,
     pub suns: Vec<f64>,
     pub observers: Vec<f64>,
-    /// Degrees: one entry a target.
+    /// Degrees: one entry per target.
     pub tolerances: Vec<f64>,
     /// The configured roll.
     pub roll_deg: Option<f64>,
-    /// Three numbers a panel normal: one panel, for every row.
+    /// Three numbers per panel normal: one panel, for every row.
     pub panels: Vec<f64>,
     pub rolls: Rolls,
 }
@@ -55,7 +55,7 @@ impl fmt::Debug for Rolls {
     }
 }
 
-/// What a call asks in the place of refusal 3.
+/// The rolls that a call takes, and so which of the refusals 3, 18 and 19 it has.
 #[derive(Clone, Copy)]
 pub enum Third {
     /// It takes no rolls.
@@ -141,7 +141,7 @@ impl Plan {
     pub fn stepped(&self) -> Plan {
         Plan { rolls: Rolls::Even(self.n()), ..self.clone() }
     }
-    /// The rolls of all samples, to be lent as a table.
+    /// The rolls of all samples, as a table.
     pub fn all_rolls(&self) -> Vec<f64> {
         (0..self.n()).map(|k| self.roll(k)).collect()
     }
@@ -170,7 +170,7 @@ impl Plan {
         triple(&self.observers, time)
     }
 
-    /// 3, or 18 and 19 in its place.
+    /// 3, or 18 and 19 instead.
     fn third_refusal(&self, third: Third) -> Answer<()> {
         match (third, &self.rolls) {
             (Third::Nothing, _) => Ok(()),
@@ -210,7 +210,7 @@ mod tests {
     }
 
     #[test]
-    fn a_tolerance_a_target_or_17_straight_after_6() {
+    fn a_wrong_number_of_tolerances_is_refused_straight_after_6() {
         let good = accepted();
         assert_eq!(good.refusal(Third::Sweep, false), Ok(()));
         for length in [0, 1, 3, 6] {
@@ -229,14 +229,14 @@ mod tests {
     }
 
     #[test]
-    fn the_first_entry_is_the_header_s() {
+    fn the_header_holds_the_first_tolerance() {
         let mut p = Plan { tolerances: vec![-0.0, 7.0], ..Plan::default() };
         assert_eq!(p.head_tolerance().to_bits(), 1 << 63);
         p.tolerances.clear();
         assert_eq!(p.head_tolerance().to_bits(), 0);
     }
     #[test]
-    fn eighteen_and_nineteen_stand_where_3_does() {
+    fn a_table_is_refused_with_18_or_19_where_even_steps_are_with_3() {
         for (table, number) in [(vec![], 18), (vec![f64::NAN; 3601], 18), (vec![5.0, 5.0], 19), (vec![f64::NAN], 19)] {
             let p = Plan { rolls: Rolls::Table(table), ..accepted() };
             let after: [fn(&mut Plan); 5] =

@@ -203,7 +203,7 @@ mod tests {
 
     /// Two targets that are the same direction, the Sun in the east and then in the north: optimal rolls of 0 and 90.
     #[test]
-    fn each_row_has_its_own_entry() {
+    fn each_row_uses_its_own_tolerance() {
         let mut p = Plan {
             targets: [1.0, 0.0, 0.0].repeat(2),
             suns: vec![0.0, 1.0, 0.0, 0.0, 0.0, 1.0],
@@ -243,7 +243,7 @@ mod tests {
             assert_eq!(p.sweep(), [swept], "{table:?}");
             assert_eq!(format!("{:?}", p.rolls), format!("a table of {} {table:?}", table.len()));
         }
-        // A configured roll stands for each.
+        // A configured roll replaces each.
         p.roll_deg = Some(0.0);
         p.rolls = Rolls::Table(vec![10.0, 90.0]);
         assert_eq!(p.sweep(), [(true, 2)]);

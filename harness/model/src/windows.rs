@@ -65,7 +65,7 @@ fn before(mask: &[u8], times: &[i64], differ: bool, bad_severity: bool, columns:
     ])
 }
 
-/// `_get_constraint_vec`: where the times never fall, windows that ended are passed once and for all; else each sample looks through the
+/// `_get_constraint_vec`: where the times never fall, windows that ended are not looked at again; else each sample looks through the
 /// windows up to the first that starts later.
 pub fn expand(first_times: &[i64], last_times: &[i64], times: &[i64], lent: usize) -> Answer<Vec<u8>> {
     first(&[

@@ -79,7 +79,7 @@ fn equal_tolerances(plan: &Plan) -> bool {
     plan.tolerances.iter().all(|&x| bits(x) == bits(plan.head_tolerance()))
 }
 
-/// A plan row by row: an evaluator a row, with that row's target, tolerance and panel; or one evaluator for all, where the rows have one tolerance.
+/// A plan row by row: one evaluator per row, with that row's target, tolerance and panel; or one evaluator for all, where the rows have one tolerance.
 /// Answers are joined in the order of the rows.
 pub struct Oracle(Vec<Whole>);
 
@@ -89,7 +89,7 @@ impl Oracle {
         let row = |i| Whole::of(plan, i..i + 1, (plan.tolerance(i), plan.panel(i)), ephemeris.clone(), table.clone());
         Oracle((0..plan.rows()).map(row).collect())
     }
-    /// The same with its targets told by their catalogue positions, of which the original makes the vectors itself. Both fields of regard are
+    /// The same with its targets given by their catalogue positions, of which the original makes the vectors itself. Both fields of regard are
     /// still handed the plan's vectors.
     pub fn at_positions(self, (ra, dec): (&[f64], &[f64])) -> Oracle {
         let mut first = 0;
@@ -197,7 +197,7 @@ impl Whole {
     fn targets(&self) -> Array2<f64> {
         array(&self.vectors.concat())
     }
-    /// What the original answers, told its targets as they are to be told.
+    /// What the original answers, its targets given as vectors or as catalogue positions.
     fn told<A>(&self, answer: impl FnOnce() -> A) -> A {
         if self.degrees {
             return patch::without(&patch::VECTORS, answer);
@@ -217,7 +217,7 @@ impl Whole {
         };
         self.told(|| self.evaluator.in_constraint_batch_at_roll(&*self.ephemeris, &self.ras, &self.decs, None, roll).unwrap())
     }
-    /// `sweep_chunks` from a mask all true, and the cells tried, counted once a roll and prepared chunk.
+    /// `sweep_chunks` from a mask all true, and the cells tried, counted once per roll and prepared chunk.
     pub fn swept_array(&self) -> (Array2<bool>, u64) {
         let mut mask = Array2::from_elem((self.vectors.len(), self.times), true);
         let tried = Rc::new(Cell::new(0));
@@ -312,7 +312,7 @@ pub fn units(ra: &[f64], dec: &[f64], out: &mut [[f64; 3]]) {
     })
 }
 
-/// Of vector_math.rs, as the original hands it over: a row a position.
+/// Of vector_math.rs, as the original hands it over: one row per position.
 pub fn radec_to_unit_vectors_batch(ra: &[f64], dec: &[f64]) -> Array2<f64> {
     patch::without(&patch::VECTORS, || vector_math::radec_to_unit_vectors_batch(ra, dec))
 }
@@ -341,7 +341,7 @@ impl Row {
     }
 }
 
-/// `track_violations`: once with the times, and once with sample numbers in their place.
+/// `track_violations`: once with the times, and once with sample numbers instead.
 pub fn violation_windows(mask: &[u8], severities: &[f64], times: &[i64]) -> Vec<Window> {
     let numbers: Vec<i64> = (0..times.len() as i64).collect();
     let (list, numbered) = (tracked(mask, severities, times), tracked(mask, severities, &numbers));
@@ -398,7 +398,7 @@ fn moving(mask: &[u8], times: &[i64]) -> Vec<(i64, i64)> {
     ends(result.visibility(Python::shim()).unwrap())
 }
 
-/// `MovingBodyResult`'s visibility getter: once with the times, and once with sample numbers, in microseconds, in their place.
+/// `MovingBodyResult`'s visibility getter: once with the times, and once with sample numbers, in microseconds, instead.
 pub fn visibility_windows(mask: &[u8], times: &[i64]) -> Vec<Window> {
     let numbers: Vec<i64> = (0..times.len() as i64).map(|k| k * 1000).collect();
     let (list, numbered) = (moving(mask, times), moving(mask, &numbers));

@@ -1,4 +1,4 @@
-//! What stands in the originals' places after the patches. Each patch has a switch: off, the original runs as it was.
+//! What replaces the originals after the patches. Each patch has a switch: off, the original runs as it was.
 use chrono::{DateTime, Utc};
 use ndarray::Array2;
 use std::cell::{Cell, RefCell};
@@ -11,7 +11,7 @@ pub static ATAN2: AtomicBool = AtomicBool::new(true);
 pub static FOLD: AtomicBool = AtomicBool::new(true);
 /// Document 02's sine and cosine instead of the C library's.
 pub static TRIG: AtomicBool = AtomicBool::new(true);
-/// A lent table's rolls instead of even steps.
+/// A table's rolls instead of even steps.
 pub static TABLE: AtomicBool = AtomicBool::new(true);
 /// Vectors handed over instead of right ascension and declination.
 pub static VECTORS: AtomicBool = AtomicBool::new(true);
@@ -58,7 +58,7 @@ pub fn vectors(ras: &[f64]) -> Option<Array2<f64>> {
     Some(Array2::from_shape_fn((list.len(), 3), |(i, j)| list[i][j]))
 }
 
-/// The answer with this table lent, if any, and taken back afterwards.
+/// The answer with this table, if any, in force; afterwards there is none.
 pub fn with_table<A>(table: Option<&Rc<[f64]>>, answer: impl FnOnce() -> A) -> A {
     let before = ROLLS.replace(table.cloned());
     let a = answer();
@@ -66,7 +66,7 @@ pub fn with_table<A>(table: Option<&Rc<[f64]>>, answer: impl FnOnce() -> A) -> A
     a
 }
 
-/// The roll of a step of `sweep`: the lent table's, and with none lent what the original works out.
+/// The roll of a step of `sweep`: the table's, and without a table what the original works out.
 pub fn sample(step: usize, even: impl FnOnce() -> f64) -> f64 {
     if !TABLE.load(Relaxed) {
         return even();
@@ -97,7 +97,7 @@ pub fn fold(roll: f64) -> f64 {
     }
 }
 
-/// What `solar_optimal_roll_deg` works out last, folded. It is one call in the place of the arctangent's, since with more in that function the
+/// What `solar_optimal_roll_deg` works out last, folded. It is one call instead of the arctangent's, since with more in that function the
 /// compiler leaves it out of the loop of `compute_named_values`: the original would take twice its time, and not by the folding.
 #[inline(never)]
 pub fn folded(roll: impl FnOnce() -> f64) -> f64 {

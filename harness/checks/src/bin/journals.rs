@@ -1,6 +1,6 @@
 //! Begin, work, work over a range, cut, recover and collect over random lists against section 4's ledger, and over damaged journals against
-//! its bytes, half of both by tables of rolls; what a list of tolerances, and a table, does to header and lines; and that a whole journal costs what
-//! its plan's size foretells.
+//! its bytes, half of both by tables of rolls; what a list of tolerances, and a table, does to header and lines; and that a whole journal has the
+//! length and the probes that follow from its plan's size.
 //! `journals [FACTOR]` multiplies the number of lists.
 use cases::{plans, Seeded};
 use checks::{lent, rolls, Calls, Model};
@@ -254,7 +254,7 @@ fn list(s: &mut Seeded, sweep: &Sweep, machine: &dyn Machine, t: &mut Tally) {
                 used
             }
         };
-        // What the call did not add stands: the bytes before, and beyond the new used length.
+        // What the call did not add is as it was: the bytes before, and beyond the new used length.
         let kept = (used as usize).min(file.len());
         t.same(&shown, &buffer[..kept], &file[..kept]);
         t.same(&shown, buffer[(used as usize).max(file.len())..].iter().all(|&b| b == FILL), true);
@@ -267,8 +267,8 @@ fn list(s: &mut Seeded, sweep: &Sweep, machine: &dyn Machine, t: &mut Tally) {
     }
 }
 
-/// A journal that can be collected, whatever was cut from it and recovered, is as long as its plan's size foretells, and its probes are
-/// within.
+/// A journal that can be collected, whatever was cut from it and recovered, has the length that follows from its plan's size, and its probes are
+/// within the bounds that do.
 fn foretold(machine: &dyn Machine, sweep: &Sweep, file: &[u8], probes: u64, t: &mut Tally, shown: &dyn Fn() -> String) {
     let cost = machine.cost(Size::of(&sweep.plan));
     t.same(shown, cost.map(|c| (c.length, (c.fewest..=c.most).contains(&probes))), Ok((file.len() as u64, true)));
@@ -310,7 +310,7 @@ fn damaged(s: &mut Seeded, sweep: &Sweep, other: &Sweep) -> Vec<u8> {
     j
 }
 
-/// The calls on bytes that nobody vouches for.
+/// The calls on bytes that no call wrote.
 fn on_damage(s: &mut Seeded, sweep: &Sweep, other: &Sweep, machine: &dyn Machine, t: &mut Tally) {
     let j = damaged(s, sweep, other);
     t.damaged += 1;
@@ -393,13 +393,13 @@ fn three_targets() -> Plan {
     }
 }
 
-/// Request Two's header and lines, where they can be told by hand.
+/// Request Two's header and lines, where they can be worked out by hand.
 fn tolerances(machine: &dyn Machine) {
     let plan = three_targets();
     let with = |list: &[f64]| Sweep::new(Plan { tolerances: list.to_vec(), ..plan.clone() }).expect("accepted");
     let field = |journal: &[u8]| String::from_utf8(journal[24..40].to_vec()).expect("text");
 
-    // Two lists that differ at target 1 alone: the header cannot tell them apart, lines and row 1 do.
+    // Two lists that differ at target 1 alone: the header is the same, lines and row 1 differ.
     let (narrow, wide) = (with(&[20.0, 5.0, 30.0]), with(&[20.0, 40.0, 30.0]));
     let (a, b) = (whole(machine, &narrow), whole(machine, &wide));
     assert_eq!(a.0[..HEADER], b.0[..HEADER], "one header");
@@ -437,7 +437,7 @@ fn tolerances(machine: &dyn Machine) {
     let no_times = Sweep::new(Plan { suns: vec![], observers: vec![], ..plan.clone() }).expect("accepted");
     assert_eq!(field(&whole(machine, &no_times).0), "4034000000000000");
 
-    // Document 01's example with a second target, the same direction, whose tolerance no cell is beyond.
+    // Document 01's example with a second target, the same direction, whose tolerance no cell exceeds.
     let example = Plan {
         targets: [1.0, 0.0, 0.0].repeat(2),
         suns: vec![0.0, 1.0, 0.0, 0.0, 0.0, 1.0],
@@ -452,7 +452,7 @@ fn tolerances(machine: &dyn Machine) {
     assert_eq!(String::from_utf8(journal).expect("text"), header + "00000000000000000000000200000004\n");
 }
 
-/// What request Five's header tells of a table, and what it does not.
+/// What request Five's header holds of a table, and what it does not.
 fn tables(machine: &dyn Machine) {
     let over = |rolls: Rolls| Sweep::new(Plan { rolls, ..three_targets() }).expect("accepted");
     let table = |list: &[f64]| over(Rolls::Table(list.to_vec()));
@@ -462,17 +462,17 @@ fn tables(machine: &dyn Machine) {
         assert_eq!(lent.header[16..24], *format!("{length:08x}").as_bytes(), "the header's n");
     }
 
-    // Two tables of one length: the header cannot tell them apart, both lines do.
+    // Two tables of one length: the header is the same, both lines differ.
     let (first, second) = (table(&[0.0, 20.0, 40.0]), table(&[50.0, 60.0, 70.0]));
     let (a, b) = (whole(machine, &first), whole(machine, &second));
     assert_eq!(a.0[..HEADER], b.0[..HEADER], "one header");
     assert!((0..2).all(|c| first.lines[c] != second.lines[c]), "other lines");
-    // Nor from as many even steps. Another length is another plan.
+    // The header is also that of as many even steps. Another length is another plan.
     let (even, longer) = (over(Rolls::Even(3)), table(&[0.0, 20.0, 40.0, 60.0]));
     let length = a.0.len() as u64;
     assert_eq!([&second, &even, &longer].map(|other| machine.recover(other, &a.0, length)), [Ok(length), Ok(length), Err(11)]);
 
-    // So a sweep that was cut off and is resumed with the other one is accepted, and ends as none does that is lent one table.
+    // So a sweep that was cut off and is resumed with the other one is accepted, and ends as no sweep with one table does.
     let mut file = a.0[..HEADER + LINE + 7].to_vec();
     let used = machine.recover(&second, &file, file.len() as u64).expect("nothing in it tells the table");
     assert_eq!(used, (HEADER + LINE) as u64);
@@ -532,7 +532,7 @@ fn main() {
          {other} of {tables} sweeps with cells have other lines than over as many even steps",
         b.lists, b.ranges, b.cuts, b.collected, b.resumed, b.damaged
     );
-    // Else even steps in the place of a table's rolls would not be seen.
+    // Else even steps instead of a table's rolls would not be noticed.
     let tables_tell = 5 * b.lists >= 2 * t.lists && b.resumed >= 1_000 && 3 * other >= tables;
     let enough = t.lists >= 100_000 && t.range_cuts >= 5_000 && t.range_lines.iter().all(|&lines| lines >= 5_000);
     if t.differ > 0 || !enough || !tables_tell {

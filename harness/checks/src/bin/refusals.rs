@@ -1,5 +1,5 @@
-//! What each call says no to, and in which order: faulty inputs, often several faults at once, against the plain model. That a refused call
-//! changes nothing, and an accepted one nothing beyond its answer, is looked at in every call.
+//! What each call refuses, and in which order: faulty inputs, often several faults at once, compared with the plain model. Every call is checked to
+//! change nothing if it refuses, and nothing beyond its answer if it accepts.
 //! `refusals [FACTOR]` multiplies the number of inputs.
 use cases::catalogue::{positions, DEC, RA};
 use cases::{plans, rows, Seeded};
@@ -252,7 +252,7 @@ fn with_plan(t: &mut Tally, p: &Plan, sweep: Option<&Sweep>, b: &Beside) -> [u8;
 
 fn of_plans(s: &mut Seeded, t: &mut Tally) {
     let (good, p) = faulty(s);
-    // A plan that is refused is lent the good plan's journal.
+    // A plan that is refused is passed with the good plan's journal.
     let sweep = Sweep::new(p.clone()).or_else(|_| Sweep::new(good)).expect("accepted");
     let roll = plans::roll(s, &p);
     let (file, used) = some_journal(s, &sweep);
@@ -300,7 +300,7 @@ fn some_journal(s: &mut Seeded, sweep: &Sweep) -> (Vec<u8>, u64) {
 fn journal(t: &mut Tally, p: &Plan, sweep: Option<&Sweep>, b: &Beside, shown: &dyn Fn() -> String) -> [u8; 5] {
     let Beside { file, used, chunks, mask, .. } = b;
     let (used, chunk, number) = (*used, chunks.start, |r: wilfnusk::Refusal| r.number());
-    // What the model says, once the plan is accepted.
+    // What the model answers, once the plan is accepted.
     let refusal = p.refusal(Third::Sweep, used > file.len() as u64);
     let theirs = refusal.map(|()| sweep.unwrap_or_else(|| panic!("the model accepts {}", shown())));
     let (l, rolls) = (lent(p), rolls(p));
@@ -426,12 +426,12 @@ fn spoiled(p: &Plan, spoil: fn(&mut Plan)) -> Plan {
 /// The numbers that a plan is refused by, in the order in which they are tried.
 const IN_ORDER: [u8; 10] = [1, 2, 3, 18, 19, 4, 5, 20, 6, 17];
 
-/// What a call with this list of numbers says to two faults of a plan: that of the first, of those that it lists.
+/// What a call with this list of numbers answers to two faults of a plan: the number of the first of those that it lists.
 fn first_of((_, listed): &Listed, faults: [u8; 2]) -> u8 {
     *IN_ORDER.iter().find(|n| faults.contains(n) && listed.contains(n)).expect("a number that the call lists")
 }
 
-/// What the calls with a plan take in the place of 3, and what makes them refuse it.
+/// The rolls that the calls with a plan take, and what makes them refuse these.
 fn of_both_rolls() -> [(Rolls, &'static [Fault]); 2] {
     [
         (Rolls::Even(3), &[(3, |p| p.rolls = Rolls::Even(3601))]),
@@ -442,7 +442,7 @@ fn of_both_rolls() -> [(Rolls, &'static [Fault]); 2] {
     ]
 }
 
-/// By even steps and by a table: with a list of tolerances that is not one a target each call says 17 to all of its own reasons, and what comes
+/// By even steps and by a table: with a list of tolerances that is too short or too long each call answers 17 before all of its own reasons, and what comes
 /// before 17 before it.
 fn of_tolerances(t: &mut Tally) {
     for (rolls, faults_of_rolls) in of_both_rolls() {
@@ -485,7 +485,7 @@ fn of_tolerances(t: &mut Tally) {
     }
 }
 
-/// Request Seven's targets, each beside one that is accepted, before it and behind it, in every call that is lent targets: by even steps and by a
+/// Request Seven's targets, each beside one that is accepted, before it and behind it, in every call that takes targets: by even steps and by a
 /// table, beside all of the call's own reasons and each other fault of the plan.
 fn of_directions(t: &mut Tally) {
     const GOOD: [f64; 3] = [0.0, 0.6, -0.8];
@@ -504,7 +504,7 @@ fn of_directions(t: &mut Tally) {
                 let p = Plan { targets: pair.concat(), panels: panel.to_vec(), ..good.clone() };
                 let sweep = Sweep::new(p.clone());
                 assert_eq!(sweep.as_ref().err().copied().unwrap_or(0), number, "{pair:?}");
-                // A plan that is refused is lent the good plan's journal.
+                // A plan that is refused is passed with the good plan's journal.
                 let own = own_reasons(sweep.as_ref().unwrap_or(&Sweep::new(good.clone()).expect("accepted")));
                 for b in &own {
                     let said = with_plan(t, &p, sweep.as_ref().ok(), b);
@@ -520,7 +520,7 @@ fn of_directions(t: &mut Tally) {
     }
 }
 
-/// One target among as many as a plan can have is looked at like any other, wherever it stands: 5 and 20.
+/// One target among as many as a plan can have is checked like any other, wherever it is: 5 and 20.
 fn of_many_directions(t: &mut Tally) {
     const ROWS: usize = 65_536;
     for (rolls, _) in of_both_rolls() {
@@ -702,7 +702,7 @@ const OVER: [(u64, u64); 25] = [
     (1, u64::MAX / 3 + 1),
 ];
 
-/// What cost and both plans say to a size, lent so much: 0 for accepted.
+/// What cost and both plans answer to a size, with outputs of these lengths: 0 for accepted.
 fn of_size(t: &mut Tally, (targets, times): (u64, u64), n: u64, places: usize, lists: [usize; 5]) -> [u8; 3] {
     let size = Size { targets, times, n };
     let shown = || format!("{size:?} {places} {lists:?}");
@@ -716,7 +716,7 @@ fn of_size(t: &mut Tally, (targets, times): (u64, u64), n: u64, places: usize, l
     ]
 }
 
-/// Room for a plan of this size, each list of at most so many places.
+/// Lists for a plan of this size, each of at most so many elements.
 fn room_for((targets, times): (u64, u64), most: u128) -> [usize; 5] {
     Size { targets, times, n: 1 }.places().map(|places| places.min(most) as usize)
 }

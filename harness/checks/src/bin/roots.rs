@@ -166,7 +166,7 @@ fn turns(s: &mut Seeded, factor: u64) -> Tally {
     t
 }
 
-/// Nanoseconds a call: of blocks of inputs, each timed once, the quickest tenth, so that other work on the machine does not count.
+/// Nanoseconds per call: of blocks of inputs, each timed once, the quickest tenth, so that other work on the machine does not count.
 /// `wait`: each call waits for the result of the one before.
 fn time(inputs: &[f64], wait: bool, f: impl Fn(f64) -> f64) -> f64 {
     let mask = black_box(if wait { 0 } else { 1 });

@@ -1,12 +1,12 @@
-//! Writes a sample of the customer's Rust's answers for the program `replay`: one file a section of document 01, catalogue positions in a file of
-//! their own, and sweeps over tables of rolls in another. The seeds stand here, so every run writes the same files. At the repository's root, after
+//! Writes a sample of the customer's Rust's answers for the program `replay`: one file per section of document 01, catalogue positions in a file of
+//! their own, and sweeps over tables of rolls in another. The seeds are here, so every run writes the same files. At the repository's root, after
 //! `harness/run`, which builds it:
 //!
 //!     target/cargo/release/record crates/replay/data
 //!
 //! A line is words of hexadecimal digits, the first its kind. A line of kind 0 gives a plan, a row of samples or positions. Each other line
 //! asks about what was given last: two words of what is asked (0 where nothing is), then the Rust's answer up to the line's end. A float is
-//! its bits (every NaN 7ff8000000000000), a time its 64 bits, a mask a word a sample.
+//! its bits (every NaN 7ff8000000000000), a time its 64 bits, a mask one word per sample.
 //!
 //! A line of kind 19, `TABLE`, has its table behind the answer, by these words:
 //!
@@ -17,7 +17,7 @@
 //! | 2 | the word at which they begin, 100 |
 //! | 3 | probes |
 //! | 4 up to 4 + cells | the mask |
-//! | 4 + cells up to 100 | 7 each: what the program's words are past a line's last, and its lent mask of 96 places before a call |
+//! | 4 + cells up to 100 | 7 each: what the program's words are past a line's last, and its mask of 96 bytes before a call |
 //! | 100 up to 100 + rolls | the rolls' bits, in their order |
 use cases::catalogue::{beside, positions};
 use cases::plans::{self, for_roll, for_rolls, for_sweep, plan, roll, samples, Entries, Targets, SPREADS};
@@ -56,7 +56,7 @@ const SECONDS: u64 = 17; // the seconds
 const VECTORS: u64 = 18; // x, y, z of each position
 const TABLE: u64 = 19; // how many rolls, the word at which they begin: probes, mask; see above
 
-/// The program's lent mask begins with word 4 and has 96 places.
+/// The program's mask begins with word 4 and has 96 bytes.
 const TABLE_BEGINS: usize = 100;
 /// The program's `UNWRITTEN`.
 const UNWRITTEN: u64 = 7;
