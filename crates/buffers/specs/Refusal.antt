@@ -1,5 +1,5 @@
--- Refusals. A refusal is document 01's number, 0 for none: conditions are tried in order, and the first that holds gives it. What a call
--- answers and what it leaves follow from that number. Definitions only. Assumes nothing.
+-- Refusals. A refusal is a number, 0 for none: 1 to 15 are document 01's, 16 to 20 document 02's. Conditions are tried in order, and the first
+-- that holds gives it. What a call answers and what it leaves follow from that number. Definitions only. Assumes nothing.
 use mathlib.Core.Bool.{Bool, cond, not}
 use mathlib.Core.List.{List, [], _∷_}
 use Prim.Native.Nat.{ℕ, zero, suc}

@@ -2,7 +2,7 @@
 ghost use mathlib.Core.Path.{_≡_};
 ghost use Prim.Native.Nat.{min};
 
-// A number where the call was accepted, or document 01's number of the refusal.
+// A number where the call was accepted, or the number of the refusal: document 01's, or document 02's 16 to 20.
 pub enum Answer {
     Accepted(u64),
     Refused(u64),

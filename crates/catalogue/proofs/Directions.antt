@@ -13,9 +13,9 @@ use lib.ListN.{length, getD, take}
 use lib.Ieee.{Float, nan, inf, fin, up, down, neg, lt, le, eq, ofBits}
 use Rattle.buffers.specs.Ranges.{any, anyBelow, tab}
 use Rattle.buffers.specs.Lent.{filled}
-use Rattle.buffers.specs.Refusal.{unlessRefused}
 use Rattle.buffers.proofs.Ranges.{any-getD, any-tab, length-tab, getD-tab}
 use Rattle.buffers.proofs.Lent.{take-filled}
+use Rattle.buffers.proofs.Refusal.{written-none}
 use Rattle.buffers.proofs.Tests.{and-left, and-right}
 use Rattle.float.specs.Arithmetic.{zero·0, one, fullTurn}
 use Rattle.float.specs.Trigonometry.{sineOf, cosineOf, toRadians}
@@ -122,13 +122,21 @@ module _ (ras decs : List Float) (room : ℕ) (f : CatalogueFacts ras decs room)
   numbers-accepted : directionRefusal numbers ≡ 0
   numbers-accepted = direction-passes numbers numbers-small numbers-unit
 
-positions-accepted : (ras decs out : List Float) → catalogueRefusal ras decs (length out) ≡ 0 → directionRefusal (take (3 * length ras) (catalogueAfter ras decs out)) ≡ 0
-unfolding catalogueAfter unlessRefused numbers
-positions-accepted ras decs out h =
+-- what it leaves, cut to what was written
+left : (ras decs out : List Float) → catalogueRefusal ras decs (length out) ≡ 0 → take (3 * length ras) (catalogueAfter ras decs out) ≡ tab (3 * length ras) (catalogueNumber ras decs)
+unfolding catalogueAfter
+left ras decs out h =
     let n = 3 * length ras in
     let g = catalogueNumber ras decs in
-    let e : take n (unlessRefused (catalogueRefusal ras decs (length out)) (filled n g out) out) ≡ tab n g = ap (λ (k : ℕ). take n (unlessRefused k (filled n g out) out)) h ∙ take-filled g n out in
-    ap directionRefusal e ∙ numbers-accepted ras decs (length out) (catalogue-facts ras decs (length out) h)
+    ap (take n) (written-none _ (filled n g out) out h) ∙ take-filled g n out
+
+positions-accepted : (ras decs out : List Float) → catalogueRefusal ras decs (length out) ≡ 0 → directionRefusal (take (3 * length ras) (catalogueAfter ras decs out)) ≡ 0
+unfolding numbers
+positions-accepted ras decs out h = ap directionRefusal (left ras decs out h) ∙ numbers-accepted ras decs (length out) (catalogue-facts ras decs (length out) h)
 
 pub catalogue-accepted : CatalogueAccepted
-catalogue-accepted = record { position = position-accepted; positions = positions-accepted }
+catalogue-accepted = record {
+  position = position-accepted;
+  positions = positions-accepted;
+  numbers = λ ras decs out h. ap length (left ras decs out h) ∙ length-tab (3 * length ras) (catalogueNumber ras decs);
+}

@@ -62,8 +62,11 @@ unfoldable pub catalogueAfter : List Float → List Float → List Float → Lis
 catalogueAfter ras decs out = unlessRefused (catalogueRefusal ras decs (length out)) (filled (3 * length ras) (catalogueNumber ras decs) out) out
 
 -- "Vectors so made feed every call unchanged" (One): degrees that 16 accepts give a direction that neither 5 nor 20 refuses, nor do they refuse the
--- list that an accepted call leaves, lent as targets (`catalogue-accepted`, proofs/Directions)
+-- list that an accepted call leaves, lent as targets; it has three numbers per position, so 1 does not refuse it either (`catalogue-accepted`,
+-- proofs/Directions)
 pub record CatalogueAccepted : Type 0 where
   pub position : (ra dec : Float) → badRa ra ≡ false → badDec dec ≡ false → directionRefusal (radecToUnit ra dec) ≡ 0
   pub positions : (ras decs out : List Float) → catalogueRefusal ras decs (length out) ≡ 0
       → directionRefusal (take (3 * length ras) (catalogueAfter ras decs out)) ≡ 0
+  pub numbers : (ras decs out : List Float) → catalogueRefusal ras decs (length out) ≡ 0
+      → length (take (3 * length ras) (catalogueAfter ras decs out)) ≡ 3 * length ras

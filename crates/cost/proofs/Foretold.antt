@@ -1,17 +1,18 @@
--- Document 02's request Four: the count of every plan's sweep lies between the fewest probes and the most (`cost-bounds`; over any rolls `bounds-over`), and two plans
--- reach them (`costliest`, `cheapest`): those that the calls leave in the lists that they are lent (`costliest-written`, `cheapest-written`, by `lent-again`). Assumes
--- nothing.
+-- Document 02's request Four, of the numbers that an accepted call leaves: the count of every plan's sweep lies between the fewest probes and the most
+-- (`cost-bounds`; over any rolls `bounds-over`; the size of an accepted plan is accepted, `plan-size`), and two plans reach them (`costliest`, `cheapest`): those that
+-- the calls leave in the lists that they are lent (`costliest-written`, `cheapest-written`, by `lent-again`). Assumes nothing.
 use mathlib.Core.Path.{_≡_, refl, sym, ap, ap₂, _∙_, subst}
 use mathlib.Core.Bool.{true, false}
-use mathlib.Core.List.{List}
+use mathlib.Core.List.{List, [], _∷_}
 use Prim.Native.Nat.{ℕ, _+_, _*_, _/_, _%_, _≤_, _<_}
 use native.Mathlib.Nat.{mul-comm, one-mul, mul-le-mul-right, mod-lt, div-lt-iff-lt-mul}
 use native.Mathlib.Omega.{arith}
 use lib.Dec.{lit<}
 use lib.ListN.{length}
 use lib.Ieee.{Float, neg, add, sub, mul, le, lt, ofBits}
-use borrow.Author.Tests.{eq-eqb}
+use borrow.Author.Tests.{eq-eqb, le-ltb}
 use Rattle.buffers.specs.Ranges.{sum, any}
+use Rattle.buffers.specs.Lent.{over}
 use Rattle.buffers.specs.Refusal.{first, carried}
 use Rattle.buffers.proofs.Ranges.{sum-ext, sum-same, all-iff, all-zero}
 use Rattle.buffers.proofs.Refusal.{first-none, first-skip, carried-skip, written-none}
@@ -24,39 +25,76 @@ use Rattle.solar_roll.specs.Roll.{circularDiffDeg}
 use Rattle.solar_roll.specs.Cell.{violates, inForce, tooLarge, LIMIT, badPosition, badDirection, notUnit, directionRefusal, numbersRefusal}
 use Rattle.solar_roll.specs.Plan.{Plan, rowsOf, timesOf, rowDirection, rowPanel, rowConfig, sunAt, cellOf, violatesAt, unlikeLengths, tooMany, sizesRefusal, samplesRefusal, planRefusal}
 use Rattle.solar_roll.specs.declared.cell.CellRoll.the-variants.{At}
-use Rattle.solar_roll.proofs.PlanFacts.{Few, not-too-many, all-unit, nothing-said}
+use Rattle.solar_roll.proofs.PlanFacts.{Few, not-too-many, all-unit, plan-facts}
 use Rattle.solar_roll.proofs.Examples as roll-examples
 use Rattle.roll_sweep.specs.Sweep.{Sweep, cells, tried, cellProbes, sweepProbes}
 use Rattle.roll_sweep.specs.Rolls.{evenRoll, evenRolls}
-use Rattle.roll_sweep.proofs.ChunkFacts.{samples-within}
 use Rattle.roll_sweep.proofs.Even.{length-even, even-at}
 use Rattle.roll_sweep.proofs.Tried.{tried-all, tried-at, probes-bounds}
 use Rattle.journal.specs.Plan.{sweepOf, evenSweep}
-use Rattle.cost.specs.Cost.{fewestProbes, mostProbes, sizeRefusal, planOfSize, costliestTolerance, cheapestTolerance, costliestPlan, cheapestPlan, PlanLists, planOver, writingRefusal, planWritten}
-use Rattle.cost.specs.Foretold.{Between, Reaches, planIn}
+use Rattle.cost.specs.Cost.{journalLength, fewestProbes, mostProbes, sizeRefusal, costRefusal, costAfter, planOfSize, costliestTolerance, cheapestTolerance, costliestPlan, cheapestPlan, PlanLists, planOver, writingRefusal, planWritten}
+use Rattle.cost.specs.Foretold.{lengthLeft, fewestLeft, mostLeft, Between, Reaches, planIn}
 use Rattle.cost.proofs.Facts.{SizeFacts, size-facts}
 use Rattle.cost.proofs.Repeated.{length-repeated, any-repeated, one-repeated, triple-repeated}
 use Rattle.cost.proofs.Samples.{even-arc}
 
+-- ---- what an accepted call leaves
+
+module _ (targets times n : ℕ) (out : List ℕ) (h : costRefusal targets times n (length out) ≡ 0) where
+  left-is : costAfter targets times n out ≡ over (journalLength targets times ∷ fewestProbes targets times ∷ mostProbes targets times n ∷ []) out
+  unfolding costAfter
+  left-is = written-none _ _ out h
+
+  pub length-is : lengthLeft targets times n out ≡ journalLength targets times
+  unfolding over
+  length-is = rw left-is refl
+
+  pub fewest-is : fewestLeft targets times n out ≡ fewestProbes targets times
+  unfolding over
+  fewest-is = rw left-is refl
+
+  pub most-is : mostLeft targets times n out ≡ mostProbes targets times n
+  unfolding over
+  most-is = rw left-is refl
+
+  -- its size is accepted, whatever the list's length
+  size-passed : sizeRefusal targets times n false ≡ 0
+  unfolding costRefusal
+  size-passed = sym (ap (sizeRefusal targets times n) (size-facts targets times n _ h .room)) ∙ h
+
+-- the size of an accepted plan is accepted, whatever was said in the place of 3, with n from 1 to 3,600 and room for three numbers
+pub plan-size : (p : Plan) (said n room : ℕ) → planRefusal p said false ≡ 0 → samplesRefusal n ≡ 0 → 3 ≤ room → costRefusal (rowsOf p) (timesOf p) n room ≡ 0
+unfolding costRefusal sizeRefusal
+plan-size p said n room h s l =
+    let f = plan-facts p said false h in
+    first-skip _ _ _ (not-too-many (record { few-rows = f .few-rows; few-times = f .few-times; few-cells = f .few-cells }))
+    ∙ carried-skip _ _ s
+    ∙ first-skip _ _ _ (le-ltb room 3 l)
+    ∙ first-none
+
 -- ---- every plan
 
--- over any list of one roll or more, whatever was said of it in the place of 3
-pub bounds-over : (p : Plan) (rolls : List Float) (said : ℕ) → 1 ≤ length rolls → Between (rowsOf p) (timesOf p) (length rolls) (sweepProbes (sweepOf p rolls said))
-unfolding sweepProbes cellProbes sweepOf
-bounds-over p rolls said h =
-    let s : Sweep = sweepOf p rolls said in
-    let b = probes-bounds (cells s) (length rolls) (s .violates) h in
-    record { at-least = least (cells s) (length rolls) _ _ h (b .0) (b .2); at-most = b .1 }
-  where
-    -- of w cells with m marked ones
-    least : (w n q m : ℕ) → 1 ≤ n → w + n * m ≤ q + m → m ≤ w → w ≤ q
-    least w n q m h b l = omega (arith, mul-le-mul-right m h)
+-- of w cells with m marked ones
+least : (w n q m : ℕ) → 1 ≤ n → w + n * m ≤ q + m → m ≤ w → w ≤ q
+least w n q m h b l = omega (arith, mul-le-mul-right m h)
 
-pub cost-bounds : (p : Plan) (n : ℕ) → planRefusal p (samplesRefusal n) false ≡ 0 → Between (rowsOf p) (timesOf p) n (sweepProbes (evenSweep p n))
-cost-bounds p n h =
-    let l = length-even n in
-    let s = samples-within n (nothing-said p (samplesRefusal n) false h) in
-    subst (λ (m : ℕ). Between (rowsOf p) (timesOf p) m (sweepProbes (evenSweep p n))) l (bounds-over p (evenRolls n) (samplesRefusal n) (omega (arith, l, s .0)))
+-- over any list of rolls, whatever was said of it in the place of 3
+pub bounds-over : (p : Plan) (rolls : List Float) (said : ℕ) (out : List ℕ) → costRefusal (rowsOf p) (timesOf p) (length rolls) (length out) ≡ 0
+    → Between (rowsOf p) (timesOf p) (length rolls) out (sweepProbes (sweepOf p rolls said))
+unfolding sweepProbes cellProbes sweepOf
+bounds-over p rolls said out h =
+    let s : Sweep = sweepOf p rolls said in
+    let one = size-facts _ _ _ _ (size-passed _ _ _ out h) .one in
+    let b = probes-bounds (cells s) (length rolls) (s .violates) one in
+    record {
+      at-least = rw (fewest-is _ _ _ out h) (least (cells s) (length rolls) _ _ one (b .0) (b .2));
+      at-most = rw (most-is _ _ _ out h) (b .1);
+    }
+
+pub cost-bounds : (p : Plan) (n : ℕ) (out : List ℕ) → costRefusal (rowsOf p) (timesOf p) n (length out) ≡ 0 → Between (rowsOf p) (timesOf p) n out (sweepProbes (evenSweep p n))
+cost-bounds p n out =
+    subst (λ (m : ℕ). costRefusal (rowsOf p) (timesOf p) m (length out) ≡ 0 → Between (rowsOf p) (timesOf p) m out (sweepProbes (evenSweep p n)))
+    (length-even n) (bounds-over p (evenRolls n) (samplesRefusal n) out)
 
 -- ---- the plan of a size
 
@@ -201,9 +239,9 @@ module _ (targets times n : ℕ) (h : sizeRefusal targets times n false ≡ 0) w
   unfolding lt neg ofBits
   below-arcs = refl
 
-  pub costliest : Reaches targets times n (costliestPlan targets times) (mostProbes targets times n)
+  reaches-most : Reaches targets times n (costliestPlan targets times) (mostProbes targets times n)
   unfolding ofBits
-  costliest = record {
+  reaches-most = record {
     of-targets = rows-of targets times costliestTolerance;
     of-times = times-of targets times costliestTolerance;
     accepted = passes targets times costliestTolerance (facts .few-of) (samplesRefusal n) (facts .samples);
@@ -211,13 +249,22 @@ module _ (targets times n : ℕ) (h : sizeRefusal targets times n false ≡ 0) w
   }
 
   -- an arc is 180 or less, so the tolerance is not below it
-  pub cheapest : Reaches targets times n (cheapestPlan targets times) (fewestProbes targets times)
-  cheapest = record {
+  reaches-fewest : Reaches targets times n (cheapestPlan targets times) (fewestProbes targets times)
+  reaches-fewest = record {
     of-targets = rows-of targets times cheapestTolerance;
     of-times = times-of targets times cheapestTolerance;
     accepted = passes targets times cheapestTolerance (facts .few-of) (samplesRefusal n) (facts .samples);
     count = λ said. one-tried targets times cheapestTolerance n said (facts .one) (not-above _ _ (even-arc n 0 (facts .one) (facts .most) (facts .one) .high));
   }
+
+-- ---- the numbers that they reach are the call's
+
+module _ (targets times n : ℕ) (out : List ℕ) (h : costRefusal targets times n (length out) ≡ 0) where
+  pub costliest : Reaches targets times n (costliestPlan targets times) (mostLeft targets times n out)
+  costliest = rw (most-is targets times n out h) (reaches-most targets times n (size-passed targets times n out h))
+
+  pub cheapest : Reaches targets times n (cheapestPlan targets times) (fewestLeft targets times n out)
+  cheapest = rw (fewest-is targets times n out h) (reaches-fewest targets times n (size-passed targets times n out h))
 
 -- ---- and as the calls leave them in lent lists
 
@@ -231,7 +278,7 @@ module _ (targets times n : ℕ) (l : PlanLists) (h : writingRefusal targets tim
   left tolerance = ap (planIn targets times) (written-none _ _ l h) ∙ lent-again targets times tolerance l
 
   pub costliest-written : Reaches targets times n (planIn targets times (planWritten targets times n costliestTolerance l)) (mostProbes targets times n)
-  costliest-written = subst (λ (p : Plan). Reaches targets times n p (mostProbes targets times n)) (sym (left costliestTolerance)) (costliest targets times n size-passes)
+  costliest-written = subst (λ (p : Plan). Reaches targets times n p (mostProbes targets times n)) (sym (left costliestTolerance)) (reaches-most targets times n size-passes)
 
   pub cheapest-written : Reaches targets times n (planIn targets times (planWritten targets times n cheapestTolerance l)) (fewestProbes targets times)
-  cheapest-written = subst (λ (p : Plan). Reaches targets times n p (fewestProbes targets times)) (sym (left cheapestTolerance)) (cheapest targets times n size-passes)
+  cheapest-written = subst (λ (p : Plan). Reaches targets times n p (fewestProbes targets times)) (sym (left cheapestTolerance)) (reaches-fewest targets times n size-passes)

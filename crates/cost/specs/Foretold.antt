@@ -2,19 +2,30 @@
 -- line (demand 3, ledger: specs/Demand3). The theorems are in proofs/Foretold. Definitions only. Assumes nothing.
 use mathlib.Core.Path.{_≡_}
 use mathlib.Core.Bool.{false}
+use mathlib.Core.List.{List}
 use Prim.Native.Nat.{ℕ, _*_, _≤_}
-use lib.ListN.{take}
+use lib.ListN.{getD, take}
 use Rattle.solar_roll.specs.declared.cell.ConfiguredRoll.the-variants.{None}
 use Rattle.solar_roll.specs.Plan.{Plan, planOf, rowsOf, timesOf, samplesRefusal, planRefusal}
 use Rattle.roll_sweep.specs.Sweep.{sweepProbes}
 use Rattle.roll_sweep.specs.Rolls.{evenRolls}
 use Rattle.journal.specs.Plan.{sweepOf}
-use Rattle.cost.specs.Cost.{fewestProbes, mostProbes, PlanLists}
+use Rattle.cost.specs.Cost.{costAfter, PlanLists}
 
--- "the fewest and most probes": a count q lies between them
-pub record Between (targets times n q : ℕ) : Type 0 where
-  pub at-least : fewestProbes targets times ≤ q
-  pub at-most : q ≤ mostProbes targets times n
+-- what the call leaves in the lent list: "the journal's exact length [..]; the fewest and most probes", an entry each, in this order
+abbrev pub lengthLeft : ℕ → ℕ → ℕ → List ℕ → ℕ
+lengthLeft targets times n out = getD (costAfter targets times n out) 0 0
+
+abbrev pub fewestLeft : ℕ → ℕ → ℕ → List ℕ → ℕ
+fewestLeft targets times n out = getD (costAfter targets times n out) 1 0
+
+abbrev pub mostLeft : ℕ → ℕ → ℕ → List ℕ → ℕ
+mostLeft targets times n out = getD (costAfter targets times n out) 2 0
+
+-- a count q lies from the fewest probes to the most, as the call left them
+pub record Between (targets times n : ℕ) (out : List ℕ) (q : ℕ) : Type 0 where
+  pub at-least : fewestLeft targets times n out ≤ q
+  pub at-most : q ≤ mostLeft targets times n out
 
 -- "a plan of that size that reaches" q probes
 pub record Reaches (targets times n : ℕ) (p : Plan) (q : ℕ) : Type 0 where

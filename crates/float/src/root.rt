@@ -223,7 +223,8 @@ pub fn sqrt(x: f64) -> f64
     }
 }
 
-// The square root of x, which is g if x lies from 1 to 2 and the guess is good. Nothing is asked of g.
+// The square root of x, which is g if x lies from 1 to 2 and the guess is good. Nothing is asked of g. This is a shortcut with `sqrt`'s own promise: where
+// `near` finds g, steps 2 and 3 would make g's digits, so g is the answer and `rounded` is not called; in every other case it is `sqrt`.
 pub(crate) fn checked_to_two(x: f64, g: f64) -> f64
     ensures { λ r. ⌜ r ≡ sqrtOf x ⌝ }
 {

@@ -1,23 +1,28 @@
 -- Document 02, Two: what a plan of one tolerance a target is to plans of one tolerance. Definitions only. Assumes nothing.
 use mathlib.Core.Path.{_≡_}
 use mathlib.Core.Bool.{Bool}
-use mathlib.Core.List.{[], _∷_}
-use Prim.Native.Nat.{ℕ, _<_}
-use lib.ListN.{length, getD}
-use lib.Ieee.{Float, nan}
+use mathlib.Core.List.{List, [], _∷_}
+use Prim.Native.Nat.{ℕ, _+_, _*_, _<_}
+use lib.ListN.{length}
+use lib.Ieee.{Float}
+use Rattle.buffers.specs.Ranges.{sum}
 use Rattle.buffers.specs.Refusal.{first, carried}
 use Rattle.solar_roll.specs.Cell.{numbersRefusal}
-use Rattle.solar_roll.specs.Plan.{Plan, planOf, rowsOf, timesOf, rowDirection, rowPanel, configOf, cellOf, headPanel, sizesRefusal, planRefusal}
+use Rattle.solar_roll.specs.Plan.{Plan, targetAlone, rowsOf, timesOf, rowPanel, configOf, cellOf, violatesAt, headPanel, sizesRefusal, planRefusal}
+use Rattle.roll_sweep.specs.Sweep.{marked, cellProbes, sweepProbes}
 use Rattle.journal.specs.Header.{settingsHeader, headerOf}
+use Rattle.journal.specs.Plan.{sweepOf}
 
--- the plan of row r's target alone, with the one tolerance of that target
-abbrev pub targetAlone : Plan → ℕ → Plan
-targetAlone p r = planOf (rowDirection (p .targets) r) (p .suns) (p .observers) (getD (p .tolerances) r nan ∷ []) (p .configured) (p .panels)
-
--- row r of a plan is the only row of that plan: each marking, severity and probe count is made of a row's settings and its cells
+-- "each marking, severity and probe count uses its target's entry": row r of a plan is the only row of the plan of its target alone (severities, and marks outside
+-- the sweep: solar_masks, specs/Tolerances)
 pub record TargetByTarget (p : Plan) (r : ℕ) : Type 0 where
   pub settings : configOf (targetAlone p r) 0 ≡ configOf p r
   pub cells : (j : ℕ) → cellOf (targetAlone p r) 0 j ≡ cellOf p r j
+  pub violated : (j : ℕ) (roll : Float) → violatesAt (targetAlone p r) 0 j roll ≡ violatesAt p r j roll
+  -- of the sweep over any rolls: whether the cell at time j is marked, and the row's share of probes
+  pub marks : (rolls : List Float) (said j : ℕ) → j < timesOf p → marked (sweepOf p rolls said) (r * timesOf p + j) ≡ marked (sweepOf (targetAlone p r) rolls said) j
+  pub probes : (rolls : List Float) (said : ℕ)
+      → sum (timesOf p) (λ j. cellProbes (sweepOf p rolls said) (r * timesOf p + j)) ≡ sweepProbes (sweepOf (targetAlone p r) rolls said)
 
 -- a plan whose targets all have the tolerance t is document 01's plan with the tolerance t
 pub record EqualTolerances (p : Plan) (t : Float) : Type 0 where

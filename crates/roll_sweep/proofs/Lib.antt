@@ -8,3 +8,4 @@ pub mod Swept
 pub mod Cells
 pub mod ChunkFacts
 pub mod Tables
+pub mod EvenTable

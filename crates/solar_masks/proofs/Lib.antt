@@ -5,3 +5,4 @@ pub mod Examples
 pub mod NamedValues
 pub mod Shared
 pub mod Tiles
+pub mod Tolerances

@@ -95,7 +95,7 @@ fn field_refusal(
     if room < rows { 7 } else { 0 }
 }
 
-// The rows that every one of n even samples violates at a time.
+// The rows whose optimal roll at a time is further from every multiple of 360 / n than the tolerance; with a configured roll, those that it violates.
 // Refuses 1, 2, 3, 4, 5, 20, 6, 17 of the plan, then 9, 7 (specs/Field, `fieldRefusal`).
 pub fn field_of_regard_violated_batch(
     targets: &[f64],

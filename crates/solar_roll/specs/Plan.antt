@@ -95,6 +95,10 @@ headPanel p = triple (p .panels) 0
 unfoldable pub violatesAt : Plan → ℕ → ℕ → Float → Bool
 violatesAt p r j roll = violates (cellOf p r j) (inForce (Sweep roll) (p .configured)) (configOf p r .«tolerance_deg»)
 
+-- the plan of row r's target alone, with the one tolerance of that target (document 02, Two)
+abbrev pub targetAlone : Plan → ℕ → Plan
+targetAlone p r = planOf (directionOf p r) (p .suns) (p .observers) (getD (p .tolerances) r nan ∷ []) (p .configured) (p .panels)
+
 -- ---- the refusals
 
 -- the largest plan: rows, times and cells

@@ -9,7 +9,7 @@ use Rattle.solar_roll.specs.declared.cell.CellRoll.the-variants.{Free, At, Refu
 unfoldable pub minus : ℕ → ℕ
 minus k = (2 ^ 64 - k) % 2 ^ 64
 
--- 0 or more when accepted, minus document 01's number when refused
+-- 0 or more when accepted, minus the refusal's number (buffers: specs/Refusal) when refused
 unfoldable pub int64 : Reply ℕ → ℕ
 unfolding minus
 int64 (accepted n) = n
