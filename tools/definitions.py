@@ -246,10 +246,13 @@ class Library:
             text, bound = " ".join(built) + " " + text, set(left) - set(built) - set(kit)
         own, kit = {}, {}
         for name in free_names(text, bound):
+            module = file.imports.get(name, file.imports.get(f"_{name}_", ("", "")))[0]
             if d := self.within(file, name):
                 own[d] = None
-            elif module := file.imports.get(name, file.imports.get(f"_{name}_", ("", "")))[0]:
+            elif module:
                 kit[f"{module}.{name}"] = None
+            elif file.place.startswith("specs/") and name.partition(".")[0] not in file.aliases:
+                raise Unknown(f"{file.path}: {name} is neither bound nor defined nor brought in")
         return list(own), list(kit)
 
     def together(self, file, parts):
