@@ -30,33 +30,33 @@ abbrev ninety : CellRoll
 ninety = At (number 90)
 
 pub marks :
-    -- at the configured roll, 180: 90 away; without one nothing is marked, nor is a Free cell. A tolerance of 90 is met exactly
-    (markedBy ninety (atConfigured (Some (number 180))) (number 10) ≡ true) ×
-    (markedBy ninety (atConfigured (Some (number 180))) (number 90) ≡ false) ×
+    -- at the configured roll, 200: 110 away; without one nothing is marked, nor is a Free cell. A tolerance of 110 is met exactly
+    (markedBy ninety (atConfigured (Some (number 200))) (number 109) ≡ true) ×
+    (markedBy ninety (atConfigured (Some (number 200))) (number 110) ≡ false) ×
     (markedBy ninety (atConfigured None) (number 10) ≡ false) ×
-    (markedBy Free (atConfigured (Some (number 180))) (number 10) ≡ false) ×
+    (markedBy Free (atConfigured (Some (number 200))) (number 10) ≡ false) ×
     -- at the roll 95 that is asked for; a configured one overrides Sweep, never Fixed
     (markedBy ninety (atRoll (Sweep (number 95)) None) (number 10) ≡ false) ×
-    (markedBy ninety (atRoll (Sweep (number 95)) (Some (number 180))) (number 10) ≡ true) ×
-    (markedBy ninety (atRoll (Fixed (number 95)) (Some (number 180))) (number 10) ≡ false) ×
-    -- at every one of 3 rolls: 120 is 30 away; of 5: 72 is 18 away
-    (markedBy ninety (atEveryRoll 3 None) (number 29) ≡ true) ×
-    (markedBy ninety (atEveryRoll 3 None) (number 30) ≡ false) ×
-    (markedBy ninety (atEveryRoll 5 None) (number 17) ≡ true) ×
-    (markedBy ninety (atEveryRoll 5 None) (number 18) ≡ false) ×
-    (markedBy Free (atEveryRoll 3 None) (number 10) ≡ false) ×
+    (markedBy ninety (atRoll (Sweep (number 95)) (Some (number 200))) (number 109) ≡ true) ×
+    (markedBy ninety (atRoll (Fixed (number 95)) (Some (number 200))) (number 10) ≡ false) ×
+    -- at every one of 9 rolls: 80 is 10 away; of 15: 96 is 6 away
+    (markedBy ninety (atEveryRoll 9 None) (number 9) ≡ true) ×
+    (markedBy ninety (atEveryRoll 9 None) (number 10) ≡ false) ×
+    (markedBy ninety (atEveryRoll 15 None) (number 5) ≡ true) ×
+    (markedBy ninety (atEveryRoll 15 None) (number 6) ≡ false) ×
+    (markedBy Free (atEveryRoll 9 None) (number 1) ≡ false) ×
     -- 0 rolls mark nothing, and a configured roll is looked at before n
     (markedBy ninety (atEveryRoll 0 None) (number 10) ≡ false) ×
-    (markedBy ninety (atEveryRoll 0 (Some (number 180))) (number 10) ≡ true) ×
-    (markedBy ninety (atEveryRoll 3 (Some (number 95))) (number 10) ≡ false)
+    (markedBy ninety (atEveryRoll 0 (Some (number 200))) (number 109) ≡ true) ×
+    (markedBy ninety (atEveryRoll 9 (Some (number 95))) (number 9) ≡ false)
 unfolding markedBy atRoll atConfigured atEveryRoll missesSteps stepDistance sampleStep violates inForce circularDiffDeg remEuclid absOf add sub div rem neg lt ofInt ofBits
 marks = (refl, refl, refl, refl, refl, refl, refl, refl, refl, refl, refl, refl, refl, refl, refl)
 
--- by how much the roll 180 is too far; zero where it is not, of a Free cell, and without a configured roll
+-- by how much the roll 200 is too far; zero where it is not, of a Free cell, and without a configured roll
 pub severities :
-    (severity ninety (Some (number 180)) (number 10) ≡ number 80) ×
-    (severity ninety (Some (number 180)) (number 90) ≡ number 0) ×
-    (severity Free (Some (number 180)) (number 10) ≡ number 0) ×
+    (severity ninety (Some (number 200)) (number 10) ≡ number 100) ×
+    (severity ninety (Some (number 200)) (number 110) ≡ number 0) ×
+    (severity Free (Some (number 200)) (number 10) ≡ number 0) ×
     (severity ninety None (number 10) ≡ number 0)
 unfolding severity excess violates circularDiffDeg remEuclid absOf add sub rem neg lt ofInt ofBits
 severities = (refl, refl, refl, refl)
