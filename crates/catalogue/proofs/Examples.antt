@@ -1,13 +1,17 @@
--- Document 02's request One by computation: vectors on the axes, between them and elsewhere, and the sine and the cosine of 45 degrees, which are exactly P/4.
--- Assumes nothing.
+-- Document 02's request One by computation: vectors on the axes, between them and elsewhere, the sine and the cosine of 45 degrees, which are exactly P/4, and what is
+-- refused. Assumes nothing.
 use mathlib.Core.Path.{_≡_, refl}
+use mathlib.Core.Bool.{true, false}
+use mathlib.Core.List.{List, [], _∷_}
 use Prim.Native.Nat.{ℕ}
-use lib.Ieee.{Float, binary64, ofBits, neg, add, sub, mul, div, lt, round, ofInt}
+use lib.Ieee.{Float, nan, binary64, ofBits, neg, add, sub, mul, div, lt, le, round, ofInt}
+use Rattle.buffers.specs.Ranges.{any}
+use Rattle.buffers.specs.Refusal.{first, refused, accepted, reply}
 use Rattle.float.specs.Arithmetic.{absOf}
 use Rattle.float.specs.Series.{coefficient, horner}
 use Rattle.float.specs.Trigonometry.{factorial, sineDivisor, cosineDivisor, threshold, quadrantOf, sineAt, cosineAt, sinCosOf, sineOf, cosineOf, toRadians}
 use Rattle.solar_roll.specs.Vectors.{vector}
-use Rattle.catalogue.specs.Catalogue.{radecToUnit}
+use Rattle.catalogue.specs.Catalogue.{radecToUnit, outside, badRa, badDec, catalogueRefusal, catalogueReply}
 
 -- the number of a bit pattern
 abbrev f64 : ℕ → Float
@@ -45,3 +49,28 @@ vectors = (refl, refl, refl, refl, refl, refl, refl, refl, refl, refl, refl, ref
 pub at-45 : (sineOf (toRadians (f64 0x4046_8000_0000_0000)) ≡ f64 0x3fe6_a09e_667f_3bcc) × (cosineOf (toRadians (f64 0x4046_8000_0000_0000)) ≡ f64 0x3fe6_a09e_667f_3bcd)
 unfolding toRadians sineOf cosineOf sinCosOf sineAt cosineAt quadrantOf threshold horner coefficient sineDivisor cosineDivisor factorial absOf ofBits neg add sub mul div lt round ofInt
 at-45 = (refl, refl)
+
+-- 0 to 360 and -90 to 90, the ends allowed, and the floats beyond them; NaN
+pub ends :
+    (badRa (f64 0x8000_0000_0000_0000) ≡ false) ×
+    (badRa (f64 0x8000_0000_0000_0001) ≡ true) ×
+    (badRa (f64 0x4076_8000_0000_0000) ≡ false) ×
+    (badRa (f64 0x4076_8000_0000_0001) ≡ true) ×
+    (badRa nan ≡ true) ×
+    (badDec (f64 0xc056_8000_0000_0000) ≡ false) ×
+    (badDec (f64 0xc056_8000_0000_0001) ≡ true) ×
+    (badDec (f64 0x4056_8000_0000_0000) ≡ false) ×
+    (badDec (f64 0x4056_8000_0000_0001) ≡ true) ×
+    (badDec nan ≡ true)
+unfolding badRa badDec outside le neg ofBits
+ends = (refl, refl, refl, refl, refl, refl, refl, refl, refl, refl)
+
+-- 1 before 16, of the RAs or the Decs, before 7, fewer places than three per position
+pub answers :
+    (catalogueReply (nan ∷ []) [] 0 ≡ refused 1) ×
+    (catalogueReply (nan ∷ []) (f64 0 ∷ []) 0 ≡ refused 16) ×
+    (catalogueReply (f64 0 ∷ []) (nan ∷ []) 0 ≡ refused 16) ×
+    (catalogueReply (f64 0 ∷ []) (f64 0 ∷ []) 2 ≡ refused 7) ×
+    (catalogueReply (f64 0 ∷ []) (f64 0 ∷ []) 3 ≡ accepted 0)
+unfolding catalogueReply catalogueRefusal any badRa badDec outside first reply le neg ofBits
+answers = (refl, refl, refl, refl, refl)

@@ -72,6 +72,7 @@ fn write_units(ras: &[f64], decs: &[f64], out: &mut [f64])
 }
 
 // The unit vectors of all positions, one after the other: x, y, z a position.
+// Refuses 1, 16, 7 (specs/Catalogue, `catalogueRefusal`).
 pub fn radec_to_unit_vectors_batch(ras_deg: &[f64], decs_deg: &[f64], out: &mut [f64]) -> Answer
     ensures { λ r. ⌜ replyOf r ≡ catalogueReply (now («ras_deg» .entry)) (now («decs_deg» .entry)) (length (now (out .entry))) ⌝ }
     ensures { λ r. ⌜ now (out .exit) ≡ catalogueAfter (now («ras_deg» .entry)) (now («decs_deg» .entry)) (now (out .entry)) ⌝ }

@@ -30,6 +30,7 @@ fn size_refusal(targets: u64, times: u64, n: u64, short: bool) -> u64
 }
 
 // The journal's length, the fewest probes and the most, into the first three places.
+// Refuses 2, 3, 7 (specs/Cost, `costRefusal`).
 pub fn cost(targets: u64, times: u64, n: u64, out: &mut [u64]) -> Answer
     ensures { λ r. ⌜ replyOf r ≡ costReply targets times n (length (now (out .entry))) ⌝ }
     ensures { λ r. ⌜ now (out .exit) ≡ costAfter targets times n (now (out .entry)) ⌝ }
@@ -159,6 +160,7 @@ fn write_plan(
 }
 
 // Writes a plan of this size that reaches the most probes: every tolerance is -1.
+// Refuses 2, 3, 7 (specs/Cost, `writingRefusal`).
 pub fn costliest_plan(
     targets: u64,
     times: u64,
@@ -189,6 +191,7 @@ pub fn costliest_plan(
 }
 
 // Writes a plan of this size that reaches the fewest probes: every tolerance is 180.
+// Refuses 2, 3, 7 (specs/Cost, `writingRefusal`).
 pub fn cheapest_plan(
     targets: u64,
     times: u64,

@@ -1,4 +1,4 @@
--- Laws of the journal's text, of its lines, of the pass over them, of equal tolerances, and of tables of rolls.
+-- Laws of the journal's text, of its lines, of the pass over them, of equal tolerances, and of tables of rolls; and lines read back by computation (Examples).
 pub mod Text
 pub mod Write
 pub mod Possible
@@ -11,3 +11,4 @@ pub mod Along
 pub mod Planned
 pub mod Tolerances
 pub mod EvenTable
+pub mod Examples

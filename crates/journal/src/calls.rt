@@ -71,6 +71,7 @@ pub(crate) fn begin_samples(
 }
 
 // Makes the journal the header, and gives the used length.
+// Refuses 1, 2, 3, 4, 5, 20, 6, 17 of the plan, then 13, 7 (specs/Calls, `beginRefusal`).
 pub fn begin(
     targets: &[f64],
     suns: &[f64],
@@ -104,6 +105,7 @@ pub fn begin(
 }
 
 // Sweeps a chunk, appends its line, and gives the used length.
+// Refuses 1, 2, 3, 4, 5, 20, 6, 17 of the plan, then 9, 11, 12, 10, 7 (specs/Calls, `workRefusal`).
 pub fn work(
     targets: &[f64],
     suns: &[f64],
@@ -141,6 +143,7 @@ pub fn work(
 
 // Works of the chunks from, from + 1, .., up to the first that work refuses, or `to`, with one check of the journal at the start. Gives the used
 // length, and the chunk at which it stopped.
+// Refuses 1, 2, 3, 4, 5, 20, 6, 17 of the plan, then 9, 11, 12, 10, 7 (specs/Range, `rangeRefusal`).
 pub fn work_range(
     targets: &[f64],
     suns: &[f64],
@@ -218,6 +221,7 @@ pub(crate) fn recover_samples(
 }
 
 // Gives the used length that is left after a power failure.
+// Refuses 1, 2, 3, 4, 5, 20, 6, 17 of the plan, then 11 (specs/Calls, `recoverRefusal`).
 pub fn recover(
     targets: &[f64],
     suns: &[f64],
@@ -291,6 +295,7 @@ pub(crate) fn collect_samples(
 }
 
 // Writes the mask that the journal's lines hold, and gives the sum of their probes.
+// Refuses 1, 2, 3, 4, 5, 20, 6, 17 of the plan, then 11, 12, 15, 7 (specs/Calls, `collectRefusal`).
 pub fn collect(
     targets: &[f64],
     suns: &[f64],

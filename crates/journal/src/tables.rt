@@ -14,6 +14,8 @@ use buffers::Answer;
 use roll_sweep::table_refusal;
 use solar_roll::ConfiguredRoll;
 
+// As `begin`, over a lent table of rolls.
+// Refuses 1, 2, 18, 19, 4, 5, 20, 6, 17 of the plan, then 13, 7 (specs/Calls, `beginRefusal`).
 pub fn begin_rolls(
     targets: &[f64],
     suns: &[f64],
@@ -46,6 +48,8 @@ pub fn begin_rolls(
     )
 }
 
+// As `work`, over a lent table of rolls.
+// Refuses 1, 2, 18, 19, 4, 5, 20, 6, 17 of the plan, then 9, 11, 12, 10, 7 (specs/Calls, `workRefusal`).
 pub fn work_rolls(
     targets: &[f64],
     suns: &[f64],
@@ -83,6 +87,8 @@ pub fn work_rolls(
     )
 }
 
+// As `work_range`, over a lent table of rolls.
+// Refuses 1, 2, 18, 19, 4, 5, 20, 6, 17 of the plan, then 9, 11, 12, 10, 7 (specs/Range, `rangeRefusal`).
 pub fn work_range_rolls(
     targets: &[f64],
     suns: &[f64],
@@ -123,6 +129,8 @@ pub fn work_range_rolls(
     )
 }
 
+// As `recover`, over a lent table of rolls.
+// Refuses 1, 2, 18, 19, 4, 5, 20, 6, 17 of the plan, then 11 (specs/Calls, `recoverRefusal`).
 pub fn recover_rolls(
     targets: &[f64],
     suns: &[f64],
@@ -154,6 +162,8 @@ pub fn recover_rolls(
     )
 }
 
+// As `collect`, over a lent table of rolls.
+// Refuses 1, 2, 18, 19, 4, 5, 20, 6, 17 of the plan, then 11, 12, 15, 7 (specs/Calls, `collectRefusal`).
 pub fn collect_rolls(
     targets: &[f64],
     suns: &[f64],

@@ -222,6 +222,7 @@ fn chunk_refusal(rows: usize, times: usize, units: usize, samples: usize, chunk:
 
 // Sweeps a chunk: cells 64 · chunk to 64 · chunk + 63, the last chunk perhaps fewer. The Sun's unit of cell i is entry
 // i % L of the L units that are lent: those of all times, for chunk after chunk, or those of this chunk's cells.
+// Refuses 1, 2, 3, 9 (specs/Chunk, `chunkRefusal`).
 pub fn sweep_chunk(
     targets: &[f64],
     times: usize,

@@ -46,6 +46,7 @@ fn bad_roll(rolls: &[f64], k: usize) -> bool
 }
 
 // The number said of a table of rolls in the place of 3, 0 for none.
+// Refuses 18, 19 (specs/Rolls, `tableRefusal`).
 pub fn table_refusal(rolls: &[f64]) -> u64
     ensures { λ r. ⌜ r ≡ tableRefusal (now (rolls .entry)) ⌝ }
 {

@@ -96,6 +96,7 @@ fn field_refusal(
 }
 
 // The rows whose optimal roll at a time is further from every multiple of 360 / n than the tolerance; with a configured roll, those that it violates.
+// Refuses 1, 2, 3, 4, 5, 20, 6, 17 of the plan, then 9, 7 (specs/Field, `fieldRefusal`).
 pub fn field_of_regard_violated_batch(
     targets: &[f64],
     suns: &[f64],
@@ -145,6 +146,7 @@ pub fn field_of_regard_violated_batch(
 }
 
 // The rows violated at a time, at the configured roll, else at the roll that is handed in.
+// Refuses 1, 2, 4, 5, 20, 6, 17 of the plan, then 9, 7 (specs/Field, `fieldRefusal`).
 pub fn field_of_regard_violated_at_roll(
     targets: &[f64],
     suns: &[f64],

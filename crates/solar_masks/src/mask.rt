@@ -326,6 +326,7 @@ pub(crate) fn cells_refusal(
 }
 
 // The mask at the configured roll; without one nothing is marked.
+// Refuses 1, 2, 4, 5, 20, 6, 17 of the plan, then 7 (specs/Mask, `cellsRefusal`).
 pub fn in_constraint_batch(
     targets: &[f64],
     suns: &[f64],
@@ -370,6 +371,7 @@ pub fn in_constraint_batch(
 }
 
 // The mask at a roll.
+// Refuses 1, 2, 4, 5, 20, 6, 17 of the plan, then 7 (specs/Mask, `cellsRefusal`).
 pub fn in_constraint_batch_at_roll(
     targets: &[f64],
     suns: &[f64],
@@ -415,6 +417,7 @@ pub fn in_constraint_batch_at_roll(
 }
 
 // The cells that every one of n even samples violates, by their distance from the nearest sample.
+// Refuses 1, 2, 3, 4, 5, 20, 6, 17 of the plan, then 7 (specs/Mask, `cellsRefusal`).
 pub fn in_constraint_batch_constrained_at_every_roll(
     targets: &[f64],
     suns: &[f64],

@@ -160,6 +160,7 @@ fn row_refusal(
 }
 
 // A row's mask and severities at the configured roll; all zero without one.
+// Refuses 1, 2, 4, 5, 20, 6, 17 of the plan, then 9, 7 (specs/Row, `rowRefusal`).
 pub fn evaluate(
     targets: &[f64],
     suns: &[f64],

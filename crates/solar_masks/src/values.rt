@@ -101,6 +101,7 @@ fn write_values(
 }
 
 // The optimal roll of each cell.
+// Refuses 1, 2, 4, 5, 20, 6, 17 of the plan, then 7 (specs/Mask, `cellsRefusal`).
 pub fn named_values(
     targets: &[f64],
     suns: &[f64],

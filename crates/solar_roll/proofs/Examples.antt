@@ -1,20 +1,23 @@
 -- By computation. Document 02's request Three: folds at and beside the ends of a turn, document 01's cells, and cells whose roll is folded. Request
--- Seven: squared lengths at and beside the ends of the band, and what directions are refused by. Assumes nothing.
+-- Seven: squared lengths at and beside the ends of the band, and what directions are refused by. Sizes and numbers at and beside their limits, and the order in which a
+-- plan is refused. Assumes nothing.
 use mathlib.Core.Path.{_≡_, refl}
 use mathlib.Core.Bool.{true, false}
-use mathlib.Core.List.{[], _∷_, _++_}
+use mathlib.Core.List.{List, [], _∷_, _++_}
 use Prim.Native.Nat.{ℕ}
 use lib.Ieee.{Float, nan, binary64, ofBits, neg, add, sub, mul, div, rem, lt, le, eq, ofInt}
 use Rattle.float.specs.Root.{sqrtOf}
 use Rattle.buffers.specs.Ranges.{any, anyBelow}
-use Rattle.buffers.specs.Refusal.{first, carried}
+use Rattle.buffers.specs.Refusal.{first, carried, refused, accepted}
 use Rattle.float.specs.Arithmetic.{_⊖_, one, absOf, remEuclid, toDegrees, signBitOf, finite}
 use Rattle.float.specs.Series.{coefficient, horner}
 use Rattle.float.specs.Arctangent.{arctangent, quadrantAngle, ratio, turnedAngle, seriesAngle, halved}
 use Rattle.solar_roll.specs.Vectors.{Vector, vector, dot3, norm3, cross3, over3, normalize3, unwrapOr, triple}
 use Rattle.solar_roll.specs.Roll.{xHat, sunUnit, sunAlongBoresight, panelIsFree, rollIsUnconstrained, perpendicular, poleFallback, north, yAxis, panelAngle, foldedRoll, rollBetween, solarOptimalRollDeg}
-use Rattle.solar_roll.specs.Cell.{optimalRoll, tooLarge, badPosition, badDirection, UNIT_TOLERANCE, notUnit, anyNotUnit, directionRefusal, numbersRefusal}
-use Rattle.solar_roll.specs.declared.cell.CellRoll.the-variants.{At}
+use Rattle.solar_roll.specs.Cell.{optimalRoll, cellReply, tooLarge, badPosition, badDirection, UNIT_TOLERANCE, notUnit, anyNotUnit, directionRefusal, numbersRefusal}
+use Rattle.solar_roll.specs.Plan.{planOf, unlikeLengths, tooMany, samplesRefusal, samplesOrNoneRefusal, sizesRefusal, planRefusal}
+use Rattle.solar_roll.specs.declared.cell.CellRoll.the-variants.{Free, At, Refused}
+use Rattle.solar_roll.specs.declared.cell.ConfiguredRoll.the-variants.{None}
 
 -- the number of a bit pattern
 abbrev f64 : ℕ → Float
@@ -101,3 +104,63 @@ pub directions :
     (numbersRefusal half [] [] (nan ∷ []) ≡ 20)
 unfolding numbersRefusal directionRefusal first carried any anyBelow badPosition badDirection tooLarge anyNotUnit notUnit triple dot3 absOf add sub mul le ofBits
 directions = (refl, refl, refl, refl, refl, refl, refl, refl, refl, refl, refl, refl, refl, refl)
+
+-- ---- plans
+
+-- 1, of lengths that are no multiples of 3 or differ; 65,536 rows or times, and 1,048,576 cells, and one more; n at and beside the ends of 1 to 3,600
+pub sizes :
+    (unlikeLengths 3 6 6 ≡ false) ×
+    (unlikeLengths 4 6 6 ≡ true) ×
+    (unlikeLengths 3 7 7 ≡ true) ×
+    (unlikeLengths 3 6 9 ≡ true) ×
+    (tooMany 65536 16 ≡ false) ×
+    (tooMany 16 65536 ≡ false) ×
+    (tooMany 65537 0 ≡ true) ×
+    (tooMany 0 65537 ≡ true) ×
+    (tooMany 17 61681 ≡ true) ×
+    (samplesRefusal 0 ≡ 3) ×
+    (samplesRefusal 1 ≡ 0) ×
+    (samplesRefusal 3600 ≡ 0) ×
+    (samplesRefusal 3601 ≡ 3) ×
+    (samplesOrNoneRefusal 0 ≡ 0) ×
+    (samplesOrNoneRefusal 3600 ≡ 0) ×
+    (samplesOrNoneRefusal 3601 ≡ 3)
+unfolding unlikeLengths tooMany samplesRefusal samplesOrNoneRefusal
+sizes = (refl, refl, refl, refl, refl, refl, refl, refl, refl, refl, refl, refl, refl, refl, refl, refl)
+
+-- 1e100 and 1, and the floats beyond them, of either sign; NaN
+pub limits :
+    (badPosition (f64 0x54b2_49ad_2594_c37d ∷ f64 0xd4b2_49ad_2594_c37d ∷ []) ≡ false) ×
+    (badPosition (f64 0 ∷ f64 0x54b2_49ad_2594_c37e ∷ []) ≡ true) ×
+    (badPosition (f64 0xd4b2_49ad_2594_c37e ∷ f64 0 ∷ []) ≡ true) ×
+    (badPosition (nan ∷ []) ≡ true) ×
+    (badDirection (f64 0x3ff0_0000_0000_0000 ∷ f64 0xbff0_0000_0000_0000 ∷ []) ≡ false) ×
+    (badDirection (f64 0 ∷ f64 0x3ff0_0000_0000_0001 ∷ []) ≡ true) ×
+    (badDirection (nan ∷ []) ≡ true)
+unfolding badPosition badDirection any tooLarge absOf le ofBits
+limits = (refl, refl, refl, refl, refl, refl, refl)
+
+-- a position that is refused
+abbrev wild : Vector
+wild = vector nan nan nan
+
+-- in turn 1, a used length beyond its buffer too; 2; 3; 4, of the Sun or the observer; 5; 20; 6; 17
+pub order :
+    (planRefusal (planOf (f64 0 ∷ []) wild wild [] None wild) 3 false ≡ 1) ×
+    (planRefusal (planOf half wild wild [] None wild) 3 true ≡ 1) ×
+    (sizesRefusal 3 196611 196611 false ≡ 2) ×
+    (planRefusal (planOf wild wild wild [] None wild) 3 false ≡ 3) ×
+    (planRefusal (planOf wild xHat wild [] None wild) 0 false ≡ 4) ×
+    (planRefusal (planOf wild wild xHat [] None wild) 0 false ≡ 4) ×
+    (planRefusal (planOf wild xHat xHat [] None wild) 0 false ≡ 5) ×
+    (planRefusal (planOf half xHat xHat [] None wild) 0 false ≡ 20) ×
+    (planRefusal (planOf xHat xHat xHat [] None wild) 0 false ≡ 6) ×
+    (planRefusal (planOf xHat xHat xHat [] None xHat) 0 false ≡ 17) ×
+    (planRefusal (planOf xHat xHat xHat (nan ∷ []) None xHat) 0 false ≡ 0)
+unfolding planRefusal sizesRefusal unlikeLengths tooMany numbersRefusal directionRefusal first carried any anyBelow badPosition badDirection tooLarge anyNotUnit notUnit triple dot3 absOf add sub mul le ofBits
+order = (refl, refl, refl, refl, refl, refl, refl, refl, refl, refl, refl)
+
+-- the number and the value of each case of one cell's answer
+pub of-cell : (roll : Float) (k : ℕ) → (cellReply Free ≡ accepted Free) × (cellReply (At roll) ≡ accepted (At roll)) × (cellReply (Refused k) ≡ refused k)
+unfolding cellReply
+of-cell roll k = (refl, refl, refl)

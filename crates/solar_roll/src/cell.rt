@@ -166,6 +166,7 @@ fn directions_refusal(targets: &[f64]) -> u64
 }
 
 // The number of the refusal of one direction, 0 for none.
+// Refuses 5, 20 (specs/Cell, `directionRefusal`).
 pub fn direction_refusal(target: [f64; 3]) -> u64
     ensures { λ r. ⌜ r ≡ directionRefusal target ⌝ }
 {
@@ -195,6 +196,7 @@ pub(crate) fn numbers_refusal(
 }
 
 // The answer of one cell, given by its four triples.
+// Refuses 4, 5, 20, 6 (specs/Cell, `numbersRefusal`).
 pub fn cell_roll(
     target: [f64; 3],
     sun: [f64; 3],

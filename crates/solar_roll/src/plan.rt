@@ -144,6 +144,7 @@ fn sizes_refusal(targets: usize, suns: usize, observers: usize, beyond: bool) ->
 
 // The number of the plan's first refusal, 0 for none. `said` is the number said in the place of
 // 3, 0 for none.
+// Refuses 1, 2, `said`, 4, 5, 20, 6, 17 (specs/Plan, `planRefusal`).
 pub fn plan_refusal(
     targets: &[f64],
     suns: &[f64],

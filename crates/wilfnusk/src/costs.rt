@@ -5,6 +5,7 @@ ghost use lib.ListN.{length};
 ghost use Rattle.cost.specs.Cost.{costReply, costAfter, costliestTolerance, cheapestTolerance, PlanLists, planLists, writingReply, planWritten};
 ghost use Rattle.wilfnusk.specs.Answers.{int64};
 
+// Refuses 2, 3, 7 (cost: specs/Cost, `costRefusal`).
 #[no_mangle]
 pub extern "C" fn wilfnusk_cost(targets: u64, times: u64, n: u64, out: &mut [u64]) -> u64
     ensures { λ r. ⌜ r ≡ int64 (costReply targets times n (length (now (out .entry)))) ⌝ }
@@ -13,6 +14,7 @@ pub extern "C" fn wilfnusk_cost(targets: u64, times: u64, n: u64, out: &mut [u64
     int64(cost::cost(targets, times, n, out))
 }
 
+// Refuses 2, 3, 7 (cost: specs/Cost, `writingRefusal`).
 #[no_mangle]
 pub extern "C" fn wilfnusk_costliest_plan(
     targets: u64,
@@ -42,6 +44,7 @@ pub extern "C" fn wilfnusk_costliest_plan(
     ))
 }
 
+// Refuses 2, 3, 7 (cost: specs/Cost, `writingRefusal`).
 #[no_mangle]
 pub extern "C" fn wilfnusk_cheapest_plan(
     targets: u64,

@@ -10,6 +10,7 @@ ghost use Rattle.windows.specs.Calls.{violationReply, violationColumns, visibil
 ghost use Rattle.windows.specs.Windows.{Columns, columns};
 ghost use Rattle.wilfnusk.specs.Answers.{int64, numberAnswer, numberWritten};
 
+// Refuses 1, 2, 8, 14, 7 (windows: specs/Refusal, `violationRefusal`).
 #[no_mangle]
 pub extern "C" fn wilfnusk_violation_windows(
     mask: &[u8],
@@ -41,6 +42,7 @@ pub extern "C" fn wilfnusk_violation_windows(
     ))
 }
 
+// Refuses 1, 2, 8, 14, 7 (windows: specs/Refusal, `visibilityRefusal`).
 #[no_mangle]
 pub extern "C" fn wilfnusk_visibility_windows(
     mask: &[u8],
@@ -70,6 +72,7 @@ pub extern "C" fn wilfnusk_visibility_windows(
     ))
 }
 
+// Refuses 1, 2, 8, 7 (windows: specs/Expand, `expandRefusal`).
 #[no_mangle]
 pub extern "C" fn wilfnusk_expand(
     first_time: &[i64],
@@ -83,6 +86,7 @@ pub extern "C" fn wilfnusk_expand(
     int64(windows::expand(first_time, last_time, times, mask))
 }
 
+// Refuses 1, 2, 8 (windows: specs/Seconds, `durationRefusal`).
 #[no_mangle]
 pub extern "C" fn wilfnusk_total_violation_duration(
     first_time: &[i64],

@@ -12,6 +12,7 @@ ghost use Rattle.solar_roll.specs.declared.cell.EvaluationRoll.the-variants.{Sw
 ghost use Rattle.wilfnusk.specs.Answers.{int64};
 ghost use Rattle.wilfnusk.specs.Plans.{asked, lentPlan};
 
+// Refuses 1, 2, 4, 5, 20, 6, 17 of the plan, then 7 (solar_masks: specs/Mask, `cellsRefusal`).
 #[no_mangle]
 pub extern "C" fn wilfnusk_named_values(
     targets: &[f64],
@@ -44,6 +45,7 @@ pub extern "C" fn wilfnusk_named_values(
     ))
 }
 
+// Refuses 1, 2, 4, 5, 20, 6, 17 of the plan, then 7 (solar_masks: specs/Mask, `cellsRefusal`).
 #[no_mangle]
 pub extern "C" fn wilfnusk_in_constraint_batch(
     targets: &[f64],
@@ -75,6 +77,7 @@ pub extern "C" fn wilfnusk_in_constraint_batch(
     ))
 }
 
+// Refuses 1, 2, 4, 5, 20, 6, 17 of the plan, then 7 (solar_masks: specs/Mask, `cellsRefusal`).
 #[no_mangle]
 pub extern "C" fn wilfnusk_in_constraint_batch_at_roll(
     targets: &[f64],
@@ -110,6 +113,7 @@ pub extern "C" fn wilfnusk_in_constraint_batch_at_roll(
     ))
 }
 
+// Refuses 1, 2, 3, 4, 5, 20, 6, 17 of the plan, then 7 (solar_masks: specs/Mask, `cellsRefusal`).
 #[no_mangle]
 pub extern "C" fn wilfnusk_constrained_at_every_roll(
     targets: &[f64],
@@ -143,6 +147,7 @@ pub extern "C" fn wilfnusk_constrained_at_every_roll(
     ))
 }
 
+// Refuses 1, 2, 4, 5, 20, 6, 17 of the plan, then 9, 7 (solar_masks: specs/Row, `rowRefusal`).
 #[no_mangle]
 pub extern "C" fn wilfnusk_evaluate(
     targets: &[f64],
@@ -179,6 +184,7 @@ pub extern "C" fn wilfnusk_evaluate(
     ))
 }
 
+// Refuses 1, 2, 3, 4, 5, 20, 6, 17 of the plan, then 9, 7 (solar_masks: specs/Field, `fieldRefusal`).
 #[no_mangle]
 pub extern "C" fn wilfnusk_field_of_regard_violated_batch(
     targets: &[f64],
@@ -214,6 +220,7 @@ pub extern "C" fn wilfnusk_field_of_regard_violated_batch(
     ))
 }
 
+// Refuses 1, 2, 4, 5, 20, 6, 17 of the plan, then 9, 7 (solar_masks: specs/Field, `fieldRefusal`).
 #[no_mangle]
 pub extern "C" fn wilfnusk_field_of_regard_violated_at_roll(
     targets: &[f64],

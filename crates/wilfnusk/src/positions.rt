@@ -5,6 +5,7 @@ ghost use lib.ListN.{length};
 ghost use Rattle.catalogue.specs.Catalogue.{catalogueReply, catalogueAfter};
 ghost use Rattle.wilfnusk.specs.Answers.{int64};
 
+// Refuses 1, 16, 7 (catalogue: specs/Catalogue, `catalogueRefusal`).
 #[no_mangle]
 pub extern "C" fn wilfnusk_radec_to_unit_vectors_batch(
     ra: &[f64],

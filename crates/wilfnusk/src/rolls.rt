@@ -9,6 +9,7 @@ ghost use Rattle.solar_roll.specs.Roll.{sunUnit, InTurn};
 ghost use Rattle.solar_roll.specs.Cell.{numbersRefusal, optimalRoll};
 ghost use Rattle.wilfnusk.specs.Answers.{int64, cellAnswer, cellWritten};
 
+// Refuses 4, 5, 20, 6 (solar_roll: specs/Cell, `numbersRefusal`).
 #[no_mangle]
 pub extern "C" fn wilfnusk_cell(
     target_x: f64,

@@ -10,6 +10,7 @@ ghost use Rattle.journal.specs.Plan.{tableSweep};
 ghost use Rattle.wilfnusk.specs.Answers.{int64};
 ghost use Rattle.wilfnusk.specs.Plans.{lentPlan};
 
+// Refuses 1, 2, 18, 19, 4, 5, 20, 6, 17 of the plan, then 13, 7 (journal: specs/Calls, `beginRefusal`).
 #[no_mangle]
 pub extern "C" fn wilfnusk_begin_rolls(
     targets: &[f64],
@@ -46,6 +47,7 @@ pub extern "C" fn wilfnusk_begin_rolls(
     ))
 }
 
+// Refuses 1, 2, 18, 19, 4, 5, 20, 6, 17 of the plan, then 9, 11, 12, 10, 7 (journal: specs/Calls, `workRefusal`).
 #[no_mangle]
 pub extern "C" fn wilfnusk_work_rolls(
     targets: &[f64],
@@ -84,6 +86,7 @@ pub extern "C" fn wilfnusk_work_rolls(
     ))
 }
 
+// Refuses 1, 2, 18, 19, 4, 5, 20, 6, 17 of the plan, then 9, 11, 12, 10, 7 (journal: specs/Range, `rangeRefusal`).
 #[no_mangle]
 pub extern "C" fn wilfnusk_work_range_rolls(
     targets: &[f64],
@@ -127,6 +130,7 @@ pub extern "C" fn wilfnusk_work_range_rolls(
     ))
 }
 
+// Refuses 1, 2, 18, 19, 4, 5, 20, 6, 17 of the plan, then 11 (journal: specs/Calls, `recoverRefusal`).
 #[no_mangle]
 pub extern "C" fn wilfnusk_recover_rolls(
     targets: &[f64],
@@ -162,6 +166,7 @@ pub extern "C" fn wilfnusk_recover_rolls(
     ))
 }
 
+// Refuses 1, 2, 18, 19, 4, 5, 20, 6, 17 of the plan, then 11, 12, 15, 7 (journal: specs/Calls, `collectRefusal`).
 #[no_mangle]
 pub extern "C" fn wilfnusk_collect_rolls(
     targets: &[f64],

@@ -10,5 +10,6 @@ pub mod LentSlices
 pub mod StoredRecords
 pub mod Spread
 pub mod Durations
+pub mod Examples
 pub mod MaskBack
 pub mod Theorems

@@ -150,6 +150,7 @@ fn expand_refusal(first: &[i64], last: &[i64], times: &[i64], places: usize) -> 
 }
 
 // Writes a byte for each time: 1 where a window holds it, else 0. Accepts with 0.
+// Refuses 1, 2, 8, 7 (specs/Expand, `expandRefusal`).
 pub fn expand(first_time: &[i64], last_time: &[i64], times: &[i64], mask: &mut [u8]) -> Answer
     ensures answer { λ r. ⌜ replyOf r ≡ expandReply (now («first_time» .entry)) (now («last_time» .entry)) (now (times .entry)) (now (mask .entry)) ⌝ }
     ensures mask { λ _. ⌜ now (mask .exit) ≡ expandMask (now («first_time» .entry)) (now («last_time» .entry)) (now (times .entry)) (now (mask .entry)) ⌝ }

@@ -292,6 +292,7 @@ pub(crate) fn accepted_count(answer: Answer) -> usize
 }
 
 // The violation windows of a row: its maximal runs of marked samples. Answers how many there are.
+// Refuses 1, 2, 8, 14, 7 (specs/Refusal, `violationRefusal`).
 pub fn violation_windows(
     mask: &[u8],
     times: &[i64],
@@ -337,6 +338,7 @@ pub fn violation_windows(
 }
 
 // The visibility windows of a row: its maximal runs of clear samples that rule V keeps. Answers how many there are.
+// Refuses 1, 2, 8, 14, 7 (specs/Refusal, `visibilityRefusal`).
 pub fn visibility_windows(
     mask: &[u8],
     times: &[i64],

@@ -11,6 +11,7 @@ use crate::listings::visibility_window;
 use buffers::Answer;
 
 // The violation windows of a row, as records. Answers how many there are.
+// Refuses 1, 2, 8, 14, 7 (specs/Refusal, `violationRefusal`).
 pub fn violation_records(
     mask: &[u8],
     times: &[i64],
@@ -34,6 +35,7 @@ pub fn violation_records(
 }
 
 // The visibility windows of a row, as records. Answers how many there are.
+// Refuses 1, 2, 8, 14, 7 (specs/Refusal, `visibilityRefusal`).
 pub fn visibility_records(mask: &[u8], times: &[i64], out: &mut [Window]) -> Answer
     ensures { λ r. ⌜ (replyOf r ≡ visibilityRecordsReply (now (mask .entry)) (now (times .entry)) (now (out .entry)))
         × (now (out .exit) ≡ visibilityRecords (now (mask .entry)) (now (times .entry)) (now (out .entry))) ⌝ }

@@ -59,6 +59,7 @@ fn duration_refusal(first: &[i64], last: &[i64]) -> u64
 }
 
 // The total duration of the windows in seconds: the whole-number sum, as an f64.
+// Refuses 1, 2, 8 (specs/Seconds, `durationRefusal`).
 pub fn total_violation_duration(first_time: &[i64], last_time: &[i64]) -> Duration
     ensures { λ r. ⌜ replyOfDuration r ≡ durationReply (now («first_time» .entry)) (now («last_time» .entry)) ⌝ }
 {
