@@ -17,7 +17,7 @@ use std::{
 };
 
 /// The first line: this and the version.
-pub const TITLE: &str = "wilfnusk plan ";
+const TITLE: &str = "wilfnusk plan ";
 /// The version that is written. An older one shows that the lines rest on rolls that were not yet folded: it is known as a digest, and refused
 /// beside lines.
 const VERSION: u64 = 3;
@@ -117,6 +117,11 @@ impl Digest {
 fn version(line: &str) -> Option<u64> {
     let version = line.strip_prefix(TITLE)?.parse().ok()?;
     (line == format!("{}{}", TITLE, version)).then_some(version)
+}
+
+/// Whether a file begins as a digest does.
+pub fn begins_as_digest(head: &[u8]) -> bool {
+    head.starts_with(TITLE.as_bytes())
 }
 
 /// A file's name on one line of the digest.

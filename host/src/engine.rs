@@ -1,6 +1,6 @@
 //! The proved library as this program calls it. Every vector, line, mask and window comes from here, and nothing else calls it.
 use crate::{plan::Plan, tried::Rolls};
-use std::{ops::Range, slice};
+use std::ops::Range;
 pub use wilfnusk::{circular_diff_deg, cos, sin, Cost, Refusal, Roll, Window, CHUNK_CELLS, HEADER_BYTES, LINE_BYTES};
 use wilfnusk::{Columns, PlanLists};
 
@@ -225,7 +225,7 @@ fn listed(mask: &[u8], list: impl FnOnce(Columns) -> Result<u64, Refusal>) -> Re
 
 /// A window's length, cut to whole seconds, without a list of its own.
 pub fn seconds(first_time: i64, last_time: i64) -> Result<u64, Refusal> {
-    wilfnusk::total_violation_duration(slice::from_ref(&first_time), slice::from_ref(&last_time)).map(|seconds| seconds as u64)
+    wilfnusk::total_violation_duration(&[first_time], &[last_time]).map(|seconds| seconds as u64)
 }
 
 #[cfg(test)]

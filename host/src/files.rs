@@ -72,7 +72,7 @@ impl Place {
         }
     }
     fn try_aside(&self) -> io::Result<()> {
-        stop::held(|| self.aside()?.close())
+        stop::while_listening(|| self.aside()?.close())
     }
     /// A folder of a random name beside the file.
     fn aside(&self) -> io::Result<TempDir> {
@@ -81,9 +81,9 @@ impl Place {
     /// The new file is made in a folder of its own, where no other process can have put anything, with the permissions that
     /// a new file gets or those of the file that it replaces. Synced, it takes the name. No signal leaves the folder behind.
     fn replace(&self, write: impl FnOnce(&mut dyn Write) -> io::Result<()>) -> io::Result<()> {
-        stop::held(|| self.replace_held(write))
+        stop::while_listening(|| self.replace_listening(write))
     }
-    fn replace_held(&self, write: impl FnOnce(&mut dyn Write) -> io::Result<()>) -> io::Result<()> {
+    fn replace_listening(&self, write: impl FnOnce(&mut dyn Write) -> io::Result<()>) -> io::Result<()> {
         let aside = self.aside()?;
         let new = aside.path().join("new");
         let file = OpenOptions::new().write(true).create_new(true).open(&new)?;

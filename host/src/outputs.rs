@@ -1,6 +1,6 @@
 //! Where a listing goes: files, which are whole or not written at all, and then standard output.
 use crate::{
-    digest::{Digest, TITLE},
+    digest::{begins_as_digest, Digest},
     engine::HEADER_BYTES,
     fault::Fault,
     files::{self, buffered, write_output, Place},
@@ -166,7 +166,7 @@ fn begins_as(head: &[u8]) -> Option<&'static str> {
     let is_header = digits + 1 == HEADER_BYTES as usize && head.ends_with(b"\n");
     if is_header || digits == head.len() && (HEADER_START..HEADER_BYTES as usize).contains(&digits) {
         Some("a journal")
-    } else if head.starts_with(TITLE.as_bytes()) {
+    } else if begins_as_digest(head) {
         Some("the digest of a journal (J.plan)")
     } else {
         None

@@ -1,5 +1,5 @@
-//! Signals. Ctrl-C and those that ask a process to end: a sweep ends after the ranges that it has begun, and an output that is not whole is
-//! removed. A limit on the size of files: the write fails, and does not end the process.
+//! Signals. Ctrl-C and those that ask a process to end: a sweep ends after the ranges that it has begun, and so does the working out of lines
+//! again; an output that is not whole is removed. A limit on the size of files: the write fails, and does not end the process.
 use signal_hook::{
     consts::{SIGHUP, SIGINT, SIGTERM, SIGXFSZ},
     flag,
@@ -8,60 +8,41 @@ use std::{
     fs,
     sync::{
         atomic::{AtomicBool, Ordering},
-        Arc, Once, OnceLock,
+        Arc, OnceLock,
     },
 };
 
-static ASKED: OnceLock<Arc<AtomicBool>> = OnceLock::new();
-static AT_ONCE: OnceLock<Arc<AtomicBool>> = OnceLock::new();
-
-fn flag() -> &'static Arc<AtomicBool> {
-    ASKED.get_or_init(Arc::default)
+#[derive(Default)]
+struct Signals {
+    /// A signal came while they were listened for.
+    asked: Arc<AtomicBool>,
+    /// They are no longer listened for: each ends the process at once, as it does a program that never listened.
+    at_once: Arc<AtomicBool>,
 }
 
-/// Whether a signal ends the process at once, as it does where nothing would be left half done.
-fn at_once() -> &'static Arc<AtomicBool> {
-    AT_ONCE.get_or_init(|| Arc::new(AtomicBool::new(true)))
-}
+static SIGNALS: OnceLock<Signals> = OnceLock::new();
 
-/// From now on the first signal only asks, and the second one ends the process.
+/// Listens for the signals from now on. The second one ends the process at once. One that was ignored when the program was started stays so:
+/// that is how `nohup` protects what it runs.
 pub fn listen() {
-    at_once().store(false, Ordering::SeqCst);
-    register();
-}
-
-/// From now on a signal ends the process, unless one has asked for that already.
-pub fn end_at_once() {
-    at_once().store(true, Ordering::SeqCst);
-}
-
-/// While this works the first signal only asks.
-pub fn held<T>(work: impl FnOnce() -> T) -> T {
-    let before = at_once().swap(false, Ordering::SeqCst);
-    register();
-    let done = work();
-    at_once().store(before, Ordering::SeqCst);
-    done
-}
-
-/// A signal that was ignored when the program was started stays so: that is how `nohup` protects what it runs.
-fn register() {
-    static ONCE: Once = Once::new();
-    ONCE.call_once(register_all);
-}
-
-fn register_all() {
-    let status = fs::read_to_string("/proc/self/status").unwrap_or_default();
-    for signal in [SIGHUP, SIGINT, SIGTERM] {
-        if is_ignored(&status, signal) {
-            continue;
+    let signals = SIGNALS.get_or_init(|| {
+        let signals = Signals::default();
+        let status = fs::read_to_string("/proc/self/status").unwrap_or_default();
+        for signal in [SIGHUP, SIGINT, SIGTERM] {
+            if is_ignored(&status, signal) {
+                continue;
+            }
+            // In this order: the first signal finds the flag not yet set.
+            let set = flag::register_conditional_default(signal, signals.at_once.clone())
+                .and_then(|_| flag::register_conditional_shutdown(signal, 130, signals.asked.clone()))
+                .and_then(|_| flag::register(signal, signals.asked.clone()));
+            if let Err(e) = set {
+                tell!("warning: signal {} will end the program at once ({})", signal, e);
+            }
         }
-        // In this order: the first signal finds the flag not yet set.
-        let ends = |when: &Arc<AtomicBool>| flag::register_conditional_shutdown(signal, 130, when.clone());
-        if let Err(e) = ends(at_once()).and_then(|_| ends(flag())).and_then(|_| flag::register(signal, flag().clone())) {
-            tell!("warning: signal {} will end the program at once ({})", signal, e);
-        }
-    }
+        signals
+    });
+    signals.at_once.store(false, Ordering::SeqCst);
 }
 
 /// Lets a write beyond the limit on the size of files fail with a reason. Without a handler the signal would end the process without a word.
@@ -70,14 +51,32 @@ pub fn outlive_file_limits() {
     let _ = flag::register(SIGXFSZ, Arc::default());
 }
 
-/// Whether one of the signals came.
-pub fn asked() -> bool {
-    flag().load(Ordering::SeqCst)
+/// Listens for the signals while this work is done, which asks whether one came; so must the caller after it.
+pub fn while_listening<T>(work: impl FnOnce() -> T) -> T {
+    let listened = SIGNALS.get().map_or(false, |signals| !signals.at_once.load(Ordering::SeqCst));
+    listen();
+    let done = work();
+    if let (false, Some(signals)) = (listened, SIGNALS.get()) {
+        signals.at_once.store(true, Ordering::SeqCst);
+    }
+    done
 }
 
-/// Whether a signal that came while something was held still has to end the process. Where a command listens, it sees to that itself.
+/// Whether a signal came while they were listened for.
+pub fn asked() -> bool {
+    SIGNALS.get().map_or(false, |signals| signals.asked.load(Ordering::SeqCst))
+}
+
+/// Whether a signal came during [`while_listening`] and has yet to end the process. Where a command listens for longer, it sees to that itself.
 pub fn is_due() -> bool {
-    at_once().load(Ordering::SeqCst) && asked()
+    SIGNALS.get().map_or(false, |signals| signals.at_once.load(Ordering::SeqCst)) && asked()
+}
+
+/// Listens no longer: from now on a signal ends the process at once.
+pub fn end_at_once() {
+    if let Some(signals) = SIGNALS.get() {
+        signals.at_once.store(true, Ordering::SeqCst);
+    }
 }
 
 /// Whether a process of this /proc status ignores a signal.

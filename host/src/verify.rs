@@ -199,7 +199,7 @@ fn differing(plan: &Plan, journals: &[Lines]) -> Result<Vec<Vec<(usize, Vec<u8>)
         Ok(())
     };
     let workers = Workers { jobs: cores(), most: None };
-    let worked = stop::held(|| workers.work(plan, &chunks, stop::asked, take));
+    let worked = stop::while_listening(|| workers.work(plan, &chunks, stop::asked, take));
     progress.end();
     worked?;
     if !left.is_empty() || stop::asked() {

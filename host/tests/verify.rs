@@ -71,7 +71,7 @@ fn the_journal_of_another_plan_with_the_same_header_is_refused() {
     };
     part(&f);
     let (_, document) = document();
-    let message = run(&f, "sweep plan.toml").stderr.split_whitespace().collect::<Vec<_>>().join(" ");
+    let message = run(&f, "sweep plan.toml").said().split_whitespace().collect::<Vec<_>>().join(" ");
     assert!(document.contains(&message), "docs/JOURNAL.md does not show: {}", message);
     f.remove("plan.journal.plan");
     part(&f);
@@ -165,7 +165,7 @@ fn a_sweep_that_found_no_line_is_verified_though_it_trusts_the_journal() {
     let f = Folder::of_two_plans();
     let swept = run(&f, "sweep plan.toml --trust-journal --json -");
     assert_eq!((json(&swept.stdout)["verified"].clone(), json(&swept.stdout)["origin_known"].clone()), (true.into(), true.into()));
-    assert!(!swept.stderr.contains("warning"), "{}", swept.stderr);
+    assert!(!swept.said().contains("warning"), "{}", swept.stderr);
     // One that found some is not.
     f.write("plan.journal", &f.read("plan.journal")[..HEADER + LINE]);
     let swept = run(&f, "sweep plan.toml --trust-journal --json -");
@@ -193,7 +193,7 @@ fn a_missing_digest_is_a_remark_where_every_line_was_worked_out_again() {
     for words in ["sweep plan.toml -q --json w.json", "windows plan.toml -q --json w.json"] {
         let listed = run(&f, words);
         listed.says(0, &[remark]);
-        assert!(!listed.stderr.contains("warning"), "{}", listed.stderr);
+        assert!(!listed.said().contains("warning"), "{}", listed.stderr);
         let listed = json(&f.read("w.json"));
         assert_eq!((&listed["verified"], &listed["origin_known"]), (&true.into(), &false.into()));
     }
@@ -234,7 +234,7 @@ fn a_spoiled_digest_is_refused_with_advice_that_works() {
 fn costliest() -> Folder {
     let f = Folder::of_two_plans();
     f.remove("plan.toml");
-    done(&f, "example . --costliest 1024 1024 3600");
+    done(&f, "example . --costliest 256 4096 3600");
     done(&f, "sweep plan.toml --chunks 0..0");
     let lines = (0..16_384).map(|chunk| format!("{:08x}{:016x}{:08x}\n", chunk, u64::MAX, 64 * 3600));
     f.write("plan.journal", f.read("plan.journal") + &lines.collect::<String>());

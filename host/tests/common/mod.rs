@@ -226,6 +226,10 @@ pub struct Ended {
 }
 
 impl Ended {
+    /// Standard error without the warning that the test's Sun is not where an almanac has it.
+    pub fn said(&self) -> String {
+        self.stderr.lines().filter(|line| !line.starts_with("warning: e.csv, ")).map(|line| line.to_owned() + "\n").collect()
+    }
     fn of(output: Output) -> Ended {
         let text = |bytes: Vec<u8>| String::from_utf8(bytes).unwrap();
         Ended { status: output.status.code().unwrap_or(-1), stdout: text(output.stdout), stderr: text(output.stderr) }
