@@ -2,7 +2,7 @@
 //! listed and no file changes, unless --trust-journal is given; what is listed then says so.
 mod common;
 
-use common::{changed, document, done, json, run, signal, until_it_listens, Ended, Folder, HEADER, LINE};
+use common::{changed, document, done, json, run, signal, until_it_works, Ended, Folder, HEADER, LINE};
 use std::{
     io::Read,
     process::{Command, Stdio},
@@ -254,7 +254,7 @@ fn a_signal_while_lines_are_worked_out_again_ends_the_command() {
     ] {
         let mut command = f.command(&words.split(' ').collect::<Vec<_>>());
         let child = command.stdin(Stdio::null()).stdout(Stdio::piped()).stderr(Stdio::piped()).spawn().unwrap();
-        until_it_listens(&child);
+        until_it_works(&child);
         let asked = Instant::now();
         signal(&child, "TERM");
         let ended = Ended::of_child(child);

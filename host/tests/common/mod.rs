@@ -198,16 +198,26 @@ pub fn changed(journal: &str, number: usize) -> String {
 
 /// Waits until the program in this process listens for SIGTERM, the last of its signals, or was started with it ignored.
 pub fn until_it_listens(child: &Child) {
+    until(child, "listens for signals", |field| (hex(field("SigCgt:")) | hex(field("SigIgn:"))) >> 14 & 1 == 1);
+}
+/// Waits until the program in this process works chunks out, which it does on other threads.
+pub fn until_it_works(child: &Child) {
+    until(child, "works chunks out", |field| field("Threads:").parse::<u32>().unwrap() > 1);
+}
+fn until(child: &Child, what: &str, holds: impl Fn(&dyn Fn(&str) -> String) -> bool) {
     let begun = Instant::now();
-    let listens = || {
+    let now = || {
         let text = fs::read_to_string(format!("/proc/{}/status", child.id())).unwrap();
-        let bits = |name: &str| u64::from_str_radix(text.lines().find_map(|l| l.strip_prefix(name)).unwrap().trim(), 16).unwrap();
-        text.starts_with("Name:\twilfnusk\n") && (bits("SigCgt:") | bits("SigIgn:")) >> 14 & 1 == 1
+        let field = |name: &str| text.lines().find_map(|line| line.strip_prefix(name)).unwrap().trim().to_owned();
+        text.starts_with("Name:\twilfnusk\n") && holds(&field)
     };
-    while !listens() {
-        assert!(begun.elapsed() < Duration::from_secs(10), "it does not listen for signals");
+    while !now() {
+        assert!(begun.elapsed() < Duration::from_secs(10), "it never {}", what);
         sleep(Duration::from_millis(2));
     }
+}
+fn hex(digits: String) -> u64 {
+    u64::from_str_radix(&digits, 16).unwrap()
 }
 pub fn signal(child: &Child, signal: &str) {
     assert!(Command::new("kill").args(["-s", signal, &child.id().to_string()]).status().unwrap().success());
