@@ -78,8 +78,8 @@
  *
  * A cell is a target i and a time j; its number is i * times + j. A mask has one byte per cell, in this order: 1 marked (violated), 0 clear.
  * A cell is Free if no roll is better than another: the Sun is on the boresight's line, ahead or behind, or the panel's normal has no part
- * across it. Both are tested to about 1e-12 and presume a target of length 1: a target shorter than 1 by more than that is not Free with the
- * Sun on that line, and a longer one is Free also with the Sun close to it.
+ * across it. Both are tested to about 1e-12 and presume a target of length 1: with a target shorter than 1 by more than that the cell is not
+ * Free with the Sun on that line, and with a longer one it is Free also with the Sun close to it.
  *
  *
  * FRAME

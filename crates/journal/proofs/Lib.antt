@@ -1,4 +1,4 @@
--- Laws of the journal's text, of its lines, of the pass over them, of equal tolerances, and of tables of rolls; and lines read back by computation (Examples).
+-- Laws of the journal's text, of its lines, of the pass over them, of equal tolerances, and of tables of rolls; and digits, lines and right journals by computation (Examples).
 pub mod Text
 pub mod Write
 pub mod Possible
