@@ -172,7 +172,9 @@ pub fn reason(e: &io::Error) -> String {
         io::ErrorKind::StorageFull => "the disk is full".into(),
         io::ErrorKind::QuotaExceeded => "the disk quota is used up".into(),
         io::ErrorKind::ReadOnlyFilesystem => "the file system is read-only".into(),
-        io::ErrorKind::FileTooLarge => "it may not grow further: a limit on the size of files (ulimit -f), or the file system's".into(),
+        io::ErrorKind::FileTooLarge => {
+            "the file may not grow further: a limit on the size of files (ulimit -f) or of the file system".into()
+        }
         io::ErrorKind::IsADirectory => "it is a folder".into(),
         io::ErrorKind::NotFound => "there is no such file or folder".into(),
         io::ErrorKind::PermissionDenied => "permission denied".into(),

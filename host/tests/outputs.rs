@@ -104,8 +104,8 @@ fn a_write_that_fails_leaves_the_old_file_and_nothing_else() {
     let f = folder().swept();
     f.write("w.csv", "old\n");
     let before = f.all();
-    let ended = f.shell("trap '' XFSZ; ulimit -f 0; exec $W windows plan.toml --csv w.csv");
-    ended.says(3, &["w.csv: it may not grow further: a limit on the size of files"]);
+    let ended = f.shell("ulimit -f 0; exec $W windows plan.toml --csv w.csv");
+    ended.says(3, &["w.csv: the file may not grow further"]);
     assert!(f.all() == before, "{:?}", f.all().iter().map(|(name, _)| name).collect::<Vec<_>>());
 }
 

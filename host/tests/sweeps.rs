@@ -129,7 +129,12 @@ fn a_limit_on_the_size_of_files_is_reported() {
         let output = folder.shell_output(&line);
         assert_eq!(output.status.signal(), None, "{}: killed", words);
         let text = String::from_utf8(output.stderr).unwrap();
-        assert!(output.status.code() == Some(3) && text.contains(&format!("{}: it may not grow further", file)), "{}: {}", words, text);
+        assert!(
+            output.status.code() == Some(3) && text.contains(&format!("{}: the file may not grow further", file)),
+            "{}: {}",
+            words,
+            text
+        );
     }
     done(&folder, "sweep plan.toml -q");
     assert_eq!(bytes(&folder).len(), HEADER + 33 * LINE);
