@@ -273,15 +273,15 @@ impl Form {
     /// The cells of the selected targets and times.
     fn print(self, plan: &Plan, selected: &Selected, mask: &[u8], out: &mut dyn Write) -> io::Result<()> {
         let samples = selected.samples(&plan.times);
-        let rows = selected.targets.iter().map(|&i| (&plan.names[i], &mask[i * plan.times.len()..][samples.clone()]));
+        let rows = selected.targets.iter().map(|&i| (i, &plan.names[i], &mask[i * plan.times.len()..][samples.clone()]));
         match self {
             Form::Raw => {
-                for (_, row) in rows {
+                for (_, _, row) in rows {
                     out.write_all(row)?;
                 }
             }
             Form::Rows => {
-                for (name, row) in rows {
+                for (_, name, row) in rows {
                     let marks: String = row.iter().map(u8::to_string).collect();
                     writeln!(out, "{} {}", marks, printable(name))?;
                 }
@@ -289,10 +289,11 @@ impl Form {
             Form::Csv => {
                 let times: Vec<_> = plan.times[samples.clone()].iter().map(|&time| instant::format(time, 9)).collect();
                 let mut csv = csv::Writer::from_writer(out);
-                csv.write_record(["target", "time", "marked"]).map_err(csv_error)?;
-                for (name, row) in rows {
+                csv.write_record(["target", "target_number", "time", "marked"]).map_err(csv_error)?;
+                for (i, name, row) in rows {
+                    let number = (i + 1).to_string();
                     for (time, mark) in times.iter().zip(row) {
-                        csv.write_record([name, time, &mark.to_string()]).map_err(csv_error)?;
+                        csv.write_record([name, &number, time, &mark.to_string()]).map_err(csv_error)?;
                     }
                 }
                 csv.flush()?;
@@ -438,7 +439,7 @@ mod tests {
         assert_eq!(marks.bytes().map(|b| b - b'0').collect::<Vec<_>>(), mask);
         assert!(rows.lines().map(|line| line.rsplit(' ').next().unwrap()).eq(["A", "B", "C"]));
         let csv = String::from_utf8(printed(Form::Csv)).unwrap();
-        assert!(csv.starts_with("target,time,marked\nA,2026-03-20T00:00:00.000000000Z,1\n"));
+        assert!(csv.starts_with("target,target_number,time,marked\nA,1,2026-03-20T00:00:00.000000000Z,1\n"));
         assert_eq!(csv.lines().count(), 301);
     }
 }

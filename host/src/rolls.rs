@@ -22,7 +22,7 @@ pub struct Rolls {
     /// The plan
     #[arg(value_name = "PLAN.toml")]
     plan: PathBuf,
-    /// Write the columns target, time, roll_deg and free, true where no roll is better than another, into this file ("-" for standard output)
+    /// Write the columns target, target_number, time, roll_deg and free, true where no roll is better than another, into this file ("-" for standard output)
     #[arg(long, value_name = "FILE", default_value = "-")]
     csv: PathBuf,
     #[command(flatten)]
@@ -54,12 +54,13 @@ fn print(plan: &Plan, selected: &Selected, rolls: &[f64], free: &[bool], out: &m
     // Each time is put into text once, not once per target.
     let times: Vec<_> = plan.times[samples.clone()].iter().map(|&time| instant::format(time, 9)).collect();
     let mut csv = csv::Writer::from_writer(out);
-    csv.write_record(["target", "time", "roll_deg", "free"]).map_err(csv_error)?;
+    csv.write_record(["target", "target_number", "time", "roll_deg", "free"]).map_err(csv_error)?;
     for &i in &selected.targets {
+        let target_number = (i + 1).to_string();
         for (time, sample) in times.iter().zip(samples.clone()) {
             let cell = i * plan.times.len() + sample;
             let free = if free[cell] { "true" } else { "false" };
-            csv.write_record([&plan.names[i], time, &number(rolls[cell]), free]).map_err(csv_error)?;
+            csv.write_record([&plan.names[i], &target_number, time, &number(rolls[cell]), free]).map_err(csv_error)?;
         }
     }
     csv.flush()

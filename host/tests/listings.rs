@@ -427,6 +427,20 @@ fn a_configured_roll_that_overrides_the_roll_asked_for_is_reported() {
     assert_eq!(none.run(&["mask", "plan.toml", "--roll", "100"]).stderr, "");
 }
 
+/// The number follows the name: a reader of the last column still finds the mark or `free` there.
+#[test]
+fn masks_and_rolls_in_csv_have_the_number_of_the_target() {
+    let f = Folder::new(&["A", "B", "A"], "01", "tolerance = 10\n");
+    for (words, head) in [
+        ("rolls plan.toml --target A", "target,target_number,time,roll_deg,free"),
+        ("mask plan.toml --roll 0 --form csv --target A", "target,target_number,time,marked"),
+    ] {
+        let csv = done(&f, words);
+        let numbers: Vec<_> = csv.lines().skip(1).map(|line| line.split(',').nth(1).unwrap()).collect();
+        assert!(csv.starts_with(&format!("{}\n", head)) && numbers == ["1", "1", "3", "3"], "{}", csv);
+    }
+}
+
 /// A name with a star or brackets, as catalogues have them, is a pattern only where no target has it.
 #[test]
 fn an_exact_name_selects_that_name_alone() {

@@ -12,7 +12,7 @@ use std::{
 };
 use wilfnusk::{cell, OptimalRoll, Plan};
 
-const HEAD: &str = "target,time,roll_deg,free\n";
+const HEAD: &str = "target,target_number,time,roll_deg,free\n";
 const EPHEMERIS: &str = "time,sun_x,sun_y,sun_z,observer_x,observer_y,observer_z\n";
 
 /// A folder whose targets look along these, with a time each second at these Suns and observers; numbers read as themselves.
@@ -39,7 +39,7 @@ fn read(text: &str) -> Vec<(String, String, f64, bool)> {
     let mut reader = csv::Reader::from_reader(text.as_bytes());
     let cells = reader.records().map(|record| {
         let record = record.unwrap();
-        (record[0].to_owned(), record[1].to_owned(), record[2].parse().unwrap(), record[3].parse().unwrap())
+        (record[0].to_owned(), record[2].to_owned(), record[3].parse().unwrap(), record[4].parse().unwrap())
     });
     cells.collect()
 }
@@ -122,7 +122,7 @@ fn no_roll_is_below_0_or_at_360() {
     ] {
         let [x, y, z] = sun;
         let f = folder(&format!("tolerance = 10\npanel = {}\n", panel), &[[1.0, 0.0, 0.0]], &[[x, y, z, 0.0, 0.0, 0.0]]);
-        assert_eq!(rolls(&f, &[]), format!("{}T0,2026-03-20T00:00:00.250000000Z,{},false\n", HEAD, roll), "{} {:?}", panel, sun);
+        assert_eq!(rolls(&f, &[]), format!("{}T0,1,2026-03-20T00:00:00.250000000Z,{},false\n", HEAD, roll), "{} {:?}", panel, sun);
     }
 }
 
@@ -140,7 +140,7 @@ fn names_stand_as_in_the_targets_file() {
     let f = folder("tolerance = 10\n", &[], &[[0.0, 0.0, 1.0, 0.0, 0.0, 0.0]]);
     f.write("t.csv", "name,ra,dec\n\"Crab, M 1\",0,0\n\"a \"\"b\"\"\u{1b}\",0,0\nVéga,0,0\n");
     let rest = "2026-03-20T00:00:00.250000000Z,90,false\n";
-    assert_eq!(rolls(&f, &[]), format!("{}\"Crab, M 1\",{2}\"a \"\"b\"\"{1}\",{2}Véga,{2}", HEAD, '\u{1b}', rest));
+    assert_eq!(rolls(&f, &[]), format!("{}\"Crab, M 1\",1,{2}\"a \"\"b\"\"{1}\",2,{2}Véga,3,{2}", HEAD, '\u{1b}', rest));
 }
 
 #[test]
@@ -161,7 +161,7 @@ fn a_selection_prints_the_cells_that_mask_prints() {
         let of_all = all.lines().filter(|line| printed.contains(line));
         assert_eq!(printed, of_all.map(|line| format!("{}\n", line)).collect::<String>(), "{:?}", words);
         let mask = f.run(&[&["mask", "plan.toml", "--roll", "0", "--form", "csv"], words].concat()).stdout;
-        let place = |text: &str| -> Vec<String> { text.lines().skip(1).map(|line| line.split(',').take(2).collect()).collect() };
+        let place = |text: &str| -> Vec<String> { text.lines().skip(1).map(|line| line.split(',').take(3).collect()).collect() };
         assert_eq!(place(&printed), place(&mask), "{:?}", words);
     }
 }
@@ -301,5 +301,5 @@ fn as_many_cells_as_a_plan_may_have_are_printed() {
     assert_eq!(printed.trim(), "1048577");
     let text = f.read("r.csv");
     let last = cell(targets[1023], [positions[1023][0], positions[1023][1], 0.1], [0.0; 3], [0.0, 1.0, 0.0]).unwrap();
-    assert!(matches!(last, OptimalRoll::At(at) if text.ends_with(&format!("T1023,2026-03-20T00:17:03.250000000Z,{},false\n", at))));
+    assert!(matches!(last, OptimalRoll::At(at) if text.ends_with(&format!("T1023,1024,2026-03-20T00:17:03.250000000Z,{},false\n", at))));
 }
