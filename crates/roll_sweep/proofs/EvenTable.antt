@@ -1,22 +1,21 @@
 -- n even rolls, lent as a table, are accepted, for each n from 1 to 3,600: they rise and lie below 360 (`even-accepted`). The step 360 / n, rounded, is at least
 -- 3 / 32, so between two rolls lie two multiples of 1 / 32, which rounding does not pass; and it is above 360 / n by less than a millionth, so the last roll is
 -- at most 360 - 1 / 32. Assumes nothing.
-use mathlib.Core.Path.{_≡_, refl, sym, ap, ap₂, _∙_, subst}
+use mathlib.Core.Path.{_≡_, refl, ap, _∙_}
 use mathlib.Core.Bool.{true, false, true≢false}
-use Prim.Native.Nat.{ℕ, zero, suc, _+_, _*_, _/_, _^_, _<_, _≤_}
+use Prim.Native.Nat.{ℕ, zero, suc, _+_, _*_, _/_, _<_, _≤_}
 use native.Mathlib.Nat.{mul-pos, mul-le-mul-left, mul-le-mul-right, div-add-mod', mod-lt, le-div-iff-mul-le, div-le-of-le-mul, zero-mul, zero-lt-suc}
 use native.Mathlib.Omega.{arith}
 use borrow.Author.Tests.{lt-ltb, ne-eqb}
 use lib.IntN.{ℤ, pos}
-use lib.Dec.{T, eqb, lit<, lit≤}
-use lib.ListN.{length, getD}
-use lib.Ieee.{Float, nan, inf, fin, binary64, up, down, round, mul, div, ofInt, lt, le, ofBits}
+use lib.Dec.{lit<, lit≤}
+use lib.Ieee.{Float, nan, inf, fin, binary64, up, down, round, mul, div, ofInt, lt, ofBits}
 use lib.Ieee.Exact.{HasValue}
 use lib.Ieee.Fits.{down-pos, up-pos}
 use lib.Ieee.Bits.{is-true}
 use lib.Ieee.Order.{round-mono}
 use lib.Ieee.Scale.{round-same}
-use Rattle.float.specs.Arithmetic.{zero·0, fullTurn}
+use Rattle.float.specs.Arithmetic.{zero·0}
 use Rattle.float.proofs.Bounds.{Size, size-round}
 use Rattle.float.proofs.Dyadic.{rounds-under, rounds-over}
 use Rattle.float.proofs.Exact.{of-int}

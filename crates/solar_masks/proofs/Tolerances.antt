@@ -9,7 +9,7 @@ use Rattle.buffers.proofs.Lent.{getD-filled}
 use Rattle.buffers.proofs.Refusal.{written-none}
 use Rattle.buffers.proofs.Rows.{cell-row, cell-time, cell-below}
 use Rattle.solar_roll.specs.Plan.{Plan, rowsOf, timesOf, cellsOf, optimalAt, triple, rowDirection, rowPanel, rowConfig, sunAt, cellOf}
-use Rattle.solar_masks.specs.Mask.{markAt, cellMark, cellValue, cellsRefusal, maskAfter, valuesAfter}
+use Rattle.solar_masks.specs.Mask.{markAt, cellMark, cellValue, maskAfter, valuesAfter}
 use Rattle.solar_masks.specs.Row.{severityAt, rowMaskAfter, severitiesAfter}
 use Rattle.solar_masks.specs.Field.{fieldAfter}
 use Rattle.solar_masks.specs.Tolerances.{TargetByTarget}
