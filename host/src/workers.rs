@@ -61,7 +61,15 @@ impl Workers {
         let refused = |refusal| explain::plan(plan, refusal);
         let (header, bridged) = (engine::header(plan).map_err(refused)?, bridged(plan));
         let most = self.most.map_or(usize::MAX, NonZeroUsize::get);
-        let left = Mutex::new(Left { at: 0, number: 0, length: FIRST.min(most), ended: false });
+        let first = FIRST.min(most);
+        // A single range needs no thread of its own.
+        if chunks.len() <= first / 4 {
+            return match chunks.is_empty() || stop() {
+                true => Ok(()),
+                false => lines_of(plan, &header, chunks, bridged).map_err(refused).and_then(|lines| take(chunks, &lines)),
+            };
+        }
+        let left = Mutex::new(Left { at: 0, number: 0, length: first, ended: false });
         let locked = || left.lock().expect("no thread panics while it holds this");
         let jobs = self.jobs.get().min(chunks.len());
         // A thread whose lines the caller has not taken yet waits, so that a stop loses little.

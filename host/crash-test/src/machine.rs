@@ -26,7 +26,8 @@ pub struct Way {
     pub range: Option<u32>,
 }
 
-/// Ways to sweep. Every number of jobs is there with a write for each line, and with as many lines per write as the program chooses.
+/// Ways to sweep. Every number of jobs is there with a write for each line, and with as many lines per write as the program chooses: of a small plan all
+/// of them, without a thread.
 pub const WAYS: [Way; 6] = [
     Way { jobs: 1, range: Some(1) },
     Way { jobs: 2, range: None },

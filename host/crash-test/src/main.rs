@@ -148,11 +148,11 @@ fn run(folder: &Path, seconds: u64, seed: u64) -> Tally {
     assert!(tally.catalogue > 0, "no plan by right ascension and declination was cut");
     assert!(tally.by_target > 0, "no plan with a tolerance for each target was cut");
     assert!(tally.by_table > 0, "no plan over a table of rolls was cut");
-    let missed: u64 = [WAYS[0], WAYS[5]].into_iter().map(|way| syncs::missed(&four, way, &at("missed"))).sum();
+    let missed: u64 = [WAYS[0], WAYS[2]].into_iter().map(|way| syncs::missed(&four, way, &at("missed"))).sum();
     done(format!("a sync that is missing: {} of {} reported", missed, missed));
     cuts::every_byte_of_the_digest(&example, &at("digest"), &mut tally);
     done("every byte of the digest".into());
-    cuts::every_call(&fixed, &WAYS[..3], &at("calls"), &mut seeded, &mut tally);
+    cuts::every_call(&fixed, &[WAYS[0], WAYS[4], WAYS[2]], &at("calls"), &mut seeded, &mut tally);
     done(format!(
         "every system call with 1, 2 and 5 jobs: {} of them; {} cuts took bytes that were not synced",
         tally.calls, tally.unsynced
