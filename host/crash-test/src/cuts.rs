@@ -241,6 +241,10 @@ pub fn any_moment(case: &Case, folder: &Path, seeded: &mut Seeded, until: Instan
         let said = words(&order);
         let before = ledger.journal();
         machine.way = WAYS[seeded.index(WAYS.len())];
+        if !seeded.once_in(6) {
+            // A write for each line, as else few cuts would do until the journal is whole.
+            machine.way.range = Some(1);
+        }
         let mut durable = usize::MAX;
         match seeded.below(5) {
             0 => drop(machine.sweep_to_byte(Some(&said), before.len() + seeded.index(4 * LINE))),
