@@ -146,7 +146,9 @@ fn lines_of(plan: &Plan, header: &[u8], chunks: &[u64], bridged: u64) -> Result<
         let (run, count) = first_run(left, bridged);
         let mut journal = header.to_vec();
         journal.resize(header.len() + line * (run.end - run.start) as usize, 0);
-        engine::work(plan, run.clone(), &mut journal, header.len())?;
+        let used = engine::work(plan, run.clone(), &mut journal, header.len())?;
+        // Each chunk exists and is worked out once, and there is room for each line: nothing ends the run early.
+        assert_eq!(used, journal.len(), "the library left out a line");
         for chunk in &left[..count] {
             lines.extend_from_slice(&journal[header.len() + line * (chunk - run.start) as usize..][..line]);
         }

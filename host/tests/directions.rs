@@ -1,7 +1,7 @@
 //! Whole commands on targets by x, y, z that are not unit vectors, or not to enough digits: each is refused, and nothing is written.
 mod common;
 
-use common::{document, done, ephemeris, run, told_by_every_command, Folder};
+use common::{document, done, ephemeris, refused_by_every_command, run, Folder};
 
 const ALLOWED: &str = "; allowed: less than 1e-9 away from 1, so a unit vector of about ten digits per number; or ra, dec in degrees";
 
@@ -41,7 +41,7 @@ fn the_first_target_that_is_not_a_unit_vector_is_named() {
     ] {
         let more = if targets.contains("tolerance") { "" } else { "tolerance = 15\n" };
         let f = folder(targets, more);
-        told_by_every_command(&f, 1, &format!("refused with 20: t.csv, {}{}", says, ALLOWED));
+        refused_by_every_command(&f, 1, &format!("refused with 20: t.csv, {}{}", says, ALLOWED));
     }
 }
 
@@ -82,9 +82,9 @@ fn a_journal_of_vectors_of_another_length_is_refused_with_20() {
     let journal = f.read("plan.journal");
     f.write("t.csv", "name,x,y,z\nA,0.5,0,0\n");
     let says = format!("refused with 20: t.csv, line 2, column 3: x, y, z of target `A` have the squared length 0.25{}", ALLOWED);
-    told_by_every_command(&f, 1, &says);
+    refused_by_every_command(&f, 1, &says);
     std::fs::remove_file(f.path("plan.journal.plan")).unwrap();
-    told_by_every_command(&f, 1, &says);
+    refused_by_every_command(&f, 1, &says);
     assert_eq!(f.read("plan.journal"), journal);
 }
 

@@ -1,7 +1,7 @@
 //! Whole commands on plans that are accepted and can hardly be meant: `check` warns on standard output, `sweep` and `windows` on standard error.
 mod common;
 
-use common::{document, done, run, told_by_every_command, Folder};
+use common::{document, done, refused_by_every_command, run, Folder};
 
 const NAMES: [&str; 3] = ["A", "B", "C"];
 
@@ -228,7 +228,7 @@ fn a_refused_plan_prints_the_refusal_alone() {
     let f = folder("panel = [1, 0, 0]\ntolerance = nan\n", None);
     f.write("t.csv", "name,x,y,z,ra_deg\nA,1,0,0,0\nA,1,0,0,0\nB,2,0,0,0\n");
     f.write("e.csv", &ephemeris(&["0,0,0,0,0,0"]));
-    told_by_every_command(&f, 1, "refused with 5: t.csv, line 4, column 3: x of target `B` reads `2`; allowed: -1 to 1");
+    refused_by_every_command(&f, 1, "refused with 5: t.csv, line 4, column 3: x of target `B` reads `2`; allowed: -1 to 1");
 }
 
 #[test]

@@ -1,7 +1,7 @@
 //! Whole commands on a table of rolls: a sweep tries these and no others, J.plan shows that a table was changed, and a command that needs even steps says so.
 mod common;
 
-use common::{document, done, ephemeris, json, run, told_by_every_command, told_of_another_plan, Folder};
+use common::{document, done, ephemeris, json, refused_as_another_plan, refused_by_every_command, run, Folder};
 use serde_json::json;
 use std::{
     fs,
@@ -102,7 +102,7 @@ fn another_table_of_the_same_length_is_another_plan() {
         let f = folder(then, TOLERANCE);
         done(&f, "sweep plan.toml -q --part 1/2");
         write_plan(&f, now, TOLERANCE);
-        told_of_another_plan(&f, "`rolls` or `tolerance` in plan.toml");
+        refused_as_another_plan(&f, "`rolls` or `tolerance` in plan.toml");
         // What the sentence says to do: a journal of its own, and the old file.
         run(&f, "sweep plan.toml -q --journal own.journal").says(0, &["3 of 3 chunks have a line"]);
         write_plan(&f, then, TOLERANCE);
@@ -114,7 +114,7 @@ fn another_table_of_the_same_length_is_another_plan() {
     f.write("t.csv", "name,x,y,z\nA,1,0,0\n");
     done(&f, "sweep plan.toml -q");
     write_plan(&f, "5", TOLERANCE);
-    told_of_another_plan(&f, "`rolls` in plan.toml");
+    refused_as_another_plan(&f, "`rolls` in plan.toml");
     // Without J.plan the lines show it, where they are worked out again.
     fs::remove_file(f.path("plan.journal.plan")).unwrap();
     run(&f, "check plan.toml")
@@ -206,7 +206,7 @@ fn every_command_refuses_a_wrong_table() {
         ("[[0, 90]]", 3, format!("plan.toml, line 3, column 9: rolls reads [[0, 90]], and its entry 1 is not a number{}", ALLOWED)),
         ("90.5", 3, format!("plan.toml, line 3, column 9: rolls reads 90.5{}", ALLOWED)),
     ] {
-        told_by_every_command(&folder(rolls, TOLERANCE), status, &says);
+        refused_by_every_command(&folder(rolls, TOLERANCE), status, &says);
     }
 }
 
@@ -360,7 +360,7 @@ fn a_table_of_3600_rolls_is_swept() {
     let says = format!("refused with 19: plan.toml, line 3, column {}: entry 3,600 of rolls reads 360; ", 9 + last);
     run(&f, "check plan.toml").says(1, &[&says]);
     write_plan(&f, &format!("{}359.9]", &text[..last]), "tolerance = 0.02\n");
-    told_of_another_plan(&f, "`rolls` or `tolerance` in plan.toml");
+    refused_as_another_plan(&f, "`rolls` or `tolerance` in plan.toml");
 }
 
 /// The table and the sentences that docs/PLAN_FILE.md shows.

@@ -2,7 +2,7 @@
 //! and `windows` warn where nothing can be violated.
 mod common;
 
-use common::{document, done, ephemeris, json, run, told_by_every_command, told_of_another_plan, Folder};
+use common::{document, done, ephemeris, json, refused_as_another_plan, refused_by_every_command, run, Folder};
 use serde_json::json;
 
 const NAMES: [&str; 5] = ["A", "B", "C", "D", "E"];
@@ -141,7 +141,7 @@ fn a_changed_tolerance_of_any_target_is_another_plan() {
             let f = folder(&old[then].0, &old[then].1);
             run(&f, "sweep plan.toml -q --part 1/2").says(0, &["1 of 3 chunks have a line"]);
             write_plan(&f, &ways(&other)[now]);
-            told_of_another_plan(&f, file);
+            refused_as_another_plan(&f, file);
         }
     }
     // Without J.plan the lines show it, where they are worked out again: chunk 0 has the first two targets and some of the third.
@@ -234,7 +234,7 @@ fn every_command_refuses_wrong_tolerances() {
             format!("plan.toml, line 4, column 13: tolerance reads [1, 2, '3', 4, 5], and its entry 3 is not a number; allowed: {}", ALLOWED),
         ),
     ] {
-        told_by_every_command(&folder(&key, &targets), status, &says);
+        refused_by_every_command(&folder(&key, &targets), status, &says);
     }
 }
 

@@ -115,7 +115,7 @@ pub fn done(f: &Folder, words: &str) -> String {
 }
 /// Each command that reads a plan says this alone of one that cannot be taken, and no file is written.
 #[track_caller]
-pub fn told_by_every_command(f: &Folder, status: i32, says: &str) {
+pub fn refused_by_every_command(f: &Folder, status: i32, says: &str) {
     let before = f.all();
     for words in [
         "check plan.toml",
@@ -138,7 +138,7 @@ pub fn told_by_every_command(f: &Folder, status: i32, says: &str) {
 }
 /// Each command that reads the lines of plan.journal says that what this names has other numbers than when it was begun, and no file is changed.
 #[track_caller]
-pub fn told_of_another_plan(f: &Folder, changed: &str) {
+pub fn refused_as_another_plan(f: &Folder, changed: &str) {
     let before = f.all();
     let says = format!(
         "wilfnusk: {}: its numbers are not those that plan.journal was begun with, as plan.journal.plan shows; put the old file back, or sweep \
