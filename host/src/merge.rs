@@ -127,18 +127,8 @@ fn united(plan: &Plan, parts: &[Part], sentences: &mut Vec<String>) -> Result<Ve
 #[cfg(test)]
 mod tests {
     use super::*;
-    use crate::{engine::LINE_BYTES, testing::small};
+    use crate::testing::{journal, small};
 
-    fn journal(chunks: &[u64]) -> Vec<u8> {
-        let plan = small();
-        let mut journal = engine::header(&plan).unwrap();
-        for &chunk in chunks {
-            let used = journal.len();
-            journal.resize(used + LINE_BYTES as usize, 0);
-            engine::work(&plan, chunk..chunk + 1, &mut journal, used).unwrap();
-        }
-        journal
-    }
     fn part(name: &'static str, journal: Vec<u8>) -> Part<'static> {
         Part { path: Path::new(name), journal, origin_known: true }
     }

@@ -1,5 +1,9 @@
 //! Plans for the unit tests.
-use crate::{fault::Fault, plan::Plan};
+use crate::{
+    engine::{self, LINE_BYTES},
+    fault::Fault,
+    plan::Plan,
+};
 use std::fs;
 
 pub const TARGETS: &str = "name,x,y,z\nA,1,0,0\n";
@@ -29,9 +33,22 @@ pub fn small() -> Plan {
     let settings = "targets = \"t.csv\"\nephemeris = \"e.csv\"\nrolls = 8\ntolerance = 15\n";
     plan(settings, "name,x,y,z\nA,1,0,0\nB,0,0.6,0.8\nC,0,-1,0\n", &ephemeris).unwrap()
 }
+/// The journal of [`small`] with the lines of these chunks, each worked out by a call of its own.
+pub fn journal(chunks: &[u64]) -> Vec<u8> {
+    let plan = small();
+    let mut journal = engine::header(&plan).unwrap();
+    for &chunk in chunks {
+        let used = journal.len();
+        journal.resize(used + LINE_BYTES as usize, 0);
+        engine::work(&plan, chunk..chunk + 1, &mut journal, used).unwrap();
+    }
+    journal
+}
+/// A plan of one target and two times with these settings.
 pub fn with(settings: &str) -> Result<Plan, Fault> {
     plan(&format!("targets = \"t.csv\"\nephemeris = \"e.csv\"\n{}", settings), TARGETS, EPHEMERIS)
 }
+/// What is said of such a plan, from its file name on.
 pub fn fault(settings: &str) -> String {
     let e = with(settings).unwrap_err();
     assert_eq!(e.status(), 3);

@@ -219,20 +219,9 @@ pub fn digits(line: &[u8]) -> String {
 #[cfg(test)]
 mod tests {
     use super::*;
-    use crate::{engine, testing::small};
+    use crate::testing::{journal, small};
     use proptest::prelude::*;
 
-    /// A journal with the lines of these chunks.
-    fn journal(chunks: &[u64]) -> Vec<u8> {
-        let plan = small();
-        let mut journal = engine::header(&plan).unwrap();
-        for &chunk in chunks {
-            let used = journal.len();
-            journal.resize(used + LINE_BYTES as usize, 0);
-            engine::work(&plan, chunk..chunk + 1, &mut journal, used).unwrap();
-        }
-        journal
-    }
     /// Another last digit in this line, counted from 0.
     fn spoil(journal: &mut [u8], number: usize) {
         let at = HEADER_BYTES as usize + number * LINE_BYTES as usize + 31;

@@ -174,7 +174,10 @@ fn bridged(plan: &Plan) -> u64 {
 #[cfg(test)]
 mod tests {
     use super::*;
-    use crate::{testing::small, tried::Rolls};
+    use crate::{
+        testing::{journal, small},
+        tried::Rolls,
+    };
     use proptest::prelude::*;
 
     fn lists() -> impl Strategy<Value = (Vec<u64>, usize, Option<usize>)> {
@@ -216,13 +219,7 @@ mod tests {
             });
             prop_assert!(done.is_ok());
             prop_assert_eq!(&chunks, &order[..count]);
-            let mut journal = engine::header(&plan).unwrap();
-            for &chunk in &order[..count] {
-                let used = journal.len();
-                journal.resize(used + LINE_BYTES as usize, 0);
-                engine::work(&plan, chunk..chunk + 1, &mut journal, used).unwrap();
-            }
-            prop_assert_eq!(&journal[engine::HEADER_BYTES as usize..], &lines[..]);
+            prop_assert_eq!(&journal(&order[..count])[engine::HEADER_BYTES as usize..], &lines[..]);
             for bridged in 0..4 {
                 prop_assert_eq!(&lines_of(&plan, &engine::header(&plan).unwrap(), &order[..count], bridged).unwrap(), &lines);
             }
