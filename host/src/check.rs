@@ -54,7 +54,7 @@ impl Check {
             return say(format_args!("accepted; {} is not begun", shown(path)));
         }
         // Where the digest is to be written, nobody else adds a line meanwhile.
-        let locked = if self.write_digest { Some(Journal::open(path, false)?) } else { None };
+        let locked = if self.write_digest { Some(Journal::open(path, None)?) } else { None };
         let bytes = match &locked {
             Some(journal) => journal.used().to_vec(),
             None => look(path)?,

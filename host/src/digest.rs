@@ -4,7 +4,7 @@ use crate::{
     explain,
     fault::Fault,
     files::{self, sync_folder, write_whole},
-    journal::{opened, read},
+    journal::{is_digit, opened, read},
     plan::Plan,
     source::{shown, Source},
     tolerance::{common, Told},
@@ -54,7 +54,8 @@ impl Digest {
     fn beside(journal: &Path, lines_of: Option<&Plan>) -> Result<Option<Digest>, Fault> {
         let path = Digest::path(journal);
         let bytes = match opened(&path) {
-            Ok(file) => read(&path, &file)?,
+            // A file too large for a digest is read as one without a word, which is no digest either.
+            Ok(file) => read(&path, &file)?.unwrap_or_default(),
             Err(e) if e.kind() == io::ErrorKind::NotFound => return Ok(None),
             Err(e) => return Err(files::fault(&path, &e)),
         };
@@ -77,7 +78,7 @@ impl Digest {
         let mut good = version > 0;
         for i in 0..3 {
             let words: Vec<_> = lines.next().unwrap_or("").splitn(3, ' ').collect();
-            good &= words.len() == 3 && words[0] == PARTS[i] && words[1].len() == 64 && !words[2].is_empty();
+            good &= words.len() == 3 && words[0] == PARTS[i] && is_sha256(words[1]) && !words[2].is_empty();
             if good {
                 digest.digests[i] = words[1].to_owned();
                 digest.files[i] = words[2].to_owned();
@@ -119,6 +120,11 @@ fn version(line: &str) -> Option<u64> {
     (line == format!("{}{}", TITLE, version)).then_some(version)
 }
 
+/// Whether a word is of the form that [`hash`] gives.
+fn is_sha256(word: &str) -> bool {
+    word.len() == 64 && word.as_bytes().iter().all(is_digit)
+}
+
 /// Whether a file begins as a digest does.
 pub fn begins_as_digest(head: &[u8]) -> bool {
     head.starts_with(TITLE.as_bytes())
@@ -150,11 +156,12 @@ pub fn is_known(plan: &Plan, journal: &Path) -> Result<bool, Fault> {
         return Ok(true);
     }
     Err(Fault::Files(format!(
-        "{}: its numbers are not those that {} was begun with, as {} shows; put the old file back, or sweep the new one \
-         into a journal of its own with --journal",
+        "{0}: its numbers are not those that {1} was begun with, as {2} shows; put the old file back, or sweep the new one \
+         into a journal of its own with --journal. If the file is right and {2} is not, move {2} away and {3}",
         changed.join(", "),
         shown(journal),
-        shown(&Digest::path(journal))
+        shown(&Digest::path(journal)),
+        worked_out_again(plan, journal)
     )))
 }
 

@@ -4,7 +4,7 @@ use crate::{
     engine::{self, Refusal, Size, CHUNK_CELLS, HEADER_BYTES, LINE_BYTES},
     fault::Fault,
     instant,
-    journal::{chunk_of, hex, lines},
+    journal::{chunk_of, hex, is_digit, lines},
     plan::{Plan, VECTOR_COLUMNS},
     sheet::Sheet,
     source::shown,
@@ -232,14 +232,15 @@ impl ZeroTail {
     }
 }
 
-/// The tail of zero bytes of a journal that the library refuses for nothing else.
+/// The tail of zero bytes of a journal that the library refuses for nothing else. Bytes before them that are no digits are of no frame that was
+/// cut: no write made them.
 pub fn zero_tail(plan: &Plan, bytes: &[u8]) -> Option<ZeroTail> {
     if engine::recover(plan, bytes).map_or_else(|refusal| refusal.number(), |_| 0) != 11 {
         return None;
     }
     let end = bytes.iter().rposition(|&byte| byte != 0).map_or(0, |last| last + 1);
     let keep = engine::recover(plan, &bytes[..end]).ok()?;
-    Some(ZeroTail { keep, cut: end - keep, zeros: bytes.len() - end })
+    bytes[keep..end].iter().all(is_digit).then_some(ZeroTail { keep, cut: end - keep, zeros: bytes.len() - end })
 }
 
 /// How many faults of a damaged journal are listed one by one.
@@ -333,7 +334,7 @@ const FIELDS: [(&str, usize); 9] = [
 
 fn header_faults(header: &[u8], bytes: &[u8]) -> String {
     let digits = HEADER_BYTES as usize - 1;
-    if let Some(i) = bytes.iter().take(digits).position(|d| hex(&[*d]).is_none()) {
+    if let Some(i) = bytes.iter().take(digits).position(|byte| !is_digit(byte)) {
         return format!("  line 1, column {}: byte {:#04x}; allowed: 0 to 9 and a to f", i + 1, bytes[i]);
     }
     let mut faults = Vec::new();
@@ -368,7 +369,7 @@ fn line_fault(plan: &Plan, line: &[u8], number: usize, seen: &mut [Option<usize>
     if line.iter().all(|&b| b == 0) {
         return Some((1, "33 zero bytes, as a power cut may leave them where lines were not yet synced".into()));
     }
-    if let Some(i) = line[..digits].iter().position(|d| hex(&[*d]).is_none()) {
+    if let Some(i) = line[..digits].iter().position(|byte| !is_digit(byte)) {
         return Some((i + 1, format!("byte {:#04x}; allowed: 0 to 9 and a to f", line[i])));
     }
     if line[digits] != b'\n' {

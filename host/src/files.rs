@@ -53,10 +53,14 @@ impl Place {
     /// The first bytes of a plain file that stands there, at most so many.
     pub fn head(&self, most: u64) -> io::Result<Vec<u8>> {
         let mut head = Vec::new();
-        if self.now.as_ref().map_or(false, Metadata::is_file) {
-            File::open(&self.path)?.take(most).read_to_end(&mut head)?;
+        if let Some(path) = self.existing() {
+            File::open(path)?.take(most).read_to_end(&mut head)?;
         }
         Ok(head)
+    }
+    /// The name, without links, of a plain file that stands there.
+    pub fn existing(&self) -> Option<&Path> {
+        self.now.as_ref().filter(|now| now.is_file()).map(|_| &*self.path)
     }
     /// A pipe or a device, which is written as it is; a disk is refused.
     fn is_stream(&self) -> bool {
@@ -102,7 +106,8 @@ fn same_file(a: &Metadata, b: &Metadata) -> bool {
     (a.dev(), a.ino()) == (b.dev(), b.ino())
 }
 
-fn folder_of(path: &Path) -> &Path {
+/// The folder in which a file stands or shall stand.
+pub fn folder_of(path: &Path) -> &Path {
     path.parent().filter(|p| !p.as_os_str().is_empty()).unwrap_or_else(|| Path::new("."))
 }
 

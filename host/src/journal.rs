@@ -5,7 +5,7 @@ use crate::{
     files::{fault, reason, sync_folder},
     source::shown,
     stop,
-    text::{counted, grouped},
+    text::{counted, grouped, quoted},
 };
 use fs2::FileExt;
 use std::{
@@ -29,12 +29,13 @@ pub struct Journal {
 const MOST: u64 = 1 << 24;
 
 impl Journal {
-    /// Opens the plan's journal, or makes an empty one, locks it and reads it.
-    pub fn open(path: &Path, wait: bool) -> Result<Journal, Fault> {
+    /// Opens the plan's journal, or makes an empty one, locks it and reads it. `wait`: whether to wait while another process has it locked, for a
+    /// command with that option.
+    pub fn open(path: &Path, wait: Option<bool>) -> Result<Journal, Fault> {
         let file = locked(path, wait)?;
         // What a killed process left may never have been synced: it is, before a line follows it or a window is listed from it.
         file.sync_all().and_then(|()| sync_name(path)).map_err(|e| fault(path, &e))?;
-        Ok(Journal { path: path.to_owned(), bytes: read(path, &file)?, file })
+        Ok(Journal { path: path.to_owned(), bytes: whole(path, &file)?, file })
     }
     pub fn used(&self) -> &[u8] {
         &self.bytes
@@ -104,7 +105,9 @@ fn sync_name(path: &Path) -> io::Result<()> {
 }
 
 /// Opens the file for this process alone, and makes an empty one if there is none.
-fn locked(path: &Path, wait: bool) -> Result<File, Fault> {
+fn locked(path: &Path, wait: Option<bool>) -> Result<File, Fault> {
+    let advice = if wait.is_some() { "let it end, or wait for it with --wait" } else { "let it end, then check again" };
+    let wait = wait.unwrap_or(false);
     let asked = Instant::now();
     let mut reported = false;
     loop {
@@ -124,10 +127,7 @@ fn locked(path: &Path, wait: bool) -> Result<File, Fault> {
             Err(e) if e.kind() == io::ErrorKind::WouldBlock => {
                 // `wilfnusk status` looks at the lock for a moment.
                 if !wait && asked.elapsed() > Duration::from_millis(300) {
-                    return Err(Fault::Files(format!(
-                        "{}: another process sweeps into it; let it end, or wait for it with --wait",
-                        shown(path)
-                    )));
+                    return Err(Fault::Files(format!("{}: another process sweeps into it; {}", shown(path), advice)));
                 }
                 if wait && !reported && asked.elapsed() > Duration::from_secs(1) {
                     reported = true;
@@ -167,25 +167,50 @@ fn plain(path: &Path, file: &File) -> Result<Metadata, Fault> {
     Err(Fault::Files(format!("{}: this is {}; allowed: a plain file", shown(path), what)))
 }
 
-/// The bytes of a journal or of its digest.
-pub fn read(path: &Path, mut file: &File) -> Result<Vec<u8>, Fault> {
+/// The bytes of a journal or of its digest, or the length of a file that is too large for either.
+pub fn read(path: &Path, mut file: &File) -> Result<Result<Vec<u8>, u64>, Fault> {
     let about = plain(path, file)?;
     if about.len() > MOST {
-        return Err(Fault::Files(format!("{}: {} bytes; allowed: at most {}, which no journal exceeds", shown(path), about.len(), MOST)));
+        return Ok(Err(about.len()));
     }
     let mut bytes = Vec::new();
     file.read_to_end(&mut bytes).map_err(|e| fault(path, &e))?;
-    Ok(bytes)
+    Ok(Ok(bytes))
+}
+
+/// The bytes of a journal.
+fn whole(path: &Path, file: &File) -> Result<Vec<u8>, Fault> {
+    read(path, file)?.map_err(|length| {
+        Fault::Files(format!(
+            "{}: {} bytes; allowed: at most {}, which no journal exceeds. If it ends with zero bytes, as a power cut may leave them, shorten it: \
+             truncate -s {} {}",
+            shown(path),
+            grouped(length),
+            grouped(MOST),
+            MOST,
+            quoted(path)
+        ))
+    })
 }
 
 /// The bytes of a journal that is only looked at.
 pub fn look(path: &Path) -> Result<Vec<u8>, Fault> {
-    read(path, &opened(path).map_err(|e| fault(path, &e))?)
+    whole(path, &opened(path).map_err(|e| fault(path, &e))?)
 }
 
 /// The whole lines after the header.
 pub fn lines(journal: &[u8]) -> impl Iterator<Item = &[u8]> {
     journal.get(HEADER_BYTES as usize..).unwrap_or(&[]).chunks_exact(LINE_BYTES as usize)
+}
+
+/// Whether a byte is a lowercase hexadecimal digit.
+pub fn is_digit(byte: &u8) -> bool {
+    matches!(byte, b'0'..=b'9' | b'a'..=b'f')
+}
+
+/// Whether a line is of the form that chunk lines have.
+pub fn is_line(line: &[u8]) -> bool {
+    matches!(line, [digits @ .., b'\n'] if digits.len() + 1 == LINE_BYTES as usize && digits.iter().all(is_digit))
 }
 
 /// A field of lowercase hexadecimal digits.
@@ -220,7 +245,7 @@ mod tests {
     use std::ops::Range;
 
     fn begun(folder: &Path) -> Journal {
-        let mut journal = Journal::open(&folder.join("j"), false).unwrap();
+        let mut journal = Journal::open(&folder.join("j"), Some(false)).unwrap();
         journal.append(&engine::header(&small()).unwrap()).unwrap();
         journal
     }
@@ -252,7 +277,7 @@ mod tests {
         let (path, bytes) = (journal.path.clone(), journal.used().to_vec());
         drop(journal);
         assert_eq!(look(&path).unwrap(), bytes);
-        let mut journal = Journal::open(&path, false).unwrap();
+        let mut journal = Journal::open(&path, Some(false)).unwrap();
         assert_eq!(journal.used(), &bytes[..]);
         assert_eq!(done(journal.used(), 5), [true, true, true, true, false]);
         journal.shorten(HEADER_BYTES as usize).unwrap();
@@ -282,7 +307,7 @@ mod tests {
         let folder = tempfile::tempdir().unwrap();
         let journal = begun(folder.path());
         assert!(is_locked(&journal.path));
-        let second = Journal::open(&journal.path, false).err().unwrap();
+        let second = Journal::open(&journal.path, Some(false)).err().unwrap();
         assert!(second.to_string().contains("another process sweeps into it"));
         let path = journal.path.clone();
         drop(journal);
@@ -301,11 +326,11 @@ mod tests {
         let folder = tempfile::tempdir().unwrap();
         for (path, says) in [(folder.path(), "a folder"), (Path::new("/dev/zero"), "a device")] {
             assert!(look(path).unwrap_err().to_string().contains(says));
-            assert!(Journal::open(path, false).err().unwrap().to_string().contains(says));
+            assert!(Journal::open(path, Some(false)).err().unwrap().to_string().contains(says));
         }
         let path = folder.path().join("large");
         File::create(&path).unwrap().set_len(MOST + 1).unwrap();
-        assert!(look(&path).unwrap_err().to_string().contains("16777217 bytes; allowed: at most 16777216"));
+        assert!(look(&path).unwrap_err().to_string().contains("16,777,217 bytes; allowed: at most 16,777,216"));
     }
     #[test]
     fn digits_and_chunks_are_read_and_other_bytes_are_not() {

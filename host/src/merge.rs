@@ -4,7 +4,7 @@ use crate::{
     engine::{self, HEADER_BYTES},
     explain,
     fault::Fault,
-    files::write_whole,
+    files::{self, folder_of, write_whole, Place},
     journal::{chunk_of, done, lines, look},
     plan::Plan,
     say,
@@ -51,6 +51,7 @@ impl Merge {
         if fs::symlink_metadata(&self.output).is_ok() {
             return Err(Fault::Files(format!("{}: the file exists, and nothing was written; name another", shown(&self.output))));
         }
+        self.can_be_written()?;
         let mut parts = Vec::new();
         for path in &self.journals {
             let mut journal = look(path)?;
@@ -72,6 +73,15 @@ impl Merge {
         write_whole(&self.output, &merged)?;
         sentences.push(self.result(&plan, &merged));
         sentences.into_iter().try_for_each(say)
+    }
+    /// Refuses, before any work, a new journal that could not be written.
+    fn can_be_written(&self) -> Result<(), Fault> {
+        let folder = folder_of(&self.output);
+        if !folder.exists() {
+            let (output, folder) = (shown(&self.output), shown(folder));
+            return Err(Fault::Files(format!("-o {}: there is no folder {}; make it, or name another", output, folder)));
+        }
+        Place::of(&self.output).and_then(|place| place.try_write()).map_err(|e| files::fault(&self.output, &e))
     }
     /// How many chunks have a line in the new journal.
     fn result(&self, plan: &Plan, merged: &[u8]) -> String {

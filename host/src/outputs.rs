@@ -1,9 +1,10 @@
 //! Where a listing goes: files, which are whole or not written at all, and then standard output.
 use crate::{
     digest::{begins_as_digest, Digest},
-    engine::HEADER_BYTES,
+    engine::{HEADER_BYTES, LINE_BYTES},
     fault::Fault,
     files::{self, buffered, write_output, Place},
+    journal::{is_digit, is_line, lines},
     listing::Listing,
     plan::Plan,
     selection::Selected,
@@ -15,7 +16,10 @@ use clap::Args;
 use std::{
     fs::File,
     io::{self, Write},
-    os::fd::{AsFd, BorrowedFd},
+    os::{
+        fd::{AsFd, BorrowedFd},
+        unix::ffi::OsStrExt,
+    },
     path::{Path, PathBuf},
 };
 
@@ -145,8 +149,8 @@ pub fn can_be_written<'a>(outputs: impl Iterator<Item = (&'static str, &'a Path)
         if let Some((what, _)) = streams.iter().find(|(_, file)| file.as_ref().map_or(false, |file| place.is_open(file))) {
             return usage(format!("{} goes into this file; name another, or \"-\" for standard output", what));
         }
-        if let Some(what) = begins_as(&place.head(HEADER_BYTES).map_err(|e| files::fault(path, &e))?) {
-            return usage(format!("this file begins as {} does, and is not overwritten; name another, or remove it first", what));
+        if let Some(sign) = of_a_sweep(path, &place).map_err(|e| files::fault(path, &e))? {
+            return usage(format!("this file {}, and is not overwritten; name another, or remove it first", sign));
         }
         place.try_write().map_err(|e| files::fault(path, &e))?;
         if stop::asked() {
@@ -160,10 +164,29 @@ pub fn can_be_written<'a>(outputs: impl Iterator<Item = (&'static str, &'a Path)
 /// The fewest digits that are taken for the start of a journal's header where the file ends with them.
 const HEADER_START: usize = 24;
 
+/// How much of a file is searched for a chunk line.
+const SEARCHED: u64 = 1 << 16;
+
+/// The sign by which a plain file that stands in an output's place is a journal or a digest, damaged or not.
+fn of_a_sweep(path: &Path, place: &Place) -> io::Result<Option<String>> {
+    let Some(existing) = place.existing() else { return Ok(None) };
+    let head = place.head(SEARCHED)?;
+    if let Some(what) = begins_as(&head) {
+        return Ok(Some(format!("begins as {} does", what)));
+    }
+    // By the name that was given, too, which may be a link.
+    let ends_with = |end: &&&str| [path, existing].iter().any(|name| name.as_os_str().as_bytes().ends_with(end.as_bytes()));
+    if let Some(end) = [".journal", ".journal.plan"].iter().find(ends_with) {
+        return Ok(Some(format!("has a name that ends with {}", end)));
+    }
+    let line = lines(&head).position(is_line).map(|i| HEADER_BYTES as usize + i * LINE_BYTES as usize);
+    Ok(line.map(|at| format!("has a chunk line of a journal at byte {}", grouped(at + 1))))
+}
+
 /// What a file that begins so is, if it belongs to a sweep. No CSV, JSON or SVG begins so.
 fn begins_as(head: &[u8]) -> Option<&'static str> {
-    let digits = head.iter().take_while(|b| matches!(b, b'0'..=b'9' | b'a'..=b'f')).count();
-    let is_header = digits + 1 == HEADER_BYTES as usize && head.ends_with(b"\n");
+    let digits = head.iter().take_while(|byte| is_digit(byte)).count();
+    let is_header = digits + 1 == HEADER_BYTES as usize && head.get(digits) == Some(&b'\n');
     if is_header || digits == head.len() && (HEADER_START..HEADER_BYTES as usize).contains(&digits) {
         Some("a journal")
     } else if begins_as_digest(head) {

@@ -102,7 +102,7 @@ impl Sweep {
         self.outputs.check(&plan, &path, &selected)?;
         tell_remarks(&plan);
         stop::listen();
-        let mut journal = Journal::open(&path, self.wait)?;
+        let mut journal = Journal::open(&path, Some(self.wait))?;
         let evidence = self.start(&plan, &mut journal)?;
 
         // A chunk that was asked for twice is worked out once.

@@ -168,6 +168,30 @@ fn a_digest_of_another_plan_is_refused() {
     assert!(f.read("plan.journal") == journal && !f.has("all.journal") && !f.has("all.journal.plan"));
 }
 
+/// Beside a journal with lines: no file of the plan is to blame.
+#[test]
+fn a_digest_that_is_not_of_lowercase_hexadecimal_digits_is_no_digest() {
+    let f = Folder::of_two_plans();
+    done(&f, "sweep plan.toml -q --part 1/2");
+    let good = f.read("plan.journal.plan");
+    let digits = |part: &str| good.find(part).unwrap() + part.len() + 1;
+    let of = |part: &str, to: &str| format!("{}{}{}", &good[..digits(part)], to, &good[digits(part) + to.len()..]);
+    let upper = of("ephemeris", &good[digits("ephemeris")..][..64].to_uppercase());
+    let spoiled = [of("settings", "x"), of("targets", &"X".repeat(64)), of("targets", "\0"), upper];
+    for text in spoiled.into_iter().map(String::into_bytes).chain([vec![0; (1 << 24) + 1]]) {
+        f.write("plan.journal.plan", &text);
+        let says = "plan.journal.plan, line 1, column 1: no digest of a plan; allowed: what `wilfnusk sweep` writes. Move the file away and work \
+                    every line out again with `wilfnusk check plan.toml --recompute --write-digest`, which writes a new digest if every line is the same\n";
+        for words in ["check", "status", "windows", "mask", "sweep", "check --recompute --write-digest"] {
+            refused(&f, 3, &format!("{} plan.toml", words), &[says]);
+        }
+        assert!(fs::read(f.path("plan.journal.plan")).unwrap() == text);
+    }
+    f.remove("plan.journal.plan");
+    done(&f, "check plan.toml --recompute --write-digest");
+    assert_eq!(f.read("plan.journal.plan"), good);
+}
+
 #[test]
 fn a_newer_digest_is_refused() {
     let f = Folder::of_two_plans();
@@ -300,7 +324,11 @@ fn a_digest_is_written_when_asked_for_and_every_line_is_the_same() {
     assert!(!f.has("plan.journal.plan"));
     let lock = File::open(f.path("plan.journal")).unwrap();
     lock.lock_exclusive().unwrap();
-    refused(&f, 3, "check plan.toml --recompute --write-digest", &["plan.journal: another process sweeps into it"]);
+    // `check` has no --wait.
+    let says = "plan.journal: another process sweeps into it; let it end, then check again\n";
+    refused(&f, 3, "check plan.toml --recompute --write-digest", &[says]);
+    let says = "plan.journal: another process sweeps into it; let it end, or wait for it with --wait\n";
+    refused(&f, 3, "sweep plan.toml", &[says]);
     assert!(!f.has("plan.journal.plan"));
     drop(lock);
     assert_eq!(run(&f, "check plan.toml --recompute --write-digest").stderr, "wrote plan.journal.plan\n");
@@ -317,6 +345,13 @@ fn merge_refuses_outputs_that_it_must_not_write() {
     refused(&f, 2, "merge plan.journal plan.journal -o all.journal", &["the plan comes first"]);
     std::os::unix::fs::symlink("nowhere", f.path("link")).unwrap();
     refused(&f, 3, "merge plan.toml plan.journal -o link", &["link: the file exists"]);
+    // Before a line is worked out: this one is not the plan's.
+    f.write("bad.journal", changed(&f.read("plan.journal"), 2));
+    let says = "-o nodir/x.journal: there is no folder nodir; make it, or name another\n";
+    refused(&f, 3, "merge plan.toml bad.journal -o nodir/x.journal", &[says]);
+    refused(&f, 3, "merge plan.toml bad.journal -o t.csv/x.journal", &["t.csv"]);
+    refused(&f, 3, "merge plan.toml bad.journal -o nodir/", &["nodir/: it is a folder"]);
+    assert!(!f.has("nodir"));
     // No digest is written over a file that is none.
     f.write("x.plan", "my notes");
     refused(&f, 3, "merge plan.toml plan.journal -o x", &["x.plan, line 1, column 1: no digest of a plan"]);

@@ -233,6 +233,51 @@ fn an_output_never_overwrites_a_journal_or_a_digest_whatever_its_name() {
     }
 }
 
+/// A journal whose header is spoiled and a spoiled digest, by their names or by a line that is left.
+#[test]
+fn an_output_never_overwrites_a_damaged_journal_or_digest() {
+    let f = Folder::new(&["A"], &"01".repeat(100), "tolerance = 10\n").swept();
+    let (journal, digest) = (f.read("plan.journal"), f.read("plan.journal.plan"));
+    let spoiled = format!("X{}", &journal[1..]);
+    // Only the last of 4 lines is right; and a line in the last place of the first 64 KiB.
+    let last = format!("{}{}", "\0".repeat(107 + 3 * 33), &journal[107 + 3 * 33..]);
+    let far = format!("{}{}", "\0".repeat(107 + 1981 * 33), &journal[107..140]);
+    let named = |end: &str| format!("this file has a name that ends with {}", end);
+    let line = |at: &str| format!("this file has a chunk line of a journal at byte {}", at);
+    let refused = [
+        ("part.journal", spoiled.clone(), named(".journal")),
+        ("empty.journal", String::new(), named(".journal")),
+        ("part.journal.plan", format!("X{}", &digest[1..]), named(".journal.plan")),
+        ("w.csv", spoiled.clone(), line("108")),
+        ("last", last, line("207")),
+        ("far", far, line("65,481")),
+    ];
+    for (name, text, _) in &refused {
+        f.write(name, text);
+    }
+    symlink("part.journal", f.path("link")).unwrap();
+    f.write("plain", "x");
+    symlink("plain", f.path("link.journal")).unwrap();
+    let before = f.all();
+    for (name, _, why) in refused.iter().chain(&["link", "link.journal"].map(|link| (link, String::new(), named(".journal")))) {
+        let says = format!(" {}: {}, and is not overwritten; name another, or remove it first\n", name, why);
+        f.run(&["windows", "plan.toml", "--json", name]).says(2, &[&format!("--json{}", says)]);
+        f.run(&["rolls", "plan.toml", "--csv", name]).says(2, &[&format!("--csv{}", says)]);
+    }
+    assert!(f.all() == before, "a refused command changed a file");
+    // A line in another place, a shorter one, upper case, one beyond the first 64 KiB; a name that only resembles; a file that is not there.
+    let beyond = format!("{}{}", "\0".repeat(107 + 1982 * 33), &journal[107..140]);
+    let upper = format!("{}{}\n", " ".repeat(107), "A".repeat(32));
+    for old in [&spoiled[1..140], &spoiled[..139], &upper, &beyond] {
+        f.write("old", old);
+        f.run(&["windows", "plan.toml", "--csv", "old"]).says(0, &["wrote old\n"]);
+    }
+    f.write("journal", "x");
+    for name in ["journal", "new.journal"] {
+        f.run(&["windows", "plan.toml", "--csv", name]).says(0, &["wrote "]);
+    }
+}
+
 /// Whether the folder in which an output is made is there, with the output in it if it is to be.
 fn aside(f: &Folder, with_file: bool) -> bool {
     let entries = fs::read_dir(f.path(".")).unwrap().map(|entry| entry.unwrap());

@@ -86,10 +86,12 @@ fn a_tail_of_zero_bytes_is_named_and_dropped_when_asked_for() {
         done(&folder, "sweep plan.toml -q");
         assert_eq!(done(&folder, "windows plan.toml --csv -"), windows);
     }
-    // Damage before the zeros, and zeros with a line after them, are not a tail: nothing is dropped.
+    // Damage before the zeros, bytes of no line before them, and zeros with a line after them, are not a tail: nothing is dropped.
     let mut wrong = [&whole[..], &[0; 66]].concat();
     wrong[HEADER + 3] = b'x';
-    for found in [wrong, [&lines(5)[..], &[0; LINE], &whole[HEADER + 5 * LINE..]].concat()] {
+    let no_write = |bytes: &[u8]| [&whole[..HEADER + 2 * LINE + 8], bytes, &[0; 40]].concat();
+    let between = [&lines(5)[..], &[0; LINE], &whole[HEADER + 5 * LINE..]].concat();
+    for found in [wrong, no_write(b"zz"), no_write(b"A"), no_write(b"\n"), no_write(b"\0a"), between] {
         put(&folder, &found);
         let ended = run(&folder, "sweep plan.toml --drop-zero-tail");
         ended.says(1, &["refused with 11: plan.journal: ", "not right; nothing was changed"]);
@@ -98,6 +100,50 @@ fn a_tail_of_zero_bytes_is_named_and_dropped_when_asked_for() {
     // Where nothing is to be dropped, the option changes nothing.
     put(&folder, &whole);
     assert!(!run(&folder, "sweep plan.toml -q --drop-zero-tail").stderr.contains("dropped"));
+    assert!(bytes(&folder) == whole);
+}
+
+/// As docs/JOURNAL.md has it.
+#[test]
+fn fewer_than_33_bytes_after_the_last_line_are_removed_and_other_zero_bytes_refused() {
+    let folder = folder();
+    done(&folder, "sweep plan.toml -q");
+    let whole = bytes(&folder);
+    let zeros = |keep: usize, zeros: usize| [&whole[..keep], &vec![0; zeros]].concat();
+    let five = HEADER + 5 * LINE;
+    for found in [zeros(five, 1), zeros(five, 32), zeros(HEADER, 32), zeros(five + 10, 22)] {
+        put(&folder, &found);
+        run(&folder, "sweep plan.toml -q").says(0, &["recovered plan.journal: removed "]);
+        assert!(bytes(&folder) == whole);
+    }
+    for found in [zeros(five + 10, 23), zeros(five + 10, 32), zeros(50, 1), zeros(0, 1)] {
+        put(&folder, &found);
+        run(&folder, "sweep plan.toml").says(1, &["refused with 11", "--drop-zero-tail`\n"]);
+        assert!(bytes(&folder) == found);
+        done(&folder, "sweep plan.toml -q --drop-zero-tail");
+        assert!(bytes(&folder) == whole);
+    }
+    let says = "Fewer than 33 bytes after the last whole line are what a cut may leave of a line, and every sweep removes them, zero bytes too. Zero \
+                bytes elsewhere (after a cut line, so that both together are 33 bytes or more; after a beginning of the header; in a file of nothing else) \
+                are refused with 11, however few they are, and `--drop-zero-tail` removes them.";
+    assert!(common::document().1.contains(says));
+}
+
+#[test]
+fn a_tail_of_zero_bytes_beyond_any_journal_is_cut_off_as_advised() {
+    let folder = folder();
+    done(&folder, "sweep plan.toml -q");
+    let whole = bytes(&folder);
+    fs::OpenOptions::new().write(true).open(folder.path("plan.journal")).unwrap().set_len(200 << 20).unwrap();
+    let says = "plan.journal: 209,715,200 bytes; allowed: at most 16,777,216, which no journal exceeds. If it ends with zero bytes, as a power cut may \
+                leave them, shorten it: truncate -s 16777216 plan.journal\n";
+    for words in ["sweep", "windows", "status", "check"] {
+        run(&folder, &format!("{} plan.toml", words)).says(3, &[says]);
+    }
+    let advice = says.split_once("shorten it: ").unwrap().1;
+    assert_eq!(folder.shell(advice).status, 0);
+    run(&folder, "sweep plan.toml").says(1, &["refused with 11: plan.journal: it ends with 16,776,020 zero bytes"]);
+    done(&folder, "sweep plan.toml -q --drop-zero-tail");
     assert!(bytes(&folder) == whole);
 }
 

@@ -142,7 +142,8 @@ pub fn refused_as_another_plan(f: &Folder, changed: &str) {
     let before = f.all();
     let says = format!(
         "wilfnusk: {}: its numbers are not those that plan.journal was begun with, as plan.journal.plan shows; put the old file back, or sweep \
-         the new one into a journal of its own with --journal\n",
+         the new one into a journal of its own with --journal. If the file is right and plan.journal.plan is not, move plan.journal.plan away and work \
+         every line out again with `wilfnusk check plan.toml --recompute --write-digest`, which writes a new digest if every line is the same\n",
         changed
     );
     for words in [
