@@ -16,7 +16,7 @@ use crate::{
 use clap::Args;
 use std::{
     collections::HashMap,
-    fs,
+    fs, io,
     path::{Path, PathBuf},
 };
 
@@ -77,7 +77,7 @@ impl Merge {
     /// Refuses, before any work, a new journal that could not be written.
     fn can_be_written(&self) -> Result<(), Fault> {
         let folder = folder_of(&self.output);
-        if !folder.exists() {
+        if fs::metadata(folder).map_or_else(|e| e.kind() == io::ErrorKind::NotFound, |now| !now.is_dir()) {
             let (output, folder) = (shown(&self.output), shown(folder));
             return Err(Fault::Files(format!("-o {}: there is no folder {}; make it, or name another", output, folder)));
         }

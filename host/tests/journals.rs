@@ -347,9 +347,10 @@ fn merge_refuses_outputs_that_it_must_not_write() {
     refused(&f, 3, "merge plan.toml plan.journal -o link", &["link: the file exists"]);
     // Before a line is worked out: this one is not the plan's.
     f.write("bad.journal", changed(&f.read("plan.journal"), 2));
-    let says = "-o nodir/x.journal: there is no folder nodir; make it, or name another\n";
-    refused(&f, 3, "merge plan.toml bad.journal -o nodir/x.journal", &[says]);
-    refused(&f, 3, "merge plan.toml bad.journal -o t.csv/x.journal", &["t.csv"]);
+    for folder in ["nodir", "nodir/deep", "t.csv"] {
+        let says = format!("wilfnusk: -o {0}/x.journal: there is no folder {0}; make it, or name another\n", folder);
+        refused(&f, 3, &format!("merge plan.toml bad.journal -o {}/x.journal", folder), &[&says]);
+    }
     refused(&f, 3, "merge plan.toml bad.journal -o nodir/", &["nodir/: it is a folder"]);
     assert!(!f.has("nodir"));
     // No digest is written over a file that is none.
