@@ -5,6 +5,7 @@ use crate::{
     engine::{self, HEADER_BYTES},
     explain,
     fault::Fault,
+    from_1_up,
     journal::{done, look, Journal},
     look::about,
     plan::Plan,
@@ -26,7 +27,7 @@ pub struct Check {
     #[arg(long)]
     recompute: bool,
     /// Only this many lines of the journal, drawn at random
-    #[arg(long, value_name = "N", requires = "recompute")]
+    #[arg(long, value_name = "N", value_parser = from_1_up, requires = "recompute")]
     sample: Option<NonZeroUsize>,
     /// Draw the lines that were drawn with this seed
     #[arg(long, requires = "sample")]

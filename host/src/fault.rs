@@ -1,4 +1,5 @@
 //! Why the program stops, and the exit status that says so.
+use crate::files::reason;
 use std::{fmt, io};
 
 #[derive(Debug)]
@@ -35,7 +36,7 @@ impl Fault {
     pub fn output(e: io::Error) -> Fault {
         match e.kind() {
             io::ErrorKind::BrokenPipe => Fault::Unread,
-            _ => Fault::Files(format!("standard output: {}", e)),
+            _ => Fault::Files(format!("standard output: {}", reason(&e))),
         }
     }
 }

@@ -12,7 +12,7 @@ use crate::{
     plan::Plan,
     remarks::tell_remarks,
     say, say_json,
-    selection::{self, Selected, Selection},
+    selection::{Names, Selected, Selection},
     source::shown,
     text::{all_ranges, counted, grouped, number, printable, ranges},
     tolerance,
@@ -219,10 +219,10 @@ pub struct Mask {
     #[command(flatten)]
     files: Files,
     /// The mask at this roll, in degrees, in place of the sweep's; a configured roll overrides it, with a warning
-    #[arg(long, value_name = "DEG", allow_hyphen_values = true)]
+    #[arg(long, value_name = "DEG", value_parser = degrees, allow_hyphen_values = true)]
     roll: Option<f64>,
     /// The mask at this roll, which nothing overrides
-    #[arg(long, value_name = "DEG", allow_hyphen_values = true, conflicts_with = "roll")]
+    #[arg(long, value_name = "DEG", value_parser = degrees, allow_hyphen_values = true, conflicts_with = "roll")]
     fixed_roll: Option<f64>,
     /// Rows: 0 or 1 for each time, then the target; csv: a line per cell; raw: a byte per cell
     #[arg(long, value_enum, default_value_t = Form::Rows)]
@@ -262,6 +262,11 @@ impl Mask {
         };
         buffered(io::stdout().lock(), |out| self.form.print(&plan, &selected, &mask, out)).map_err(Fault::output)
     }
+}
+
+/// A roll of the command line. The library takes any number, and at one that is not finite no cell is violated.
+fn degrees(text: &str) -> Result<f64, String> {
+    text.parse().ok().filter(|roll: &f64| roll.is_finite()).ok_or_else(|| "allowed: a finite number of degrees".into())
 }
 
 /// The configured roll, where the plan has one that takes the place of the roll asked for and is not the same.
@@ -315,17 +320,16 @@ pub struct Regard {
     #[arg(long, value_name = "J", conflicts_with = "time")]
     sample: Option<usize>,
     /// The marks at this roll, in degrees; a configured roll overrides it, with a warning [default: at every roll of the plan, which must then be even steps]
-    #[arg(long, value_name = "DEG", allow_hyphen_values = true)]
+    #[arg(long, value_name = "DEG", value_parser = degrees, allow_hyphen_values = true)]
     roll: Option<f64>,
-    /// List this target alone; may be given again. Where no target has exactly this name, * stands for any characters, ? for one, [ab] for a or b
-    #[arg(long = "target", value_name = "NAME")]
-    names: Vec<String>,
+    #[command(flatten)]
+    names: Names,
 }
 
 impl Regard {
     pub fn run(&self) -> Result<(), Fault> {
         let (plan, journal) = Files { plan: self.plan.clone(), journal: None }.read()?;
-        let targets = selection::targets(&self.names, &plan)?;
+        let targets = self.names.of(&plan)?;
         let sample = match (&self.time, self.sample) {
             (Some(text), _) => sample_at(&plan, text)?,
             (None, sample) => sample.unwrap_or(0),

@@ -44,6 +44,7 @@ use fault::Fault;
 use serde::Serialize;
 use std::{
     io::{self, Write},
+    num::NonZeroUsize,
     path::PathBuf,
     process::exit,
 };
@@ -120,6 +121,11 @@ impl Files {
         let journal = self.journal.clone().unwrap_or_else(|| plan.journal());
         Ok((plan, journal))
     }
+}
+
+/// A count of the command line.
+fn from_1_up(text: &str) -> Result<NonZeroUsize, String> {
+    text.parse().map_err(|_| "allowed: a whole number from 1 up".into())
 }
 
 fn run(command: Command) -> Result<(), Fault> {

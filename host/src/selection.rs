@@ -5,10 +5,17 @@ use glob::Pattern;
 use std::ops::{Range, RangeInclusive};
 
 #[derive(Args, Default)]
-pub struct Selection {
-    /// List this target alone; may be given again. Where no target has exactly this name, * stands for any characters, ? for one, [ab] for a or b
+pub struct Names {
+    /// List this target alone; may be given again. Where no target has exactly this name, * stands for any characters, ? for one, [ab] for a or b,
+    /// [!ab] for neither a nor b
     #[arg(long = "target", value_name = "NAME")]
     names: Vec<String>,
+}
+
+#[derive(Args, Default)]
+pub struct Selection {
+    #[command(flatten)]
+    targets: Names,
     /// Leave out what ends before this time (RFC 3339); windows that meet it are listed whole
     #[arg(long, value_name = "TIME", value_parser = time)]
     from: Option<i64>,
@@ -30,11 +37,19 @@ impl Selection {
     pub fn of(&self, plan: &Plan) -> Result<Selected, Fault> {
         if let (Some(from), Some(to)) = (self.from, self.to) {
             if from > to {
-                let time = |t| instant::format(t, instant::digits([t]));
-                return Err(Fault::Usage(format!("--from {} is after --to {}; allowed: from before to", time(from), time(to))));
+                return Err(Fault::Usage(format!(
+                    "--from {} is after --to {}; allowed: --from not after --to",
+                    shortest(from),
+                    shortest(to)
+                )));
             }
         }
-        Ok(Selected { targets: targets(&self.names, plan)?, all_targets: self.names.is_empty(), from: self.from, to: self.to })
+        let all_targets = self.targets.names.is_empty();
+        let selected = Selected { targets: self.targets.of(plan)?, all_targets, from: self.from, to: self.to };
+        if let Some(text) = selected.no_time(plan) {
+            tell!("warning: {}", text);
+        }
+        Ok(selected)
     }
 }
 
@@ -55,39 +70,63 @@ impl Selected {
     }
     /// The selected times in words, to follow a noun.
     pub fn when(&self) -> String {
-        let time = |t| instant::format(t, instant::digits([t]));
         match (self.from, self.to) {
-            (Some(from), Some(to)) => format!("from {} to {}", time(from), time(to)),
-            (Some(from), None) => format!("from {}", time(from)),
-            (None, Some(to)) => format!("up to {}", time(to)),
+            (Some(from), Some(to)) => format!("from {} to {}", shortest(from), shortest(to)),
+            (Some(from), None) => format!("from {}", shortest(from)),
+            (None, Some(to)) => format!("up to {}", shortest(to)),
             (None, None) => "at all times".into(),
         }
     }
+    /// That no sample lies in the range asked for, if it is so: an empty listing does not show that the range misses the ephemeris.
+    fn no_time(&self, plan: &Plan) -> Option<String> {
+        if self.has_all_times() || !self.samples(&plan.times).is_empty() {
+            return None;
+        }
+        let has = match &plan.times[..] {
+            [] => "it has none".into(),
+            [only] => format!("its only time is {}", shortest(*only)),
+            [first, .., last] => format!("its first time is {}, its last {}", shortest(*first), shortest(*last)),
+        };
+        Some(format!("no time of {} lies in the range {}; {}", printable(&plan.ephemeris_file), self.when(), has))
+    }
 }
 
-/// The targets that these names select, by their numbers; all if there is none. A name that a target has exactly selects that name alone, so
-/// that one with a star or brackets is no pattern; any other is a pattern.
-pub fn targets(names: &[String], plan: &Plan) -> Result<Vec<usize>, Fault> {
-    let mut chosen = vec![names.is_empty(); plan.names.len()];
-    for name in names {
-        let pattern = if plan.names.contains(name) { Pattern::new(&Pattern::escape(name)) } else { Pattern::new(name) };
-        let mut found = false;
-        for (target, chosen) in plan.names.iter().zip(&mut chosen) {
-            if pattern.as_ref().map_or(false, |p| p.matches(target)) {
-                (found, *chosen) = (true, true);
+/// A time with as few digits as it needs.
+fn shortest(time: i64) -> String {
+    instant::format(time, instant::digits([time]))
+}
+
+impl Names {
+    /// The targets that these names select, by their numbers; all if there is none. A name that a target has exactly selects that name alone, so
+    /// that one with a star or brackets is no pattern; any other is a pattern.
+    pub fn of(&self, plan: &Plan) -> Result<Vec<usize>, Fault> {
+        let mut chosen = vec![self.names.is_empty(); plan.names.len()];
+        for name in &self.names {
+            let is_name = plan.names.contains(name);
+            let no_name = || format!("--target {}: no target of {} has that name", printable(name), printable(&plan.targets_file));
+            // Many shells read it as [!, and the crate as a class that has ^: the opposite.
+            if !is_name && name.contains("[^") {
+                let text = format!("{}, and [^ is not allowed in a pattern; allowed: [!ab] for neither a nor b", no_name());
+                return Err(Fault::Usage(text));
+            }
+            let pattern = if is_name { Pattern::new(&Pattern::escape(name)) } else { Pattern::new(name) };
+            let mut found = false;
+            for (target, chosen) in plan.names.iter().zip(&mut chosen) {
+                if pattern.as_ref().map_or(false, |p| p.matches(target)) {
+                    (found, *chosen) = (true, true);
+                }
+            }
+            if !found {
+                let wrong = pattern.err().map_or(String::new(), |e| format!(", and as a pattern it is wrong ({})", e.msg));
+                return Err(Fault::Usage(format!(
+                    "{}{}; allowed: a name as it stands there, or a pattern with *, ?, [ab] and [!ab]",
+                    no_name(),
+                    wrong
+                )));
             }
         }
-        if !found {
-            let wrong = pattern.err().map_or(String::new(), |e| format!(", and as a pattern it is wrong ({})", e.msg));
-            return Err(Fault::Usage(format!(
-                "--target {}: no target of {} has that name{}; allowed: a name as it stands there, or a pattern with *, ? and [ab]",
-                printable(name),
-                printable(&plan.targets_file),
-                wrong
-            )));
-        }
+        Ok((0..chosen.len()).filter(|&i| chosen[i]).collect())
     }
-    Ok((0..chosen.len()).filter(|&i| chosen[i]).collect())
 }
 
 fn time(text: &str) -> Result<i64, String> {
@@ -107,8 +146,8 @@ mod tests {
             &format!("name,x,y,z\n{}", rows.concat()),
             "time,sun_x,sun_y,sun_z,observer_x,observer_y,observer_z\n2026-03-20T00:00:00Z,0,1,0,0,0,0\n",
         );
-        let names: Vec<_> = names.iter().map(|n| n.to_string()).collect();
-        targets(&names, &plan.unwrap()).map_err(|e| e.to_string())
+        let names = Names { names: names.iter().map(|n| n.to_string()).collect() };
+        names.of(&plan.unwrap()).map_err(|e| e.to_string())
     }
 
     #[test]

@@ -4,6 +4,7 @@ use crate::{
     engine::{self, HEADER_BYTES},
     explain::{self, zero_tail},
     fault::Fault,
+    from_1_up,
     journal::{done, Journal},
     listing::Listing,
     outputs::Outputs,
@@ -35,10 +36,10 @@ pub struct Sweep {
     #[arg(long)]
     wait: bool,
     /// Work out on N threads [default: one per core]. The journal's bytes are the same for any N
-    #[arg(long, value_name = "N")]
+    #[arg(long, value_name = "N", value_parser = from_1_up)]
     jobs: Option<NonZeroUsize>,
     /// Write after at most N chunks [default: as many as take about 100 ms]
-    #[arg(long, value_name = "N")]
+    #[arg(long, value_name = "N", value_parser = from_1_up)]
     range: Option<NonZeroUsize>,
     /// Drop the zero bytes that a power cut left at the journal's end, where all that stands before them is right
     #[arg(long)]

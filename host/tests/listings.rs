@@ -3,7 +3,10 @@ mod common;
 
 use common::{done, json, Folder};
 use serde_json::{json, Value};
-use std::{collections::HashMap, sync::OnceLock};
+use std::{
+    collections::{BTreeSet, HashMap},
+    sync::OnceLock,
+};
 
 fn folder() -> Folder {
     Folder::new(&["Vega", "M 31"], "0010110", "tolerance = 10\n")
@@ -450,4 +453,127 @@ fn an_exact_name_selects_that_name_alone() {
     assert_eq!(names("[HB89] 1"), "clear    [HB89] 1\n");
     assert_eq!(names("*R Lyr"), "clear    * R Lyr\nclear    V* R Lyr\n");
     assert_eq!(names("[H] 1"), "clear    H 1\n");
+}
+
+/// At a roll that is no number no cell is violated, so that a slip would read as all clear.
+#[test]
+fn a_roll_that_is_not_finite_is_refused() {
+    for settings in ["tolerance = 10\n", "tolerance = 10\nconfigured_roll = 30\n"] {
+        let f = Folder::new(&["A"], "01", settings);
+        for words in ["mask plan.toml --roll", "mask plan.toml --fixed-roll", "regard plan.toml --sample 0 --roll"] {
+            for roll in ["nan", "-nan", "inf", "-inf", "infinity", "1e400", "x", ""] {
+                let ended = f.run(&words.split(' ').chain([roll]).collect::<Vec<_>>());
+                let option = words.rsplit(' ').next().unwrap();
+                ended.says(2, &[&format!("'{}' for '{} <DEG>': allowed: a finite number of degrees\n", roll, option)]);
+                assert_eq!(ended.stdout, "", "{} {}", words, roll);
+            }
+            assert_ne!(done(&f, &format!("{} -1e300", words)), "");
+        }
+    }
+}
+
+#[test]
+fn a_count_that_is_no_whole_number_from_1_up_is_refused() {
+    let f = folder().swept();
+    let before = f.all();
+    for words in ["sweep plan.toml --jobs", "sweep plan.toml --range", "check plan.toml --recompute --sample"] {
+        for count in ["0", "x", "1.5", "99999999999999999999"] {
+            let option = words.rsplit(' ').next().unwrap();
+            common::run(&f, &format!("{} {}", words, count))
+                .says(2, &[&format!("'{}' for '{} <N>': allowed: a whole number from 1 up\n", count, option)]);
+        }
+        done(&f, &format!("{} 1", words));
+    }
+    assert!(f.all() == before, "a file was changed");
+}
+
+#[test]
+fn a_range_without_a_time_of_the_ephemeris_is_reported() {
+    let f = folder().swept();
+    let commands = ["windows plan.toml", "mask plan.toml", "rolls plan.toml", "sweep plan.toml"];
+    let ends = "its first time is 2026-03-20T00:00:00Z, its last 2026-03-20T00:06:00Z\n";
+    for command in commands {
+        for (range, when) in [
+            ("--from 2027-01-01T00:00:00Z", "from 2027-01-01T00:00:00Z"),
+            ("--to 2026-03-19T23:59:59.5Z", "up to 2026-03-19T23:59:59.500Z"),
+            ("--from 2026-03-20T00:02:01Z --to 2026-03-20T00:02:59Z", "from 2026-03-20T00:02:01Z to 2026-03-20T00:02:59Z"),
+        ] {
+            let said = format!("warning: no time of e.csv lies in the range {}; {}", when, ends);
+            common::run(&f, &format!("{} {}", command, range)).says(0, &[&said]);
+        }
+        for range in ["", " --from 2026-03-20T00:06:00Z", " --to 2026-03-20T00:00:00Z"] {
+            let ended = common::run(&f, &format!("{}{}", command, range));
+            assert!(ended.status == 0 && !ended.stderr.contains("lies in the range"), "{:?}", ended);
+        }
+    }
+    let one = Folder::new(&["A"], "0", "tolerance = 10\n");
+    common::run(&one, "rolls plan.toml --from 2027-01-01T00:00:00Z").says(0, &["; its only time is 2026-03-20T00:00:00Z\n"]);
+    let empty = Folder::new(&["A"], "", "tolerance = 10\n").swept();
+    for command in commands {
+        let said = "warning: no time of e.csv lies in the range from 2027-01-01T00:00:00Z; it has none\n";
+        common::run(&empty, &format!("{} --from 2027-01-01T00:00:00Z", command)).says(0, &[said]);
+        assert!(!common::run(&empty, command).stderr.contains("lies in the range"));
+    }
+}
+
+#[test]
+fn from_may_equal_to_but_not_be_after_it() {
+    let f = folder().swept();
+    let mask = |from: &str, to: &str| common::run(&f, &format!("mask plan.toml --from 2026-03-20T00:{}Z --to 2026-03-20T00:{}Z", from, to));
+    assert_eq!(mask("02:00", "02:00").stdout, "1 Vega\n1 M 31\n");
+    mask("02:01", "02:00").says(2, &["--from 2026-03-20T00:02:01Z is after --to 2026-03-20T00:02:00Z; allowed: --from not after --to\n"]);
+}
+
+/// Many shells take `[^H]` as `[!H]`; here it would be a class of ^ and H, the opposite.
+#[test]
+fn a_pattern_with_a_caret_class_is_refused_and_one_with_an_exclamation_mark_excludes() {
+    let f = Folder::new(&["H 1", "M 31", "x[^2]"], "01", "tolerance = 10\n").swept();
+    let regard = |name: &str| f.run(&["regard", "plan.toml", "--sample", "0", "--target", name]);
+    assert_eq!(regard("[!H]*").stdout, "clear    M 31\nclear    x[^2]\n");
+    // A name that a target has is no pattern.
+    assert_eq!(regard("x[^2]").stdout, "clear    x[^2]\n");
+    let says = "--target [^H]*: no target of t.csv has that name, and [^ is not allowed in a pattern; allowed: [!ab] for neither a nor b\n";
+    regard("[^H]*").says(2, &[says]);
+    for command in ["windows", "mask", "rolls", "sweep"] {
+        f.run(&[command, "plan.toml", "--target", "[^H]*"]).says(2, &[says]);
+    }
+    for command in ["windows", "mask", "rolls", "sweep", "regard"] {
+        let help = f.run(&[command, "--help"]).stdout.split_whitespace().collect::<Vec<_>>().join(" ");
+        assert!(help.contains("[ab] for a or b, [!ab] for neither a nor b"), "{}", help);
+    }
+    assert!(common::document().1.contains("`[ab]` for a or b, and `[!ab]` for neither a nor b"));
+}
+
+/// Every key, at any depth.
+fn keys(value: &Value, found: &mut BTreeSet<String>) {
+    match value {
+        Value::Object(map) => map.iter().for_each(|(key, value)| {
+            found.insert(key.clone());
+            keys(value, found);
+        }),
+        Value::Array(list) => list.iter().for_each(|value| keys(value, found)),
+        _ => {}
+    }
+}
+
+#[test]
+fn every_key_of_json_is_in_the_guide() {
+    let f = folder().swept();
+    let (guide, _) = common::document();
+    for words in ["status plan.toml --json", "windows plan.toml --json - --from 2026-03-20T00:01:00Z", "cost plan.toml --json"] {
+        let mut found = BTreeSet::new();
+        keys(&json(&done(&f, words)), &mut found);
+        let missing: Vec<_> = found.iter().filter(|key| !guide.contains(&format!("`{}`", key))).collect();
+        assert!(missing.is_empty(), "{}: {:?}", words, missing);
+    }
+}
+
+/// As the guide has it: nothing was taken on trust.
+#[test]
+fn a_sweep_that_finds_no_line_is_verified_with_trust_journal_too() {
+    let f = folder();
+    let verified = |words: &str| json(&done(&f, &format!("{} --trust-journal --json -", words)))["verified"].clone();
+    assert_eq!(verified("sweep plan.toml"), json!(true));
+    assert_eq!(verified("sweep plan.toml"), json!(false));
+    assert_eq!(verified("windows plan.toml"), json!(false));
 }

@@ -309,3 +309,16 @@ fn a_signal_while_an_output_is_written_leaves_no_folder_and_the_old_file() {
         assert_eq!(f.read("w.json"), "old\n");
     }
 }
+
+#[test]
+fn a_standard_output_that_cannot_be_written_is_named_with_the_reason() {
+    let f = folder().swept();
+    let words = ["windows plan.toml", "windows plan.toml --json -", "mask plan.toml --form csv", "status plan.toml", "rolls plan.toml"];
+    for words in words {
+        let full = f.shell(&format!("exec $W {} > /dev/full", words));
+        full.says(3, &["wilfnusk: standard output: the disk is full\n"]);
+        let limited = f.shell(&format!("ulimit -f 0; exec $W {} > out", words));
+        limited.says(3, &["wilfnusk: standard output: the file may not grow further: a limit on the size of files (ulimit -f)"]);
+        assert!(!full.stderr.contains("os error") && !limited.stderr.contains("os error"), "{:?} {:?}", full, limited);
+    }
+}

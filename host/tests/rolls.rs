@@ -26,10 +26,11 @@ fn folder(settings: &str, targets: &[[f64; 3]], positions: &[[f64; 6]]) -> Folde
     f
 }
 
-/// Standard output of `rolls` with these words.
+/// Standard output of `rolls` with these words. Standard error has nothing, but for the warning of a range without a time.
 fn rolls(f: &Folder, words: &[&str]) -> String {
     let ended = f.run(&[&["rolls", "plan.toml"], words].concat());
-    assert_eq!((ended.status, ended.stderr.as_str()), (0, ""), "{:?}", words);
+    let said: Vec<_> = ended.stderr.lines().filter(|line| !line.starts_with("warning: no time of e.csv lies in the range from ")).collect();
+    assert_eq!((ended.status, said), (0, vec![]), "{:?}", words);
     assert!(ended.stdout.starts_with(HEAD), "{}", ended.stdout);
     ended.stdout
 }
