@@ -6,7 +6,7 @@ use crate::{
     settings::{entry, Read, Values},
     sheet::{Form, Sheet},
     source::{shown, Source},
-    text::{counted, excerpt, grouped, number},
+    text::{counted, excerpt, number},
     tolerance::{self, Told},
     tried::Rolls,
 };
@@ -164,10 +164,10 @@ impl Plan {
         let (at, text) = entry(&self.source.text, list, number).unwrap_or((list, ""));
         (self.source.at(at), text)
     }
-    /// What every command warns of: columns that are not used, two targets of one name, and a name of several lines.
+    /// What every command warns of: columns that are not used, fields of several lines, and two targets of one name.
     pub fn warnings(&self) -> Vec<String> {
-        let columns = [&self.targets_sheet, &self.ephemeris_sheet].into_iter().flat_map(Sheet::warnings);
-        columns.chain(self.warnings_of_names()).collect()
+        let of_files = [&self.targets_sheet, &self.ephemeris_sheet].into_iter().flat_map(Sheet::warnings);
+        of_files.chain(self.warnings_of_names()).collect()
     }
     fn warnings_of_names(&self) -> Vec<String> {
         const NAMED: usize = 5;
@@ -176,20 +176,15 @@ impl Plan {
         for (i, name) in self.names.iter().enumerate() {
             let field = |i| self.targets_sheet.field(i, 0);
             let before = *first.entry(name).or_insert(i);
-            let lines = name.lines().count();
-            if before == i && lines <= 1 {
+            if before == i {
                 continue;
             }
             if warnings.len() == NAMED {
                 more += 1;
                 continue;
             }
-            let target = format!("{}: target `{}`", field(i).at(), field(i).shown());
-            warnings.push(if before < i {
-                format!("{} has the name of line {}; both are listed under it", target, field(before).line())
-            } else {
-                format!("{} has a name of {} lines; is a quote missing at the end of the first?", target, grouped(lines))
-            });
+            let (at, name, line) = (field(i).at(), field(i).shown(), field(before).line());
+            warnings.push(format!("{}: target `{}` has the name of line {}; both are listed under it", at, name, line));
         }
         if more > 0 {
             let more = counted(more, "more target");
@@ -223,7 +218,9 @@ fn told(source: &Source, key: Option<(Read, Told, Vec<f64>)>, targets: &Sheet) -
             Err(source.fault(read.at, both, "one of the two: remove this key, or remove or rename that column"))
         }
         (None, None) => {
-            let allowed = format!("{}, or a column `tolerance` in {}", tolerance::ALLOWED, shown(&targets.source.path));
+            let unused = targets.lookalike(TOLERANCE_COLUMN).map(|column| format!(" (its column `{}` is not used)", excerpt(column)));
+            let (file, unused) = (shown(&targets.source.path), unused.unwrap_or_default());
+            let allowed = format!("{}, or a column `tolerance` in {}{}", tolerance::ALLOWED, file, unused);
             Err(source.fault(0, "`tolerance` is missing", &allowed))
         }
     }
@@ -464,6 +461,24 @@ mod tests {
             ),
             (
                 "",
+                "name,x,y,z,tolerance_deg\nA,1,0,0,5\n",
+                "plan.toml, line 1, column 1: `tolerance` is missing; allowed: one number of degrees for all targets, or a list with one \
+                 for each, or a column `tolerance` in t.csv (its column `tolerance_deg` is not used)",
+            ),
+            (
+                "",
+                "ra_deg,name,x,Tolerances,y,z,tol\n1,A,1,5,0,0,5\n",
+                "plan.toml, line 1, column 1: `tolerance` is missing; allowed: one number of degrees for all targets, or a list with one \
+                 for each, or a column `tolerance` in t.csv (its column `Tolerances` is not used)",
+            ),
+            (
+                "",
+                "name,ra,dec,Tol [deg]\nA,1,0,5\n",
+                "plan.toml, line 1, column 1: `tolerance` is missing; allowed: one number of degrees for all targets, or a list with one \
+                 for each, or a column `tolerance` in t.csv (its column `Tol [deg]` is not used)",
+            ),
+            (
+                "",
                 "name,x,y,z,tolerance\nA,1,0,0,5\nB,1,0,0,\n",
                 "t.csv, line 3, column 9: tolerance reads ``; allowed: degrees of roll as one number, such as 5 or 0.25",
             ),
@@ -576,9 +591,15 @@ mod tests {
         let told = warnings(&format!("name,x,y,z\n{}", "A,1,0,0\n".repeat(1000)));
         assert_eq!(told.len(), 6);
         assert!(told[5].ends_with("t.csv: the same holds of 994 more targets"), "{}", told[5]);
-        let told = warnings("name,x,y,z\n\"A,1,0,0\n\"B,1,0,0\n");
-        assert_eq!(told.len(), 1);
-        assert!(told[0].contains("line 2, column 2: target `A,1,0,0\\nB` has a name of 2 lines; is a quote missing"), "{}", told[0]);
+    }
+    #[test]
+    fn a_name_of_several_lines_is_warned_of() {
+        for (end, shown) in [("\n", "\\n"), ("\r\n", "\\r\\n"), ("\r", "\\r")] {
+            let warnings = plan(TOML, format!("name,x,y,z\n\"A,1,0,0{}B\",1,0,0\n", end), EPHEMERIS).unwrap().warnings();
+            let says =
+                format!("t.csv, line 2, column 1: field `A,1,0,0{}B` has 2 lines; is a quote missing at the end of the first?", shown);
+            assert!(warnings.len() == 1 && warnings[0].ends_with(&says), "{:?}", warnings);
+        }
     }
     #[test]
     fn only_plain_files_of_a_plan_s_size_are_read() {

@@ -3,7 +3,7 @@ use crate::{
     fault::Fault,
     instant,
     source::{shown, Source},
-    text::{excerpt, grouped},
+    text::{counted, excerpt, grouped},
 };
 use csv::{ErrorKind, Position, ReaderBuilder, StringRecord};
 use std::{io::Read, path::Path};
@@ -13,6 +13,8 @@ const MOST_ROWS: usize = 65_536;
 /// A kilobyte per row, whatever other columns it has.
 const MOST_BYTES: u64 = 1024 * MOST_ROWS as u64;
 const MOST_LINE_BYTES: usize = 65_536;
+/// Of each kind, as many warnings name a place; then the others are counted.
+const NAMED: usize = 5;
 
 /// Columns that a file must have together.
 pub type Form = &'static [&'static str];
@@ -27,11 +29,20 @@ pub struct Sheet {
     columns: Vec<usize>,
     /// The columns that are not used and yet resemble a known one: the number in the file, the column's text, and the known one.
     lookalikes: Vec<(usize, String, &'static str)>,
+    several: Several,
     /// The byte where the record starts that names the columns.
     header: usize,
     /// The first rows: one more than is allowed, so that the library sees it and refuses.
     kept: Kept,
     rows: usize,
+}
+
+/// The fields of several lines, in columns that are not used too: a quote that is missing makes one of the rows that follow it.
+#[derive(Debug, Default)]
+struct Several {
+    /// Where the first ones have their opening and their closing quote.
+    first: Vec<(usize, usize)>,
+    count: usize,
 }
 
 /// The wanted columns of rows, in one text, as a list of texts per row takes most of the time that reading a large file does.
@@ -77,6 +88,7 @@ impl Sheet {
         // csv ends a record at any line end, but a comment at a line feed only: a lone carriage return after one would swallow the next row.
         source.text = with_line_feeds(source.text);
         short_lines(&source)?;
+        let several = quotes(&source)?;
         // A comment that ends with the file would be read as a record.
         let text = source.text.as_bytes().chain(&b"\n"[..]);
         let mut reader = builder().from_reader(text);
@@ -90,18 +102,13 @@ impl Sheet {
         let (form, names, columns) = find(&source, &record, forms, beside)?;
         let lookalikes = lookalikes(&record, forms, beside, &columns);
         let (mut kept, mut rows) = (Kept::default(), 0);
-        let mut last = byte_of(record.position());
         while next(&mut record)? {
             rows += 1;
-            last = byte_of(record.position());
             if rows <= MOST_ROWS + 1 {
-                kept.push(&record, &columns, last);
+                kept.push(&record, &columns, byte_of(record.position()));
             }
         }
-        if let Some(fault) = open_quote(&source, start(&source, last)) {
-            return Err(fault);
-        }
-        Ok(Sheet { source, form, names, columns, lookalikes, header, kept, rows })
+        Ok(Sheet { source, form, names, columns, lookalikes, several, header, kept, rows })
     }
     pub fn form(&self) -> Form {
         self.form
@@ -114,9 +121,12 @@ impl Sheet {
     pub fn column_at(&self, column: usize) -> String {
         self.source.at(place(&self.source.text, self.header, self.columns[column], 0))
     }
-    /// A warning for each of the first columns that are not used and yet resemble a known one.
+    /// The first column that is not used and resembles this one.
+    pub fn lookalike(&self, name: &str) -> Option<&str> {
+        self.lookalikes.iter().find(|(.., known)| *known == name).map(|(_, text, _)| text.as_str())
+    }
+    /// Warnings of columns that are not used and yet resemble a known one, and of fields of several lines.
     pub fn warnings(&self) -> Vec<String> {
-        const NAMED: usize = 5;
         let place = |column: usize| self.source.at(place(&self.source.text, self.header, column, 0));
         let warning = |(column, text, known): &(usize, String, &'static str)| {
             let instead = if self.column(known).is_some() { format!("`{}` is", known) } else { format!("did you mean `{}`?", known) };
@@ -129,6 +139,16 @@ impl Sheet {
                 1 => format!("{}: 1 more column is not used and resembles a known one", path),
                 _ => format!("{}: {} more columns are not used and resemble known ones", path, grouped(count)),
             });
+        }
+        let source = &self.source;
+        warnings.extend(self.several.first.iter().map(|&(open, close)| {
+            let lines = source.line_number(close) - source.line_number(open) + 1;
+            let (at, text) = (source.at(open), excerpt(&source.text[open + 1..close]));
+            format!("{}: field `{}` has {} lines; is a quote missing at the end of the first?", at, text, grouped(lines))
+        }));
+        if self.several.count > NAMED {
+            let more = counted(self.several.count - NAMED, "more field");
+            warnings.push(format!("{}: the same holds of {}", shown(&source.path), more));
         }
         warnings
     }
@@ -155,14 +175,11 @@ fn with_line_feeds(text: String) -> String {
     if !text.contains('\r') {
         return text;
     }
-    let (mut reading, mut at_start, mut in_comment) = (Reading::Start, true, false);
+    let mut reading = Reading::Record;
     let mut chars = text.chars().peekable();
     let mut lines = String::with_capacity(text.len());
     while let Some(c) = chars.next() {
-        in_comment |= at_start && c == '#';
-        let ends = if in_comment { matches!(c, '\r' | '\n') } else { matches!(reading.role(c), Role::End) };
-        in_comment &= !ends;
-        at_start = ends;
+        let ends = matches!(reading.role(c), Role::End);
         lines.push(if c == '\r' && ends && chars.peek() != Some(&'\n') { '\n' } else { c });
     }
     lines
@@ -236,10 +253,11 @@ fn columns(header: &StringRecord) -> String {
     excerpt(&header.iter().collect::<Vec<_>>().join(","))
 }
 
-/// How catalogues name a column that we name otherwise, without capitals, spaces, signs and a unit at the end.
-const OTHER_NAMES: [(&str, &[&str]); 2] = [
+/// How other files name a column that we name otherwise, without capitals, spaces, signs and a unit at the end.
+const OTHER_NAMES: [(&str, &[&str]); 3] = [
     ("ra", &["ra", "raicrs", "raj2000", "ra2000", "rightascension"]),
     ("dec", &["dec", "decicrs", "decj2000", "dec2000", "declination", "decl", "de", "deicrs", "dej2000", "de2000"]),
+    ("tolerance", &["tolerance", "tolerances", "tol"]),
 ];
 
 /// What to do where the file has wanted columns by such names.
@@ -261,7 +279,7 @@ fn rename(header: &StringRecord, wanted: &[&str]) -> String {
 const UNITS: [&str; 16] =
     ["deg", "degs", "degree", "degrees", "h", "hr", "hrs", "hour", "hours", "rad", "radians", "km", "m", "au", "utc", "iso"];
 
-/// The columns that are not used and resemble a known one: without capitals, spaces, signs and units their names are the same, or one that catalogues use.
+/// The columns that are not used and resemble a known one: without capitals, spaces, signs and units their names are the same, or one that other files use.
 fn lookalikes(header: &StringRecord, forms: &[Form], beside: &[&'static str], used: &[usize]) -> Vec<(usize, String, &'static str)> {
     let plain = |name: &str| name.chars().filter(char::is_ascii_alphanumeric).collect::<String>().to_ascii_lowercase();
     let known: Vec<_> = forms.iter().copied().flatten().chain(beside).copied().collect();
@@ -292,8 +310,12 @@ fn start(source: &Source, byte: usize) -> usize {
 }
 
 /// How csv reads a character: a quote opens a field at its start only, and in an open one two stand for one.
-#[derive(Clone, Copy, PartialEq)]
+#[derive(Clone, Copy)]
 enum Reading {
+    /// At the start of a record or a comment.
+    Record,
+    Comment,
+    /// At the start of a field.
     Start,
     Plain,
     Quoted,
@@ -312,11 +334,13 @@ enum Role {
 impl Reading {
     fn role(&mut self, c: char) -> Role {
         let (next, role) = match (*self, c) {
-            (Reading::Start, '"') => (Reading::Quoted, Role::Mark),
+            (Reading::Record, '#') => (Reading::Comment, Role::Mark),
+            (Reading::Comment, c) if !matches!(c, '\r' | '\n') => (Reading::Comment, Role::Mark),
+            (Reading::Record | Reading::Start, '"') => (Reading::Quoted, Role::Mark),
             (Reading::Quoted, '"') => (Reading::Quote, Role::Mark),
             (Reading::Quoted, _) | (Reading::Quote, '"') => (Reading::Quoted, Role::Value),
             (_, ',') => (Reading::Start, Role::Comma),
-            (_, '\r' | '\n') => (Reading::Start, Role::End),
+            (_, '\r' | '\n') => (Reading::Record, Role::End),
             _ => (Reading::Plain, Role::Value),
         };
         *self = next;
@@ -324,18 +348,39 @@ impl Reading {
     }
 }
 
-/// A fault of the last record: its last field has a quote that is not closed, and so all lines that follow.
-fn open_quote(source: &Source, record: usize) -> Option<Fault> {
-    let (mut reading, mut quote) = (Reading::Start, record);
-    for (i, c) in source.text[record..].char_indices() {
-        if reading == Reading::Start {
-            quote = record + i;
-        }
-        if matches!(reading.role(c), Role::End) {
-            return None;
+/// The fields of several lines. Text after a closing quote is refused, and a quote that is not closed: where a quote is missing, csv would take
+/// the rows up to the next one for part of a field.
+fn quotes(source: &Source) -> Result<Several, Fault> {
+    let text = &source.text;
+    let (mut reading, mut open, mut several) = (Reading::Record, 0, Several::default());
+    if !text.contains('"') {
+        return Ok(several);
+    }
+    // A field may end with the file.
+    for (i, c) in text.char_indices().chain([(text.len(), '\n')]) {
+        let before = reading;
+        reading.role(c);
+        match (before, reading) {
+            (Reading::Record | Reading::Start, Reading::Quoted) => open = i,
+            (Reading::Quote, Reading::Plain) => {
+                let after = text[i..].split([',', '\r', '\n']).next().unwrap_or("");
+                let read =
+                    format!("`{}` follows the quote that closes the field opened on line {}", excerpt(after), source.line_number(open));
+                return Err(source.fault(i, read, "a comma or a line end there, and \"\" for a quote inside quotes"));
+            }
+            (Reading::Quote, Reading::Record | Reading::Start) if text[open..i].contains(['\r', '\n']) => {
+                several.count += 1;
+                if several.count <= NAMED {
+                    several.first.push((open, i - 1));
+                }
+            }
+            _ => {}
         }
     }
-    (reading == Reading::Quoted).then(|| source.fault(quote, "this quote is not closed", "a second \" at the field's end"))
+    match reading {
+        Reading::Quoted => Err(source.fault(open, "this quote is not closed", "a second \" at the field's end")),
+        _ => Ok(several),
+    }
 }
 
 /// The byte of the file where byte `inside` of a trimmed field stands; of the field's end, that is its closing quote if it has one.
@@ -362,12 +407,10 @@ fn csv_fault(source: &Source, e: csv::Error) -> Fault {
     match e.kind() {
         ErrorKind::UnequalLengths { pos, expected_len, len } => {
             let record = start(source, byte_of(pos.as_ref()));
-            open_quote(source, record).unwrap_or_else(|| {
-                let is_comment = source.text[record..].trim_start().starts_with('#');
-                let comment = if is_comment { "; a comment starts with # at the line's start" } else { "" };
-                let allowed = format!("{} fields, as many as the first line has{}", expected_len, comment);
-                source.fault(record, format!("{} field{}", len, if *len == 1 { "" } else { "s" }), &allowed)
-            })
+            let is_comment = source.text[record..].trim_start().starts_with('#');
+            let comment = if is_comment { "; a comment starts with # at the line's start" } else { "" };
+            let allowed = format!("{} fields, as many as the first line has{}", expected_len, comment);
+            source.fault(record, format!("{} field{}", len, if *len == 1 { "" } else { "s" }), &allowed)
         }
         _ => Fault::Files(format!("{}: {}", shown(&source.path), e)),
     }
@@ -675,6 +718,22 @@ mod tests {
         assert!(sheet("x,name\n1,\"a\"\n2,b\"\n3,\"c\"").is_ok());
     }
     #[test]
+    fn text_after_a_closing_quote_is_refused_where_it_stands() {
+        for (text, says) in [
+            ("name,x\n\"a\" ,1\n", "line 2, column 4: ` ` follows the quote that closes the field opened on line 2"),
+            ("name,x\na,\"\"1\r\n", "line 2, column 5: `1` follows the quote that closes the field opened on line 2"),
+            ("name,x\n# \"a\"b\rc,\"\"\"\"é\"", "line 3, column 7: `é\"` follows the quote that closes the field opened on line 3"),
+            ("\"name\";x\na,1\n", "line 1, column 7: `;x` follows the quote that closes the field opened on line 1"),
+            // Before a row of another number of fields, which a missing quote makes as well.
+            ("name,x\na,\"1\nb,2,3\nc,\"4\",\"\n", "line 4, column 4: `4\"` follows the quote that closes the field opened on line 2"),
+        ] {
+            assert_eq!(fault(text), format!("t.csv, {}; allowed: a comma or a line end there, and \"\" for a quote inside quotes", says));
+        }
+        let s = sheet("name,x\n# \"a\"b\n\"a\",\"\"\r\n\"b\"\"c\",5\" d\re,\"\"\"\"").unwrap();
+        let read: Vec<_> = s.fields().flatten().map(|f| f.text()).collect();
+        assert_eq!((&read[..], s.warnings().len()), (&["a", "", "b\"c", "5\" d", "e", "\""][..], 0));
+    }
+    #[test]
     fn comments_are_skipped_and_their_lines_counted() {
         let s = sheet("# of, \"2026\n#\r\nname,x\n#a,1\n\nb,2\r\n# \"\n\n#\nc,oops\n\"#d\",4\n#,\"end").unwrap();
         assert_eq!(s.len(), 3);
@@ -729,11 +788,13 @@ mod tests {
         assert!(s.field(0, 1).number().unwrap_err().to_string().len() < 300);
         assert!(fault(&format!("{}\n", "\0".repeat(10_000))).len() < 400);
     }
-    /// The rows of a text of two columns, its first row too: the line where each starts, the line of the first character of its first field, and
-    /// its fields. Where a row has another number of fields, or a quote is left open, the line of the fault.
-    fn plainly_read(text: &str) -> Result<Vec<(usize, usize, Vec<String>)>, usize> {
+    /// The line where a row starts, the line of the first character of its first field, and its fields.
+    type Row = (usize, usize, Vec<String>);
+    /// The rows of a text of two columns, its first row too, and how many fields have several lines. Where text follows a closing quote or a quote is left open, the line of the fault; else
+    /// that of the first row of another number of fields.
+    fn plainly_read(text: &str) -> Result<(Vec<Row>, usize), usize> {
         let chars: Vec<char> = text.chars().collect();
-        let (mut i, mut line, mut rows) = (0, 1, Vec::new());
+        let (mut i, mut line, mut rows, mut several, mut wrong) = (0, 1, Vec::new(), 0, None);
         // The length of the line end here, if there is one.
         let end = |i: usize| match (chars.get(i), chars.get(i + 1)) {
             (Some('\r'), Some('\n')) => 2,
@@ -757,6 +818,9 @@ mod tests {
                         if quoted && chars[i] == '"' {
                             quoted = chars.get(i + 1) == Some(&'"');
                             i += 1;
+                            if !quoted && i < chars.len() && chars[i] != ',' && end(i) == 0 {
+                                return Err(line);
+                            }
                             if !quoted {
                                 continue;
                             }
@@ -776,6 +840,7 @@ mod tests {
                     if fields.is_empty() {
                         first.get_or_insert(line);
                     }
+                    several += usize::from(field.contains(['\r', '\n']));
                     fields.push(field.trim().to_owned());
                     if chars.get(i) != Some(&',') {
                         break;
@@ -783,18 +848,18 @@ mod tests {
                     i += 1;
                 }
                 if fields.len() != 2 {
-                    return Err(start);
+                    wrong.get_or_insert(start);
                 }
                 rows.push((start, first.unwrap_or(start), fields));
             }
         }
-        Ok(rows)
+        wrong.map_or(Ok((rows, several)), Err)
     }
     const ENDS: &[&str] = &["\r", "\n", "\r\n"];
     const COMMENTS: &[&str] = &["", "#", "# a,b", "# \"", "#,\"", "#\"a\",\"b", "#,\"\"\""];
     const FIELDS: &[&str] =
-        &["a", " é ", "", "b\"c", "\"a\"", "\"a,b\"", "\"\"\"\"", "\"a\rb\"", "\"a\nb\"", "\"a\r\nb\"", "\"\r#\"\"\r\"", "\"a\"b", "#"];
-    const PIECES: &[&str] = &["a", ",", "\"", "#", " ", "\r", "\n", "\r\n", "\ra,b\r"];
+        &["a", " é ", "", "b\"c", "\"a\"", "\"a,b\"", "\"\"\"\"", "\"a\rb\"", "\"a\nb\"", "\"a\r\nb\"", "\"\r#\"\"\r\"", "#"];
+    const PIECES: &[&str] = &["a", ",", "\"", "#", " ", "\r", "\n", "\r\n", "\ra,b\r", "\"a\"b,c\n", "a,\"\"b\n"];
     fn line_of(texts: &'static [&'static str]) -> impl Strategy<Value = String> {
         (prop::sample::select(texts), prop::sample::select(ENDS)).prop_map(|(text, end)| text.to_owned() + end)
     }
@@ -826,7 +891,8 @@ mod tests {
         fn rows_are_those_of_a_plain_reader(comment in line_of(COMMENTS), end in prop::sample::select(ENDS), lines in prop::collection::vec(any_line(), 0..7)) {
             let text = format!("{}name,x{}{}", comment, end, lines.concat());
             match (sheet(&text), plainly_read(&text)) {
-                (Ok(s), Ok(rows)) => {
+                (Ok(s), Ok((rows, several))) => {
+                    prop_assert_eq!(s.several.count, several, "{:?}", text);
                     let read: Vec<_> = s.fields().map(|f| (f[0].line(), [f[0].text().to_owned(), f[1].text().to_owned()].to_vec())).collect();
                     // The place of a name is that of its first character, which may be some lines down in a quoted field.
                     let due: Vec<_> = rows[1..].iter().map(|(_, line, fields)| (*line, fields.clone())).collect();

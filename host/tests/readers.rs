@@ -46,6 +46,75 @@ fn two_targets_of_one_name_are_warned_about() {
     assert_eq!(message, "warning: /t.csv, line 4, column 1: target `A` has the name of line 2; both are listed under it\n");
 }
 
+/// The ephemeris with a column of notes.
+fn noted(notes: [&str; 2]) -> String {
+    let mut lines = EPHEMERIS.lines();
+    let mut line = |note: &str| format!("{},{}\n", lines.next().unwrap(), note);
+    ["note", notes[0], notes[1]].map(&mut line).concat()
+}
+
+#[test]
+fn text_after_a_closing_quote_is_refused_in_every_column_of_both_files() {
+    const ALLOWED: &str = "; allowed: a comma or a line end there, and \"\" for a quote inside quotes\n";
+    for (targets, ephemeris, says) in [
+        (
+            "name,ra,dec,note\nA,10,20,\"bright\nB,100,-45,ok\nC,250,80,\"dim\"\n",
+            EPHEMERIS,
+            "/t.csv, line 4, column 11: `dim\"` follows the quote that closes the field opened on line 2",
+        ),
+        (
+            "name,ra,dec\n\"A\"x,10,20\n",
+            EPHEMERIS,
+            "/t.csv, line 2, column 4: `x` follows the quote that closes the field opened on line 2",
+        ),
+        (
+            TARGETS,
+            &noted(["\"eclipse", "\"sunlit\""]),
+            "/e.csv, line 3, column 35: `sunlit\"` follows the quote that closes the field opened on line 2",
+        ),
+        (
+            TARGETS,
+            &EPHEMERIS.replace("2026-03-20T00:01:00Z", "\"2026-03-20T00:01:00\"Z"),
+            "/e.csv, line 3, column 22: `Z` follows the quote that closes the field opened on line 3",
+        ),
+    ] {
+        let (status, message) = checked(PLAN, targets, ephemeris);
+        assert_eq!((status, message), (Some(3), format!("wilfnusk: {}{}", says, ALLOWED)));
+    }
+    // Inside a field without quotes, a quote is a character.
+    let (status, message) = checked(PLAN, "name,ra,dec,note\nA,10,20,5\" disc\nB\"\",20,30,\n", &noted(["a\"b", "\"\""]));
+    assert_eq!((status, message.as_str()), (Some(0), ""));
+}
+
+#[test]
+fn a_field_of_several_lines_is_warned_of_in_every_column_of_both_files() {
+    const ASKED: &str = "; is a quote missing at the end of the first?\n";
+    for (targets, ephemeris, says) in [
+        (
+            "name,ra,dec,note\nA,10,20,\"bright\nB,100,-45,ok\"\n",
+            EPHEMERIS,
+            "/t.csv, line 2, column 9: field `bright\\nB,100,-45,ok` has 2 lines",
+        ),
+        (TARGETS, &noted(["\"\r", "\""]), "/e.csv, line 2, column 34: field `\\r\\n2026-03-20T00:01:00Z,0,0,1,0,0,0,` has 2 lines"),
+        ("name,ra,dec\n\"A\rB\r\nC\",10,20\n", EPHEMERIS, "/t.csv, line 2, column 1: field `A\\rB\\r\\nC` has 3 lines"),
+        ("name,ra,dec,\"note\r\"\rA,10,20,\r", EPHEMERIS, "/t.csv, line 1, column 13: field `note\\r` has 2 lines"),
+    ] {
+        let (status, message) = checked(PLAN, targets, ephemeris);
+        assert_eq!((status, message), (Some(0), format!("warning: {}{}", says, ASKED)));
+    }
+    for (rows, last) in [
+        (5, "/t.csv, line 10, column 5: field `a\\nb` has 2 lines"),
+        (6, "/t.csv: the same holds of 1 more field"),
+        (9, "/t.csv: the same holds of 4 more fields"),
+    ] {
+        let targets: String = (0..rows).map(|i| format!("TT{},\"a\nb\",{},0\n", i, 10 * i)).collect();
+        let (status, message) = checked(PLAN, &format!("name,note,ra,dec\n{}", targets), EPHEMERIS);
+        let warnings: Vec<_> = message.lines().filter(|line| line.contains("field")).collect();
+        assert_eq!((status, warnings.len()), (Some(0), rows.min(6)), "{}", message);
+        assert!(warnings.last().unwrap().starts_with(&format!("warning: {}", last)), "{}", message);
+    }
+}
+
 #[test]
 fn a_device_and_a_pipe_are_refused_as_inputs() {
     let (status, message) = checked(&PLAN.replace("t.csv", "/dev/zero"), TARGETS, EPHEMERIS);
