@@ -84,10 +84,11 @@ impl Place {
     }
     /// The new file is made in a folder of its own, where no other process can have put anything, with the permissions that
     /// a new file gets or those of the file that it replaces. Synced, it takes the name. No signal leaves the folder behind.
-    fn replace(&self, write: impl FnOnce(&mut dyn Write) -> io::Result<()>) -> io::Result<()> {
-        stop::while_listening(|| self.replace_listening(write))
+    /// `goes_on`: whether it shall still take the name, asked once it is synced.
+    fn replace(&self, write: impl FnOnce(&mut dyn Write) -> io::Result<()>, goes_on: fn() -> io::Result<()>) -> io::Result<()> {
+        stop::while_listening(|| self.replace_listening(write, goes_on))
     }
-    fn replace_listening(&self, write: impl FnOnce(&mut dyn Write) -> io::Result<()>) -> io::Result<()> {
+    fn replace_listening(&self, write: impl FnOnce(&mut dyn Write) -> io::Result<()>, goes_on: fn() -> io::Result<()>) -> io::Result<()> {
         let aside = self.aside()?;
         let new = aside.path().join("new");
         let file = OpenOptions::new().write(true).create_new(true).open(&new)?;
@@ -96,6 +97,7 @@ impl Place {
         }
         buffered(&file, write)?;
         file.sync_all()?;
+        goes_on()?;
         fs::rename(&new, &self.path)?;
         aside.close()?;
         sync_folder(&self.path)
@@ -115,7 +117,7 @@ pub fn folder_of(path: &Path) -> &Path {
 pub fn write_whole(path: &Path, bytes: &[u8]) -> Result<(), Fault> {
     let done = Place::of(path).and_then(|place| match place.is_stream() {
         true => Err(io::Error::new(io::ErrorKind::InvalidInput, "it is no plain file")),
-        false => place.replace(|out| out.write_all(bytes)),
+        false => place.replace(|out| out.write_all(bytes), || Ok(())),
     });
     done.map_err(|e| fault(path, &e))?;
     if stop::is_due() {
@@ -128,11 +130,18 @@ pub fn write_whole(path: &Path, bytes: &[u8]) -> Result<(), Fault> {
 pub fn write_output(path: &Path, write: impl FnOnce(&mut dyn Write) -> io::Result<()>) -> Result<(), Fault> {
     let done = Place::of(path).and_then(|place| match place.is_stream() {
         true => buffered(OpenOptions::new().write(true).open(&place.path)?, write),
-        false => place.replace(|out| buffered(Stoppable(out), write)),
+        false => place.replace(|out| buffered(Stoppable(out), write), unless_stopped),
     });
     match done {
         Err(_) if stop::asked() => Err(Fault::Stopped(format!("stopped; {} was not written", shown(path)))),
         done => done.map_err(|e| fault(path, &e)),
+    }
+}
+
+fn unless_stopped() -> io::Result<()> {
+    match stop::asked() {
+        true => Err(io::Error::new(io::ErrorKind::Other, "stopped")),
+        false => Ok(()),
     }
 }
 
@@ -141,9 +150,7 @@ struct Stoppable<'a>(&'a mut dyn Write);
 
 impl Write for Stoppable<'_> {
     fn write(&mut self, bytes: &[u8]) -> io::Result<usize> {
-        if stop::asked() {
-            return Err(io::Error::new(io::ErrorKind::Other, "stopped"));
-        }
+        unless_stopped()?;
         self.0.write(bytes)
     }
     fn flush(&mut self) -> io::Result<()> {

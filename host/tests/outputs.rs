@@ -292,7 +292,7 @@ fn a_signal_while_an_output_is_written_leaves_no_folder_and_the_old_file() {
     let f = Folder::new(&names.iter().map(String::as_str).collect::<Vec<_>>(), &"0011".repeat(16), "tolerance = 10\n").swept();
     for signal in [libc::SIGINT, libc::SIGTERM] {
         let mut stopped = None;
-        for _ in 0..20 {
+        for _ in 0..100 {
             f.write("w.json", "old\n");
             let mut child = f.command(&["windows", "plan.toml", "-q", "--json", "w.json"]).stderr(Stdio::piped()).spawn().unwrap();
             while !aside(&f, true) && child.try_wait().unwrap().is_none() {}
