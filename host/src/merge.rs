@@ -4,7 +4,7 @@ use crate::{
     engine::{self, HEADER_BYTES},
     explain,
     fault::Fault,
-    files::{self, folder_of, write_whole, Place},
+    files::{folder_of, write_whole},
     journal::{chunk_of, done, lines, look},
     plan::Plan,
     say,
@@ -51,7 +51,7 @@ impl Merge {
         if fs::symlink_metadata(&self.output).is_ok() {
             return Err(Fault::Files(format!("{}: the file exists, and nothing was written; name another", shown(&self.output))));
         }
-        self.can_be_written()?;
+        self.has_folder()?;
         let mut parts = Vec::new();
         for path in &self.journals {
             let mut journal = look(path)?;
@@ -74,14 +74,14 @@ impl Merge {
         sentences.push(self.result(&plan, &merged));
         sentences.into_iter().try_for_each(say)
     }
-    /// Refuses, before any work, a new journal that could not be written.
-    fn can_be_written(&self) -> Result<(), Fault> {
+    /// Refuses, before any work, a new journal in a folder that does not exist.
+    fn has_folder(&self) -> Result<(), Fault> {
         let folder = folder_of(&self.output);
         if fs::metadata(folder).map_or_else(|e| e.kind() == io::ErrorKind::NotFound, |now| !now.is_dir()) {
             let (output, folder) = (shown(&self.output), shown(folder));
             return Err(Fault::Files(format!("-o {}: there is no folder {}; make it, or name another", output, folder)));
         }
-        Place::of(&self.output).and_then(|place| place.try_write()).map_err(|e| files::fault(&self.output, &e))
+        Ok(())
     }
     /// How many chunks have a line in the new journal.
     fn result(&self, plan: &Plan, merged: &[u8]) -> String {
