@@ -4,7 +4,7 @@ use crate::{
     engine::{self, HEADER_BYTES},
     explain,
     fault::Fault,
-    files::{folder_of, write_whole},
+    files::{self, folder_of, write_whole, Place},
     journal::{chunk_of, done, lines, look},
     plan::Plan,
     say,
@@ -74,14 +74,15 @@ impl Merge {
         sentences.push(self.result(&plan, &merged));
         sentences.into_iter().try_for_each(say)
     }
-    /// Refuses, before any work, a new journal in a folder that does not exist.
+    /// Refuses, before any work, a new journal in a folder that does not exist, and a folder's name. Nothing is made there to try it: the first new
+    /// name in that folder is synced with the digest.
     fn has_folder(&self) -> Result<(), Fault> {
         let folder = folder_of(&self.output);
         if fs::metadata(folder).map_or_else(|e| e.kind() == io::ErrorKind::NotFound, |now| !now.is_dir()) {
             let (output, folder) = (shown(&self.output), shown(folder));
             return Err(Fault::Files(format!("-o {}: there is no folder {}; make it, or name another", output, folder)));
         }
-        Ok(())
+        Place::of(&self.output).map(drop).map_err(|e| files::fault(&self.output, &e))
     }
     /// How many chunks have a line in the new journal.
     fn result(&self, plan: &Plan, merged: &[u8]) -> String {
