@@ -294,7 +294,15 @@ fn a_signal_while_an_output_is_written_leaves_no_folder_and_the_old_file() {
         let mut stopped = None;
         for _ in 0..100 {
             f.write("w.json", "old\n");
-            let mut child = f.command(&["windows", "plan.toml", "-q", "--json", "w.json"]).stderr(Stdio::piped()).spawn().unwrap();
+            let mut command = f.command(&["windows", "plan.toml", "-q", "--json", "w.json"]);
+            // A shell starts what it runs in the background with SIGINT ignored, and the program keeps to that.
+            unsafe {
+                command.pre_exec(move || {
+                    libc::signal(signal, libc::SIG_DFL);
+                    Ok(())
+                });
+            }
+            let mut child = command.stderr(Stdio::piped()).spawn().unwrap();
             while !aside(&f, true) && child.try_wait().unwrap().is_none() {}
             assert_eq!(unsafe { libc::kill(child.id() as libc::pid_t, signal) }, 0);
             let ended = child.wait_with_output().unwrap();
