@@ -3,6 +3,8 @@
 //
 // Every public function is total, and its contract gives its whole answer by a definition of specs/,
 // over the toolchain's account of IEEE 754.
+#![tactic(auto)]
+
 mod angles;
 mod arctangent;
 mod arithmetic;

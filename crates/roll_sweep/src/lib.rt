@@ -1,4 +1,5 @@
 // The sweep over rolls: the even samples, a lent table, and the cells of a chunk that every sample violates.
+#![tactic(auto)]
 mod chunk;
 mod rolls;
 

@@ -1,0 +1,23 @@
+-- `float::arctangent::quadrant_angle` meets its contract. Assumes nothing.
+use Rattle.std.proofs.Common.{◌≡◌, cond, ⊎_elim}
+use lib.Ieee.{lt, eq}
+use Rattle.float.specs.Arithmetic.{zero·0}
+use Rattle.float.specs.Arctangent.{quadrant_angle}
+use Rattle.float.proofs.arctangent.quadrant_angle.Goals as goal
+use Rattle.float.proofs.arctangent.quadrant_angle.Goals.{Joined-a-b, Joined-l}
+
+-- the larger
+larger : (c : Joined-a-b) → c.if-a-b.l ≡ cond (lt c.args.b c.args.a) c.args.a c.args.b
+larger c = ⊎_elim (λ w. simp (w.0.taken, w.1)) (λ w. simp (w.0.left, w.1)) c.if-a-b.branch
+
+-- the angle, 0 where the larger is 0
+angle : (c : Joined-l) → c.if-l.r ≡ cond (eq c.if-a-b.l zero·0) zero·0 c.series_angle-r.result
+angle c = ⊎_elim (λ w. simp (w.0.taken, w.1)) (λ w. simp (w.0.left, w.1)) c.if-l.branch
+
+pub returns-then-a-b-2 : goal.returns-then-a-b-2
+unfolding quadrant_angle
+returns-then-a-b-2 c = simp (angle (goal.at.returns-then-a-b-2 c).Joined-l, larger (goal.at.returns-then-a-b-2 c).Joined-a-b, c.series_angle-r.ensures, c.if-a-b-2.true)
+
+pub returns-else-a-b-2 : goal.returns-else-a-b-2
+unfolding quadrant_angle
+returns-else-a-b-2 c = simp (angle (goal.at.returns-else-a-b-2 c).Joined-l, larger (goal.at.returns-else-a-b-2 c).Joined-a-b, c.series_angle-r.ensures, c.if-a-b-2.false)

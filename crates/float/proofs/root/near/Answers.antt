@@ -1,0 +1,145 @@
+-- `float::root::near` meets its contract. Each difference that a test lets through did not wrap; and where q is the rounded root, none wraps and each test lets it
+-- through. Assumes nothing.
+use Rattle.std.proofs.Common.{◌≡◌, ℕ, ◌+◌, ◌-◌, ◌*◌, ◌/◌, ◌%◌, ◌^◌, ◌<◌, ◌≤◌, ◌⊎◌, sym, subst, inl, inr, ⊎_elim, arith}
+use Rattle.float.specs.RootSteps.{LargestRoot, rounded_of}
+use Rattle.float.specs.declared.root.Floor.{Floor}
+use Rattle.float.proofs.Guessed.{found_exact, found_between, square, digits, over_small, between}
+use Rattle.float.proofs.root.near.Goals as goal
+use Rattle.float.proofs.root.near.Goals.{After-row_known-1, Then-t-q}
+
+-- a difference that is small did not wrap
+small_unwrapped : (s b a : ℕ) → (s + b) % 2 ^ 64 ≡ a → s < 2 ^ 63 → b < 2 ^ 63 → s + b ≡ a
+small_unwrapped s b a e h l = omega arith
+
+-- nor did one that is not below 0
+whole_unwrapped : (s b a : ℕ) → (s + b) % 2 ^ 64 ≡ a → s < 2 ^ 64 → b ≤ a → a < 2 ^ 64 → s + b ≡ a
+whole_unwrapped s b a e h l k = omega arith
+
+-- what is left of m * 2 ^ 52 after d's square, where the tests let it through
+left : (m q over part rest t : ℕ) → (let d = q - 1 in let a = d / 2 ^ 26 in let c = d % 2 ^ 26 in
+    2 ^ 52 ≤ q → q < 2 ^ 53 → (over + a * a) % 2 ^ 64 ≡ m → over < 2 ^ 28 → (part + a * c) % 2 ^ 64 ≡ over * 2 ^ 25 → part < 2 ^ 30
+    → (rest + c * c) % 2 ^ 64 ≡ part * 2 ^ 27 → (t + q) % 2 ^ 64 ≡ rest → t < 2 ^ 62 → m * 2 ^ 52 ≡ d * d + (t + q))
+left m q over part rest t lo hi o over< p part< r w t< =
+    let d = q - 1 in
+    let a = d / 2 ^ 26 in
+    let c = d % 2 ^ 26 in
+    let g = digits d (omega arith) in
+    let v : t + q ≡ rest = small_unwrapped t q rest w (omega arith) (omega arith) in
+    let x = small_unwrapped over (a * a) m o (omega arith) (omega arith) in
+    let y = small_unwrapped part (a * c) (over * 2 ^ 25) p (omega arith) (omega arith) in
+    let z = small_unwrapped rest (c * c) (part * 2 ^ 27) r (omega arith) (omega arith) in
+    omega (arith, square d)
+
+-- where step 3 makes q of the root: m * 2 ^ 52 by d's digits and the rest, the rest's bounds, and that of what the first test looks at
+abbrev Rounds : ℕ → ℕ → Type 0
+Rounds m q = (let d = q - 1 in let a = d / 2 ^ 26 in let c = d % 2 ^ 26 in let r = m * 2 ^ 52 - d * d in
+    (m * 2 ^ 52 ≡ a * a * 2 ^ 52 + a * c * 2 ^ 27 + c * c + r) × (q ≤ r) × (r ≤ d * 2 + 1 + q) × (m < a * a + 2 ^ 28))
+
+rounds : (m q : ℕ) (f : Floor) → m < 2 ^ 54 → 2 ^ 52 ≤ q → q < 2 ^ 53 → LargestRoot (m * 2 ^ 54) f → rounded_of f ≡ q → Rounds m q
+rounds m q f M lo hi R h =
+    let d = q - 1 in
+    let a = d / 2 ^ 26 in
+    let c = d % 2 ^ 26 in
+    let r = m * 2 ^ 52 - d * d in
+    let b = between m q d f (omega arith) R h in
+    let g = digits d (omega arith) in
+    let e : m * 2 ^ 52 ≡ a * a * 2 ^ 52 + a * c * 2 ^ 27 + c * c + r = omega (arith, square d) in
+    (e, omega arith, omega arith, over_small m a c (c * c + r) M (omega arith) (omega arith) (omega arith) (omega arith))
+
+-- so each test lets it through
+first_test : (m q over : ℕ) → (let a = (q - 1) / 2 ^ 26 in Rounds m q → m < 2 ^ 54 → (over + a * a) % 2 ^ 64 ≡ m → over < 2 ^ 64 → over < 2 ^ 28)
+first_test m q over R M o over< =
+    let a = (q - 1) / 2 ^ 26 in
+    let x = whole_unwrapped over (a * a) m o over< (omega (arith, R.0)) (omega arith) in
+    omega (arith, R.3)
+
+second_test : (m q over part : ℕ) → (let d = q - 1 in let a = d / 2 ^ 26 in let c = d % 2 ^ 26 in
+    Rounds m q → q < 2 ^ 53 → (over + a * a) % 2 ^ 64 ≡ m → over < 2 ^ 28 → (part + a * c) % 2 ^ 64 ≡ over * 2 ^ 25 → part < 2 ^ 64 → part < 2 ^ 30)
+second_test m q over part R hi o over< p part< =
+    let d = q - 1 in
+    let a = d / 2 ^ 26 in
+    let c = d % 2 ^ 26 in
+    let g = digits d (omega arith) in
+    let x = small_unwrapped over (a * a) m o (omega arith) (omega arith) in
+    let y = whole_unwrapped part (a * c) (over * 2 ^ 25) p part< (omega (arith, R.0)) (omega arith) in
+    omega (arith, R.0, R.2)
+
+-- the difference of b + r and b is r
+rest_is : (rest b a r : ℕ) → (rest + b) % 2 ^ 64 ≡ a → rest < 2 ^ 64 → a ≡ b + r → a < 2 ^ 64 → rest ≡ r
+rest_is rest b a r e h k l = let z = whole_unwrapped rest b a e h (omega arith) l in omega arith
+
+-- what is left over q
+within : (t q rest d : ℕ) → (t + q) % 2 ^ 64 ≡ rest → t < 2 ^ 64 → (q ≤ rest) × (rest ≤ d * 2 + 1 + q) → rest < 2 ^ 64 → t ≤ d * 2 + 1
+within t q rest d e h r k = let z = whole_unwrapped t q rest e h r.0 k in omega (arith, r.1)
+
+third_test : (m q over part rest t : ℕ) → (let d = q - 1 in let a = d / 2 ^ 26 in let c = d % 2 ^ 26 in
+    Rounds m q → q < 2 ^ 53 → (over + a * a) % 2 ^ 64 ≡ m → over < 2 ^ 28 → (part + a * c) % 2 ^ 64 ≡ over * 2 ^ 25 → part < 2 ^ 30
+    → (rest + c * c) % 2 ^ 64 ≡ part * 2 ^ 27 → rest < 2 ^ 64 → (t + q) % 2 ^ 64 ≡ rest → t < 2 ^ 64 → t ≤ d * 2 + 1)
+third_test m q over part rest t R hi o over< p part< w rest< v t< =
+    let d = q - 1 in
+    let a = d / 2 ^ 26 in
+    let c = d % 2 ^ 26 in
+    let r = m * 2 ^ 52 - d * d in
+    let g = digits d (omega arith) in
+    let x = small_unwrapped over (a * a) m o (omega arith) (omega arith) in
+    let y = small_unwrapped part (a * c) (over * 2 ^ 25) p (omega arith) (omega arith) in
+    let e : part * 2 ^ 27 ≡ c * c + r = omega (arith, R.0, x, y) in
+    let z : rest ≡ r = rest_is rest (c * c) (part * 2 ^ 27) r w rest< e (omega arith) in
+    within t q rest d v t< (subst (λ (k : ℕ). (q ≤ k) × (k ≤ d * 2 + 1 + q)) (sym z) (R.1, R.2)) rest<
+
+-- what the three tests let through
+tests_passed : (c : Then-t-q) → (let q = c.args.q in let d = q - 1 in
+    c.args.m * 2 ^ 52 ≡ d * d + (c.wrapping_sub_u64-t.result + q))
+tests_passed c =
+    left c.args.m c.args.q c.wrapping_sub_u64-over.result c.wrapping_sub_u64-part.result c.wrapping_sub_u64-rest.result c.wrapping_sub_u64-t.result
+    c.requires.1 c.requires.2 c.wrapping_sub_u64-over.ensures c.if-over-lt268435456.true c.wrapping_sub_u64-part.ensures c.if-part-lt1073741824.true
+    c.wrapping_sub_u64-rest.ensures c.wrapping_sub_u64-t.ensures (omega (arith, c.if-t-q.true, c.requires.2))
+
+-- `up`, by its test
+up_by_test : (c : After-row_known-1) → (let d = c.args.q - 1 in
+    let t = c.wrapping_sub_u64-t.result in ((t < d) × (c.if-t-d-2.up ≡ 0)) ⊎ ((d ≤ t) × (c.if-t-d-2.up ≡ 1)))
+up_by_test c = ⊎_elim (λ w. inl (w.0.taken, w.1)) (λ w. inr (w.0.left, w.1)) c.if-t-d-2.branch
+
+pub overflow_mul-a : goal.overflow_mul-a
+overflow_mul-a c = let p = digits (c.args.q - 1) (omega arith) in omega arith
+
+pub overflow_mul-a-then-over-lt268435456 : goal.overflow_mul-a-then-over-lt268435456
+overflow_mul-a-then-over-lt268435456 c = let p = digits (c.args.q - 1) (omega arith) in omega arith
+
+pub overflow_mul-c : goal.overflow_mul-c
+overflow_mul-c c = let p = digits (c.args.q - 1) (omega arith) in omega arith
+
+pub returns-then-t-d : goal.returns-then-t-d
+returns-then-t-d c = found_exact c.args.m c.args.q (c.args.q - 1) c.wrapping_sub_u64-t.result (omega (arith, c.requires.1)) (tests_passed (goal.at.returns-then-t-d c).Then-t-q) c.if-t-d.true
+
+pub overflow_add-result-then-t-q : goal.overflow_add-result-then-t-q
+overflow_add-result-then-t-q c = ⊎_elim (λ w. omega (arith, w.1)) (λ w. omega (arith, w.1)) (up_by_test (goal.at.overflow_add-result-then-t-q c).After-row_known-1)
+
+pub returns-then-t-q : goal.returns-then-t-q
+returns-then-t-q c = found_between c.args.m c.args.q (c.args.q - 1) c.wrapping_sub_u64-t.result c.if-t-d-2.up (omega (arith, c.requires.1))
+    (tests_passed (goal.at.returns-then-t-q c).Then-t-q) (omega (arith, c.if-t-q.true)) c.if-t-d.false (up_by_test (goal.at.returns-then-t-q c).After-row_known-1)
+
+pub returns-else-t-q : goal.returns-else-t-q
+returns-else-t-q c = let m = c.args.m in
+    let q = c.args.q in
+    let z =
+    third_test m q c.wrapping_sub_u64-over.result c.wrapping_sub_u64-part.result c.wrapping_sub_u64-rest.result c.wrapping_sub_u64-t.result
+    (rounds m q f c.requires.0 c.requires.1 c.requires.2 R h) c.requires.2 c.wrapping_sub_u64-over.ensures c.if-over-lt268435456.true c.wrapping_sub_u64-part.ensures
+    c.if-part-lt1073741824.true c.wrapping_sub_u64-rest.ensures c.wrapping_sub_u64-rest.type-inv c.wrapping_sub_u64-t.ensures c.wrapping_sub_u64-t.type-inv in
+    omega (arith, c.if-t-q.false, c.requires.1)
+
+pub returns-else-part-lt1073741824 : goal.returns-else-part-lt1073741824
+returns-else-part-lt1073741824 c = let m = c.args.m in
+    let q = c.args.q in
+    let z =
+    second_test m q c.wrapping_sub_u64-over.result c.wrapping_sub_u64-part.result (rounds m q f c.requires.0 c.requires.1 c.requires.2 R h) c.requires.2
+    c.wrapping_sub_u64-over.ensures c.if-over-lt268435456.true c.wrapping_sub_u64-part.ensures c.wrapping_sub_u64-part.type-inv in
+    omega (arith, c.if-part-lt1073741824.false)
+
+pub returns-else-over-lt268435456 : goal.returns-else-over-lt268435456
+returns-else-over-lt268435456 c = let m = c.args.m in
+    let q = c.args.q in
+    let z =
+    first_test m q c.wrapping_sub_u64-over.result (rounds m q f c.requires.0 c.requires.1 c.requires.2 R h) c.requires.0 c.wrapping_sub_u64-over.ensures
+    c.wrapping_sub_u64-over.type-inv in
+    omega (arith, c.if-over-lt268435456.false)
