@@ -1,5 +1,6 @@
 // The answer that every call of the libraries above returns, and the smaller of two lengths.
 #![tactic(auto)]
+
 ghost use Rattle.std.specs.Prelude.{◌≡◌, min};
 
 // A number where the call was accepted, or the number of the refusal: document 01's, or document 02's 16 to 20.

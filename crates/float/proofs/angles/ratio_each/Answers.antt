@@ -1,7 +1,6 @@
 -- `float::angles::ratio_each`: before place k, the places before it are written. Assumes nothing.
 use Rattle.std.proofs.Common.{◌≡◌, ◌<◌, length, refl, ◌∙◌, arith, length-set}
 use Rattle.buffers.proofs.Lent.{filled_zero, filled_next}
-use Rattle.float.specs.Arctangent.{ratio}
 use Rattle.float.proofs.angles.ratio_each.Goals as goal
 
 pub loop-k-init : goal.loop-k-init

@@ -2,7 +2,6 @@
 use Rattle.std.proofs.Common.{◌≡◌, ◌<◌, List, length, get_or, set, refl, ap, ◌∙◌, arith, length-set}
 use lib.Ieee.{Float, nan}
 use Rattle.buffers.proofs.Lent.{filled_zero, filled_next, get_or_filled_beyond}
-use Rattle.float.specs.Arctangent.{turned_angle}
 use Rattle.float.proofs.angles.turn_each.Goals as goal
 
 pub loop-k-init : goal.loop-k-init

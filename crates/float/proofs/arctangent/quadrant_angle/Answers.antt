@@ -1,18 +1,18 @@
 -- `float::arctangent::quadrant_angle` meets its contract. Assumes nothing.
-use Rattle.std.proofs.Common.{◌≡◌, cond, ⊎_elim}
+use Rattle.std.proofs.Common.{◌≡◌, cond}
 use lib.Ieee.{lt, eq}
 use Rattle.float.specs.Arithmetic.{zero·0}
 use Rattle.float.specs.Arctangent.{quadrant_angle}
 use Rattle.float.proofs.arctangent.quadrant_angle.Goals as goal
-use Rattle.float.proofs.arctangent.quadrant_angle.Goals.{Joined-a-b, Joined-l}
+use Rattle.float.proofs.arctangent.quadrant_angle.Goals.{Joined-a-b, Joined-l, then-a-b, else-a-b, then-l, else-l}
 
 -- the larger
 larger : (c : Joined-a-b) → c.if-a-b.l ≡ cond (lt c.args.b c.args.a) c.args.a c.args.b
-larger c = ⊎_elim (λ w. simp (w.0.taken, w.1)) (λ w. simp (w.0.left, w.1)) c.if-a-b.branch
+larger c = elim c.if-a-b.branch [ then-a-b w ↦ simp (w.if-a-b.true, w.l-is) | else-a-b w ↦ simp (w.if-a-b.false, w.l-is) ]
 
 -- the angle, 0 where the larger is 0
 angle : (c : Joined-l) → c.if-l.r ≡ cond (eq c.if-a-b.l zero·0) zero·0 c.series_angle-r.result
-angle c = ⊎_elim (λ w. simp (w.0.taken, w.1)) (λ w. simp (w.0.left, w.1)) c.if-l.branch
+angle c = elim c.if-l.branch [ then-l w ↦ simp (w.if-l.true, w.r-is) | else-l w ↦ simp (w.if-l.false, w.r-is) ]
 
 pub returns-then-a-b-2 : goal.returns-then-a-b-2
 unfolding quadrant_angle

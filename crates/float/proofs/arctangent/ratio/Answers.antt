@@ -1,16 +1,16 @@
 -- `float::arctangent::ratio` meets its contract. Assumes nothing.
-use Rattle.std.proofs.Common.{◌≡◌, cond, ⊎_elim}
+use Rattle.std.proofs.Common.{◌≡◌, cond}
 use lib.Ieee.{lt}
 use Rattle.float.specs.Arctangent.{ratio}
 use Rattle.float.proofs.arctangent.ratio.Goals as goal
-use Rattle.float.proofs.arctangent.ratio.Goals.{Joined-a-b}
+use Rattle.float.proofs.arctangent.ratio.Goals.{Joined-a-b, then-a-b, else-a-b}
 
 -- the smaller and the larger
 smaller : (c : Joined-a-b) → c.if-a-b.m ≡ cond (lt c.args.b c.args.a) c.args.b c.args.a
-smaller c = ⊎_elim (λ w. simp (w.0.taken, w.1)) (λ w. simp (w.0.left, w.1)) c.if-a-b.branch
+smaller c = elim c.if-a-b.branch [ then-a-b w ↦ simp (w.if-a-b.true, w.m-is) | else-a-b w ↦ simp (w.if-a-b.false, w.m-is) ]
 
 larger : (c : Joined-a-b) → c.if-a-b.l ≡ cond (lt c.args.b c.args.a) c.args.a c.args.b
-larger c = ⊎_elim (λ w. simp (w.0.taken, w.2)) (λ w. simp (w.0.left, w.2)) c.if-a-b.branch
+larger c = elim c.if-a-b.branch [ then-a-b w ↦ simp (w.if-a-b.true, w.l-is) | else-a-b w ↦ simp (w.if-a-b.false, w.l-is) ]
 
 pub returns : goal.returns
 unfolding ratio

@@ -1,12 +1,12 @@
 -- `float::root::floor_by_digits` meets its contract. After i turns `root` is the floor of the root of the first 2 * i bits of m * 2 ^ 54, which has 108, `rest` is
 -- what its square leaves of them, and `bits` has the next 64. Assumes nothing.
-use Rattle.std.proofs.Common.{◌≡◌, ℕ, zero, suc, ◌+◌, ◌-◌, ◌*◌, ◌/◌, ◌%◌, ◌^◌, ◌<◌, ◌≤◌, eqb, sym, ap, ◌∙◌, subst, subst₂, ⊎_elim, lt_of_lt_of_le, mul_assoc, pow-suc, add-one, arith, pow_mono, eq-eqb, ne_eqb}
+use Rattle.std.proofs.Common.{◌≡◌, ℕ, zero, suc, ◌+◌, ◌-◌, ◌*◌, ◌/◌, ◌%◌, ◌^◌, ◌<◌, ◌≤◌, eqb, sym, ap, ◌∙◌, subst, subst₂, lt_of_lt_of_le, mul_assoc, pow-suc, add-one, arith, pow_mono, eq-eqb, ne_eqb}
 use native.Mathlib.Nat.{mul-mul-mul_comm}
 use Rattle.float.specs.RootSteps.{LargestRoot}
 use Rattle.float.proofs.Isqrt.{sq_suc}
 use Rattle.float.proofs.root.floor_by_digits.Goals as goal
 use Rattle.float.proofs.root.floor_by_digits.Invariants.{Digits}
-use Rattle.float.proofs.root.floor_by_digits.Goals.{In-loop-i}
+use Rattle.float.proofs.root.floor_by_digits.Goals.{then-trial-rest, else-trial-rest, In-loop-i}
 
 start : (m : ℕ) → m < 2 ^ 54 → Digits m ((m * 2 ^ 10) % 2 ^ 64) 0 0 0
 start m h = (omega arith, omega arith, omega arith, omega arith, omega arith)
@@ -78,10 +78,10 @@ overflow_add-root c = let b = root_small (goal.at.overflow_add-root c).In-loop-i
 pub loop-i-preserved : goal.loop-i-preserved
 loop-i-preserved c = let m = c.args.m in
     let l = c.loop-i in
-    ⊎_elim
-    (λ w. move _ _ _ w.1 w.2 (up m l.bits l.root l.rest l.i l.invariant c.loop-i-test.true (omega (arith, w.0.taken))))
-    (λ w. move _ _ _ w.1 w.2 (down m l.bits l.root l.rest l.i l.invariant c.loop-i-test.true w.0.left))
-    c.if-trial-rest.branch
+    elim c.if-trial-rest.branch [
+      | then-trial-rest w ↦ move _ _ _ w.root-is w.rest-is (up m l.bits l.root l.rest l.i l.invariant c.loop-i-test.true (omega (arith, w.if-trial-rest.true)))
+      | else-trial-rest w ↦ move _ _ _ w.root-is w.rest-is (down m l.bits l.root l.rest l.i l.invariant c.loop-i-test.true w.if-trial-rest.false)
+    ]
 
 pub returns : goal.returns
 returns c = let l = c.loop-i in

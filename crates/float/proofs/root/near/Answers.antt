@@ -5,7 +5,7 @@ use Rattle.float.specs.RootSteps.{LargestRoot, rounded_of}
 use Rattle.float.specs.declared.root.Floor.{Floor}
 use Rattle.float.proofs.Guessed.{found_exact, found_between, square, digits, over_small, between}
 use Rattle.float.proofs.root.near.Goals as goal
-use Rattle.float.proofs.root.near.Goals.{After-row_known-1, Then-t-q}
+use Rattle.float.proofs.root.near.Goals.{then-t-d-2, else-t-d-2, After-row_known-1, Then-t-q}
 
 -- a difference that is small did not wrap
 small_unwrapped : (s b a : ℕ) → (s + b) % 2 ^ 64 ≡ a → s < 2 ^ 63 → b < 2 ^ 63 → s + b ≡ a
@@ -92,13 +92,13 @@ tests_passed : (c : Then-t-q) → (let q = c.args.q in let d = q - 1 in
     c.args.m * 2 ^ 52 ≡ d * d + (c.wrapping_sub_u64-t.result + q))
 tests_passed c =
     left c.args.m c.args.q c.wrapping_sub_u64-over.result c.wrapping_sub_u64-part.result c.wrapping_sub_u64-rest.result c.wrapping_sub_u64-t.result
-    c.requires.1 c.requires.2 c.wrapping_sub_u64-over.ensures c.if-over-lt268435456.true c.wrapping_sub_u64-part.ensures c.if-part-lt1073741824.true
-    c.wrapping_sub_u64-rest.ensures c.wrapping_sub_u64-t.ensures (omega (arith, c.if-t-q.true, c.requires.2))
+    c.requires.1 c.requires.2 c.wrapping_sub_u64-over.ensures.value c.if-over-lt268435456.true c.wrapping_sub_u64-part.ensures.value c.if-part-lt1073741824.true
+    c.wrapping_sub_u64-rest.ensures.value c.wrapping_sub_u64-t.ensures.value (omega (arith, c.if-t-q.true, c.requires.2))
 
 -- `up`, by its test
 up_by_test : (c : After-row_known-1) → (let d = c.args.q - 1 in
     let t = c.wrapping_sub_u64-t.result in ((t < d) × (c.if-t-d-2.up ≡ 0)) ⊎ ((d ≤ t) × (c.if-t-d-2.up ≡ 1)))
-up_by_test c = ⊎_elim (λ w. inl (w.0.taken, w.1)) (λ w. inr (w.0.left, w.1)) c.if-t-d-2.branch
+up_by_test c = elim c.if-t-d-2.branch [ then-t-d-2 w ↦ inl (w.if-t-d-2.true, w.up-is) | else-t-d-2 w ↦ inr (w.if-t-d-2.false, w.up-is) ]
 
 pub overflow_mul-a : goal.overflow_mul-a
 overflow_mul-a c = let p = digits (c.args.q - 1) (omega arith) in omega arith
@@ -120,26 +120,26 @@ returns-then-t-q c = found_between c.args.m c.args.q (c.args.q - 1) c.wrapping_s
     (tests_passed (goal.at.returns-then-t-q c).Then-t-q) (omega (arith, c.if-t-q.true)) c.if-t-d.false (up_by_test (goal.at.returns-then-t-q c).After-row_known-1)
 
 pub returns-else-t-q : goal.returns-else-t-q
-returns-else-t-q c = let m = c.args.m in
+returns-else-t-q c f R h = let m = c.args.m in
     let q = c.args.q in
     let z =
     third_test m q c.wrapping_sub_u64-over.result c.wrapping_sub_u64-part.result c.wrapping_sub_u64-rest.result c.wrapping_sub_u64-t.result
-    (rounds m q f c.requires.0 c.requires.1 c.requires.2 R h) c.requires.2 c.wrapping_sub_u64-over.ensures c.if-over-lt268435456.true c.wrapping_sub_u64-part.ensures
-    c.if-part-lt1073741824.true c.wrapping_sub_u64-rest.ensures c.wrapping_sub_u64-rest.type-inv c.wrapping_sub_u64-t.ensures c.wrapping_sub_u64-t.type-inv in
+    (rounds m q f c.requires.0 c.requires.1 c.requires.2 R h) c.requires.2 c.wrapping_sub_u64-over.ensures.value c.if-over-lt268435456.true c.wrapping_sub_u64-part.ensures.value
+    c.if-part-lt1073741824.true c.wrapping_sub_u64-rest.ensures.value c.wrapping_sub_u64-rest.type_inv c.wrapping_sub_u64-t.ensures.value c.wrapping_sub_u64-t.type_inv in
     omega (arith, c.if-t-q.false, c.requires.1)
 
 pub returns-else-part-lt1073741824 : goal.returns-else-part-lt1073741824
-returns-else-part-lt1073741824 c = let m = c.args.m in
+returns-else-part-lt1073741824 c f R h = let m = c.args.m in
     let q = c.args.q in
     let z =
     second_test m q c.wrapping_sub_u64-over.result c.wrapping_sub_u64-part.result (rounds m q f c.requires.0 c.requires.1 c.requires.2 R h) c.requires.2
-    c.wrapping_sub_u64-over.ensures c.if-over-lt268435456.true c.wrapping_sub_u64-part.ensures c.wrapping_sub_u64-part.type-inv in
+    c.wrapping_sub_u64-over.ensures.value c.if-over-lt268435456.true c.wrapping_sub_u64-part.ensures.value c.wrapping_sub_u64-part.type_inv in
     omega (arith, c.if-part-lt1073741824.false)
 
 pub returns-else-over-lt268435456 : goal.returns-else-over-lt268435456
-returns-else-over-lt268435456 c = let m = c.args.m in
+returns-else-over-lt268435456 c f R h = let m = c.args.m in
     let q = c.args.q in
     let z =
-    first_test m q c.wrapping_sub_u64-over.result (rounds m q f c.requires.0 c.requires.1 c.requires.2 R h) c.requires.0 c.wrapping_sub_u64-over.ensures
-    c.wrapping_sub_u64-over.type-inv in
+    first_test m q c.wrapping_sub_u64-over.result (rounds m q f c.requires.0 c.requires.1 c.requires.2 R h) c.requires.0 c.wrapping_sub_u64-over.ensures.value
+    c.wrapping_sub_u64-over.type_inv in
     omega (arith, c.if-over-lt268435456.false)

@@ -29,7 +29,7 @@ left c = sym c.special.ensures ∙ c.in-Positive.is
 scaled_at : (c : After-scale-s) → Scales (magnitude (to_bits binary64 c.args.x) * 2 ^ 1074) c.scale-s.result × (511 ≤ c.scale-s.result.half) × (c.scale-s.result.half < 1560)
 scaled_at c =
     let x = c.args.x in
-    let l = left_over x (left c.before) (held c.before.before.before.before) in
+    let l = left_over x (left c.before) (held c.before.before.before) in
     scaled_is (to_bits binary64 x) c.scale-s.result c.scale-s.ensures l.1 l.2
 
 pub float_to_bits-b : goal.float_to_bits-b
