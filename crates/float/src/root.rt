@@ -11,28 +11,28 @@ ghost use Rattle.float.specs.RootSteps.{operand_of, paired_of, scaled_of, Larges
 use std::num::wrapping_sub_u64;
 
 // What step 1 gives: the answer, or that the operand is finite and above 0.
-#[derive(Drop)]
+#[derive(Clone, Copy)]
 enum Operand {
     Answer(f64),
     Positive,
 }
 
 // A number as significand * 4^half.
-#[derive(Drop)]
+#[derive(Clone, Copy)]
 struct Scaled {
     significand: u64,
     half: u64,
 }
 
 // The floor of a square root, and whether it is the root.
-#[derive(Drop)]
+#[derive(Clone, Copy)]
 struct Floor {
     root: u64,
     exact: bool,
 }
 
 // What trying a guess gives.
-#[derive(Drop)]
+#[derive(Clone, Copy)]
 enum Trial {
     Found(Floor),
     Missed,

@@ -8,7 +8,7 @@ ghost use Rattle.float.specs.Trigonometry.{sine_divisor, cosine_divisor, quadran
 use crate::{PI, abs};
 
 // The sine and the cosine of an angle.
-#[derive(Drop)]
+#[derive(Clone, Copy)]
 pub struct SinCos {
     pub sin: f64,
     pub cos: f64,

@@ -11,7 +11,7 @@ use crate::hex::{are_digits, hex_value, write_fields};
 pub const LINE_LENGTH: usize = 33;
 
 // What stands in the place of a line. It is framed if it has 32 digits and 0a; else its numbers mean nothing.
-#[derive(Drop)]
+#[derive(Clone, Copy)]
 pub struct Line {
     pub framed: bool,
     pub chunk: u64,

@@ -15,7 +15,7 @@ use roll_sweep::cells_in;
 pub(crate) const MOST_CHUNKS: usize = 16_384;
 
 // Whether a journal is right, with the sum of its lines' probes.
-#[derive(Drop)]
+#[derive(Clone, Copy)]
 pub enum Checked {
     Right(u64),
     Wrong,

@@ -8,7 +8,7 @@ use crate::header::{HEADER_LENGTH, write_header};
 use solar_roll::{ConfiguredRoll, plan_refusal};
 
 // The number of the plan's refusal, 0 for none; and where it is 0, how many cells the plan has, and its header.
-#[derive(Drop)]
+#[derive(Clone, Copy)]
 pub struct LentPlan {
     pub refusal: u64,
     pub cells: u64,

@@ -16,14 +16,14 @@ use solar_roll::{
 
 // What the sweep of cells gives: bit k of the mask is cell k, set where every sample violates it;
 // probes is how many samples were tried.
-#[derive(Drop)]
+#[derive(Clone, Copy)]
 pub struct Swept {
     pub mask: u64,
     pub probes: u64,
 }
 
 // What the sweep of a chunk gives, or document 01's number of the refusal.
-#[derive(Drop)]
+#[derive(Clone, Copy)]
 pub enum ChunkAnswer {
     Accepted(Swept),
     Refused(u64),

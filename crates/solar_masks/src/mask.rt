@@ -20,7 +20,7 @@ use solar_roll::{
 
 // What marks a cell: a roll too far from its optimal roll, every multiple of a step too far from it,
 // or nothing.
-#[derive(Drop)]
+#[derive(Clone, Copy)]
 pub(crate) enum MarkRule {
     AtRoll(f64),
     EveryStep(f64),

@@ -17,7 +17,7 @@ use solar_roll::{
 };
 
 // A cell's byte and severity.
-#[derive(Drop)]
+#[derive(Clone, Copy)]
 pub struct Evaluated {
     pub mark: u8,
     pub severity: f64,

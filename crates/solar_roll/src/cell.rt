@@ -20,14 +20,14 @@ const LIMIT: f64 = 1.0e100;
 const UNIT_TOLERANCE: f64 = 1.0e-9;
 
 // A roll that may be configured: the Rust's Option<f64>.
-#[derive(Drop)]
+#[derive(Clone, Copy)]
 pub enum ConfiguredRoll {
     None,
     Some(f64),
 }
 
 // A roll to evaluate at: one candidate of a sweep, or the one that is asked for.
-#[derive(Drop)]
+#[derive(Clone, Copy)]
 pub enum EvaluationRoll {
     Sweep(f64),
     Fixed(f64),
@@ -35,7 +35,7 @@ pub enum EvaluationRoll {
 
 // A cell's answer: document 01's Free, where no roll is better than another; At, with the optimal roll;
 // or the number of a refusal.
-#[derive(Drop)]
+#[derive(Clone, Copy)]
 pub enum CellRoll {
     Free,
     At(f64),

@@ -18,7 +18,7 @@ pub const MOST_CELLS: usize = 1_048_576;
 pub const MOST_SAMPLES: usize = 3_600;
 
 // The settings of a row.
-#[derive(Drop)]
+#[derive(Clone, Copy)]
 pub struct SolarRollConfig {
     pub tolerance_deg: f64,
     pub roll_deg: ConfiguredRoll,

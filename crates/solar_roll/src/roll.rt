@@ -37,7 +37,7 @@ pub fn sun_along_boresight(target: [f64; 3], sun_unit: [f64; 3]) -> bool
 
 // What all cells share of a panel: whether its normal has no part in the body's y-z plane, so that
 // no roll changes its light; and the normal's angle there, which is worked out in either case.
-#[derive(Drop)]
+#[derive(Clone, Copy)]
 pub struct Panel {
     pub free: bool,
     pub angle: f64,

@@ -36,7 +36,7 @@ pub fn over3(v: [f64; 3], n: f64) -> [f64; 3]
 }
 
 // A vector that may be missing: the Rust's Option<[f64; 3]>, as an enum cannot hold an array.
-#[derive(Drop)]
+#[derive(Clone, Copy)]
 pub struct Normalized {
     pub found: bool,
     pub vector: [f64; 3],

@@ -19,7 +19,7 @@ pub use seconds::total_violation_duration;
 // A window: first and last sample number, their times in nanoseconds, the severity, and 1 if the window ends with the
 // final sample, else 0. Every field has eight bytes, so that a record has no byte without a meaning.
 #[repr(C)]
-#[derive(Drop)]
+#[derive(Clone, Copy)]
 pub struct Window {
     pub first: u64,
     pub last: u64,
@@ -30,14 +30,14 @@ pub struct Window {
 }
 
 // Which windows a listing gives.
-#[derive(Drop)]
+#[derive(Clone, Copy)]
 pub(crate) enum Listing {
     Violations,
     Visibility,
 }
 
 // What the total duration answers: the seconds, or document 01's number of the refusal.
-#[derive(Drop)]
+#[derive(Clone, Copy)]
 pub enum Duration {
     Seconds(f64),
     Refused(u64),

@@ -9,7 +9,7 @@ use crate::Listing;
 use crate::refusal::MOST_LENT;
 
 // The samples from first to end - 1.
-#[derive(Drop)]
+#[derive(Clone, Copy)]
 pub(crate) struct Stretch {
     pub(crate) first: usize,
     pub(crate) end: usize,
