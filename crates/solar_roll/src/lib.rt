@@ -1,6 +1,7 @@
 // Solar roll, ported from solar_roll.rs: a cell's optimal roll, the cells that a roll violates, and
 // the plan whose cells they are.
 #![tactic(auto)]
+
 mod cell;
 mod plan;
 mod roll;

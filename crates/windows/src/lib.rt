@@ -4,6 +4,7 @@
 // A public function refuses by document 01's number and then writes nothing. Its contract gives its whole answer and every
 // lent place by equality with the definitions of specs/.
 #![tactic(auto)]
+
 mod expansion;
 mod listings;
 mod records;

@@ -1,0 +1,10 @@
+-- `windows::runs::count_listed` meets its contract. The invariant: the runs counted and the runs left are all runs. Assumes nothing.
+use Rattle.std.proofs.Common.{◌≡◌, ◌+◌, ◌-◌, ◌≤◌, length}
+use Rattle.windows.specs.Steps.{runs_left}
+use Rattle.windows.proofs.runs.count_listed.Given as goal
+
+abbrev pub invariant-loop-from : goal.invariant-loop-from
+invariant-loop-from l = (l.from ≤ length l.mask) × (l.count + length (runs_left l.listing l.mask l.from) ≡ length (runs_left l.listing l.mask 0)) × (l.count ≤ l.from)
+
+abbrev pub decreases-loop-from : goal.decreases-loop-from
+decreases-loop-from l = length l.mask - l.from
