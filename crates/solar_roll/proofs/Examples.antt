@@ -3,7 +3,7 @@
 -- plan is refused. Assumes nothing.
 use mathlib.Core.Path.{◌≡◌, refl}
 use mathlib.Core.Bool.{true, false}
-use mathlib.Core.List.{List, [], ◌∷◌, ◌++◌}
+use mathlib.Core.List.{[], ◌∷◌, ◌++◌}
 use Prim.Native.Nat.{ℕ}
 use lib.Ieee.{Float, nan, binary64, of_bits, neg, add, sub, mul, div, rem, lt, le, eq, of_int}
 use Rattle.float.specs.Root.{sqrt_of}

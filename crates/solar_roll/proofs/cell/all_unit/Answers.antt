@@ -1,6 +1,6 @@
 -- `all_unit`: before triple i, each before it is a unit vector. Assumes nothing.
 use mathlib.Core.Path.{refl, sym, ap, ◌∙◌}
-use mathlib.Core.Bool.{false, not}
+use mathlib.Core.Bool.{not}
 use native.Mathlib.Omega.{arith}
 use Rattle.buffers.proofs.Ranges.{any_zero, any_step, any_found, any_none, any_clear}
 use Rattle.buffers.proofs.Tests.{or_none}

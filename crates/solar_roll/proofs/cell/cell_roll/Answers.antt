@@ -6,21 +6,27 @@ use Rattle.solar_roll.specs.Vectors.{Vector}
 use Rattle.solar_roll.specs.Cell.{optimal_roll, cell_reply}
 use mathlib.Core.Path.{sym, ap, ◌∙◌}
 use native.Mathlib.Omega.{arith}
+use borrow.Author.Rules.{rules}
+use lib.ListN.{length}
+use mathlib.Core.Path.{◌≡◌}
 use Rattle.buffers.proofs.Refusal.{reply_some}
 use Rattle.solar_roll.proofs.cell.cell_roll.Goals as goal
 
 pub returns-then-refusal-ne0 : goal.returns-then-refusal-ne0
 unfolding cell_reply
-returns-then-refusal-ne0 c = (rw (← c.numbers_refusal-refusal.ensures) (sym (reply_some _ _ (omega arith))), λ roll e. absurd (refused_not_at _ roll e))
+returns-then-refusal-ne0 c = record {
+  result_value = rw (← c.numbers_refusal-refusal.ensures) (sym (reply_some _ _ (omega arith)));
+  in_turn = λ roll e. absurd (refused_not_at _ roll e);
+}
 
 pub returns : goal.returns
 unfolding cell_reply reply
 returns c = let a = c.args in
     let accepted = sym c.numbers_refusal-refusal.ensures ∙ c.if-refusal-ne0.false in
-    let answer = c.optimal_roll.ensures ∙ ap (λ (unit : Vector). optimal_roll a.t1 unit a.t4) c.sun_unit.ensures in
-    let target-length = sym (slice-aggregate-numbers-refusal c) in
-    let sun-length = sym (slice-aggregate-numbers-refusal-2 c) in
-    let observer-length = sym (slice-aggregate-numbers-refusal-3 c) in
-    let normal-length = sym (slice-aggregate-numbers-refusal-4 c) in
-    let range = answer_range _ _ _ _ (numbers _ _ _ _ accepted) target-length sun-length observer-length normal-length in
-    (simp (accepted, answer, answered), λ roll e. range roll (sym answer ∙ e))
+    let answer = c.optimal_roll.ensures ∙ ap (λ (unit : Vector). optimal_roll a.target unit a.panel_normal) c.sun_unit.ensures in
+    let target_length : length a.target ≡ 3 = search rules in
+    let sun_length : length a.sun ≡ 3 = search rules in
+    let observer_length : length a.observer ≡ 3 = search rules in
+    let normal_length : length a.panel_normal ≡ 3 = search rules in
+    let range = answer_range _ _ _ _ (numbers _ _ _ _ accepted) target_length sun_length observer_length normal_length in
+    record { result_value = simp (accepted, answer, answered); in_turn = λ roll e. range roll (sym answer ∙ e) }

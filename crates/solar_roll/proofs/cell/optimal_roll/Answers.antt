@@ -8,4 +8,4 @@ returns-then-roll_is_unconstrained c = simp (sym c.roll_is_unconstrained.ensures
 
 pub returns-else-roll_is_unconstrained : goal.returns-else-roll_is_unconstrained
 unfolding optimal_roll
-returns-else-roll_is_unconstrained c = simp (sym c.roll_is_unconstrained.ensures ∙ c.if-roll_is_unconstrained.false, c.solar_optimal_roll_deg.ensures.0)
+returns-else-roll_is_unconstrained c = simp (sym c.roll_is_unconstrained.ensures ∙ c.if-roll_is_unconstrained.false, c.solar_optimal_roll_deg.ensures.value)

@@ -1,6 +1,5 @@
 -- `arc_within_turn`: between -360 and 360 the remainder is x, or x and 360; less 180 it is a number. Assumes nothing.
 use mathlib.Core.Path.{◌≡◌, refl, sym, ap, ◌∙◌, subst}
-use mathlib.Core.Logic.{⊎_elim}
 use mathlib.Core.Bool.{Bool, true, false, cond, not, true≢false}
 use Prim.Native.Nat.{ℕ, ◌*◌, ◌^◌}
 use native.Mathlib.Omega.{arith}
@@ -14,7 +13,7 @@ use Rattle.float.proofs.Remainder.{rem_turn_small}
 use Rattle.float.proofs.Sign.{abs_of_bits, abs_pattern}
 use Rattle.solar_roll.specs.Roll.{arc}
 use Rattle.solar_roll.proofs.roll.arc_within_turn.Goals as goal
-use Rattle.solar_roll.proofs.roll.arc_within_turn.Goals.{Joined-x}
+use Rattle.solar_roll.proofs.roll.arc_within_turn.Goals.{then-x, else-x, Joined-x}
 
 -- x, or x and 360
 abbrev turned : Float → Float
@@ -49,7 +48,7 @@ number w = subst (λ (y : Float). T (not (is_nan y))) (sym w.is) tt
 
 -- what the code has
 less : (c : Joined-x) → sub binary64 c.if-x.d half_turn ≡ sub binary64 (turned c.args.x) half_turn
-less c = ap (λ (y : Float). sub binary64 y half_turn) (⊎_elim (λ w. simp (w.0.taken, w.1)) (λ w. simp (w.0.left, w.1)) c.if-x.branch)
+less c = ap (λ (y : Float). sub binary64 y half_turn) (elim c.if-x.branch [ then-x w ↦ simp (w.if-x.true, w.d-is) | else-x w ↦ simp (w.if-x.false, w.d-is) ])
 
 is_number : (c : Joined-x) → T (not (is_nan (sub binary64 c.if-x.d half_turn)))
 is_number c =

@@ -4,7 +4,6 @@ use mathlib.Core.Path.{◌≡◌, refl, ◌∙◌}
 use native.Mathlib.Omega.{arith}
 use lib.ListN.{length, length-set}
 use Rattle.buffers.proofs.Lent.{filled_zero, filled_next}
-use Rattle.solar_roll.specs.Vectors.{dot3}
 use Rattle.solar_roll.proofs.roll.parts_along.Goals as goal
 
 pub loop-k-init : goal.loop-k-init

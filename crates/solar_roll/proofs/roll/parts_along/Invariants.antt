@@ -1,4 +1,5 @@
 -- `parts_along`: before unit k, the parts of those before it stand. Assumes nothing.
+use mathlib.Core.List.{[]}
 use Prim.Native.Nat.{◌-◌, ◌≤◌}
 use mathlib.Core.Path.{◌≡◌}
 use lib.ListN.{length, get_or}

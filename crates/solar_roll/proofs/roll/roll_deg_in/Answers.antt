@@ -4,4 +4,4 @@ use Rattle.solar_roll.proofs.roll.roll_deg_in.Goals as goal
 
 pub returns : goal.returns
 unfolding roll_deg_in
-returns c = (cc, between_in_turn _ _ _ c.roll_between.ensures)
+returns c = record { value = cc; in_turn = between_in_turn _ _ _ c.roll_between.ensures }

@@ -1,6 +1,6 @@
 -- `rolls_deg_in`: the Sun's parts along two axes, their arctangents, and the rolls between these and the panel's angle. Assumes nothing.
 use mathlib.Core.Path.{◌≡◌, sym, ap, ◌∙◌}
-use mathlib.Core.List.{List}
+use mathlib.Core.List.{[], List}
 use Prim.Native.Nat.{ℕ, ◌<◌, min}
 use native.Mathlib.Omega.{arith}
 use lib.Ieee.{Float, nan}
@@ -44,5 +44,5 @@ returns c = let a = c.args in
     let zn = ap length zs ∙ length_tab _ _ in
     let yn = ap length ys ∙ length_tab _ _ in
     let angles = arctangents c.smaller-count.result _ _ _ _ _ _ _ zs ys (omega (arith, zn, yn, count)) c.atan2_each.ensures in
-    filled_then _ (λ k angle. roll_between angle a.panel-angle) _ nan _ _ _ angles c.to_rolls.ensures
-    ∙ ap (λ (i : ℕ). filled i (λ k. roll_deg_in a.t1 (get_or a.units.now k []) a.panel-angle) a.rolls.now) count
+    filled_then _ (λ k angle. roll_between angle a.panel_angle) _ nan _ _ _ angles c.to_rolls.ensures
+    ∙ ap (λ (i : ℕ). filled i (λ k. roll_deg_in a.axes (get_or a.units.now k []) a.panel_angle) a.rolls.now) count
