@@ -1,5 +1,6 @@
 // The vectors of catalogue positions, right ascension and declination in degrees.
 #![tactic(auto)]
+
 ghost use Rattle.std.specs.Prelude.{◌≡◌, ◌*◌, ◌≤◌, length};
 ghost use Rattle.buffers.specs.Ranges.{any};
 ghost use Rattle.buffers.specs.Lent.{filled};

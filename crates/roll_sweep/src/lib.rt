@@ -1,5 +1,6 @@
 // The sweep over rolls: the even samples, a lent table, and the cells of a chunk that every sample violates.
 #![tactic(auto)]
+
 mod chunk;
 mod rolls;
 

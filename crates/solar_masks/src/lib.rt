@@ -1,6 +1,7 @@
 // The calls on a plan's cells, ported from solar_roll.rs: masks, named values, one row with its
 // severities, and the field of regard. Each answers through `buffers::Answer`.
 #![tactic(auto)]
+
 mod field;
 mod mask;
 mod row;

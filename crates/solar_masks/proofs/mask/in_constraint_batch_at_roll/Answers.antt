@@ -1,0 +1,34 @@
+use Rattle.buffers.proofs.Refusal.{refused_leaves, accepted_leaves}
+use Rattle.buffers.specs.Lent.{filled}
+use Rattle.solar_masks.proofs.Calls.{cells_facts, cells_room}
+use Rattle.solar_masks.specs.Mask.{cell_mark, cells_refusal, cells_reply, mask_after}
+use Rattle.solar_roll.specs.Plan.{Plan, plan_of, cells_of}
+use Rattle.solar_masks.specs.declared.mask.MarkRule.{MarkRule}
+use lib.ListN.{length}
+use mathlib.Core.Path.{◌≡◌, sym, ap, ◌∙◌}
+use Rattle.solar_masks.proofs.mask.in_constraint_batch_at_roll.Goals as goal
+use Rattle.solar_masks.proofs.mask.in_constraint_batch_at_roll.Goals.{After-cells_refusal-refusal}
+
+-- the plan that the call was lent
+abbrev plan : After-cells_refusal-refusal → Plan
+plan c = let a = c.args in plan_of a.targets.now a.suns.now a.observers.now a.tolerances.now a.configured a.panels.now
+
+refusal : (c : After-cells_refusal-refusal) → c.cells_refusal-refusal.result ≡ cells_refusal (plan c) 0 (length c.args.mask.now)
+refusal c = c.cells_refusal-refusal.ensures
+
+pub returns-then-refusal-ne0 : goal.returns-then-refusal-ne0
+unfolding cells_reply mask_after
+returns-then-refusal-ne0 c = let k = c.cells_refusal-refusal.result in
+    refused_leaves k _ 0 _ _ (refusal (goal.at.returns-then-refusal-ne0 c).After-cells_refusal-refusal) c.if-refusal-ne0.true
+
+pub mark-requires : goal.mark-requires
+mark-requires c = let z = sym (refusal (goal.at.mark-requires c).After-cells_refusal-refusal) ∙ c.if-refusal-ne0.false in
+    (cells_room (plan (goal.at.mark-requires c).After-cells_refusal-refusal) _ _ z, (cells_facts (plan (goal.at.mark-requires c).After-cells_refusal-refusal) _ _ z).few_times)
+
+pub returns : goal.returns
+unfolding cells_reply mask_after
+returns c = let k = c.cells_refusal-refusal.result in
+    let p = plan (goal.at.returns c).After-cells_refusal-refusal in
+    let m = c.args.mask.now in
+    let w = c.mark.ensures ∙ ap (λ (rule : MarkRule). filled (cells_of p) (cell_mark p rule) m) c.at_roll-rule.ensures in
+    accepted_leaves k _ 0 _ _ _ (refusal (goal.at.returns c).After-cells_refusal-refusal) c.if-refusal-ne0.false w
