@@ -23,7 +23,7 @@ use Rattle.roll_sweep.specs.Rolls.{even_rolls}
 use Rattle.roll_sweep.specs.Chunk.{violates_by, sample_roll, swept_of, chunk_refusal, swept_reply}
 use Rattle.roll_sweep.proofs.Even.{length_even}
 use Rattle.roll_sweep.proofs.ChunkFacts.{samples_within, samples_passed, Held, chunk_facts, held, chunk_accepted}
-use Rattle.roll_sweep.proofs.Swept.{swept_ext, swept_chunk}
+use Rattle.roll_sweep.proofs.SweptCells.{swept_ext, swept_chunk}
 use Rattle.roll_sweep.proofs.Cells.{cell_violates, unit_of_time, unit_of_cell}
 use Rattle.journal.specs.Header.{has_roll, roll_bits, settings_header, header_of}
 use Rattle.journal.specs.Pass.{Passed}

@@ -2,7 +2,7 @@
 use mathlib.Core.Path.{◌≡◌, sym, ap, ap₂, ◌∙◌}
 use mathlib.Core.Bool.{Bool}
 use mathlib.Core.List.{List, []}
-use Prim.Native.Nat.{ℕ, ◌+◌, ◌-◌, ◌*◌, ◌/◌, ◌%◌, ◌≤◌, ◌<◌}
+use Prim.Native.Nat.{ℕ, ◌+◌, ◌*◌, ◌/◌, ◌%◌, ◌≤◌, ◌<◌}
 use native.Mathlib.Nat.{mod-lt, div-add-mod'}
 use native.Mathlib.Omega.{arith}
 use lib.ListN.{length, get_or, take, drop, length-drop}
@@ -20,7 +20,7 @@ use Rattle.solar_roll.specs.declared.cell.ConfiguredRoll.{ConfiguredRoll}
 use Rattle.solar_roll.specs.declared.cell.ConfiguredRoll.TheVariants.{None, Some}
 use Rattle.solar_roll.proofs.Cells.{roll_shared}
 use Rattle.roll_sweep.specs.Chunk.{violates_by, sample_roll, swept_by}
-use Rattle.roll_sweep.proofs.Swept.{swept_ext}
+use Rattle.roll_sweep.proofs.SweptCells.{swept_ext}
 
 -- an entry of a table that stands in a list's first places
 pub entry : {A : Type 0} (w : ℕ) (f : ℕ → A) (l : List A) (d : A) (k : ℕ) → take w l ≡ tab w f → k < w → get_or l k d ≡ f k

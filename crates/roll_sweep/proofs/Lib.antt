@@ -4,7 +4,7 @@ pub mod Tried
 pub mod Chunks
 pub mod Rows
 pub mod Even
-pub mod Swept
+pub mod SweptCells
 pub mod Cells
 pub mod ChunkFacts
 pub mod Tables

@@ -1,8 +1,8 @@
 -- Which cells are marked and with which severity, by computation, of cells whose optimal roll is 90; and what each call answers, of the plan of one target,
 -- [1, 0, 0], and one Sun, [0, 1, 0]. Assumes nothing.
 use mathlib.Core.Path.{◌≡◌, refl}
-use mathlib.Core.Bool.{Bool, true, false}
-use mathlib.Core.List.{List, [], ◌∷◌}
+use mathlib.Core.Bool.{true, false}
+use mathlib.Core.List.{[], ◌∷◌}
 use Prim.Native.Nat.{ℕ}
 use lib.IntN.{pos}
 use lib.Ieee.{Float, binary64, of_bits, of_int, add, sub, mul, div, rem, neg, lt, le}

@@ -1,7 +1,7 @@
 -- The values that an accepted call for named values leaves lie from 0 up to but not at 360 (`values_in_turn`). Assumes nothing.
 use mathlib.Core.Path.{◌≡◌, sym, ap, ◌∙◌, subst}
 use mathlib.Core.List.{List}
-use Prim.Native.Nat.{ℕ, ◌/◌, ◌%◌, ◌<◌, ◌≤◌}
+use Prim.Native.Nat.{◌/◌, ◌%◌, ◌<◌, ◌≤◌}
 use native.Mathlib.Nat.{mod-lt, div-lt_iff_lt-mul}
 use lib.ListN.{length, get_or}
 use lib.Ieee.{Float, nan}

@@ -104,7 +104,7 @@ pub fn named_values(
         reply_of result ≡ cells_reply p 0 (length values.old) }
     ensures values_after { let p : Plan = plan_of targets.now suns.now observers.now tolerances.now configured panels.now in
         values.new ≡ values_after p values.old }
-    ensures fact { let p : Plan = plan_of targets.now suns.now observers.now tolerances.now configured panels.now in
+    ensures in_turn { let p : Plan = plan_of targets.now suns.now observers.now tolerances.now configured panels.now in
         (3 ≤ length panels.now → reply_of result ≡ accepted 0 → ValuesInTurn p values.new) }
 {
     let refusal = cells_refusal(

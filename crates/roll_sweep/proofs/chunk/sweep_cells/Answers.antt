@@ -9,13 +9,20 @@ use Rattle.solar_roll.specs.Roll.{panel_of}
 use Rattle.solar_roll.specs.Plan.{row_panel, row_config, most_samples}
 use Rattle.solar_roll.proofs.Cells.{one_panel}
 use Rattle.roll_sweep.specs.Chunk.{swept_by}
-use Rattle.roll_sweep.proofs.Swept.{Upto, upto_zero, upto_whole, upto_le, upto_part}
+use Rattle.roll_sweep.proofs.SweptCells.{Upto, upto_zero, upto_whole, upto_le, upto_part}
 use Rattle.roll_sweep.proofs.Cells.{row_swept}
 use Rattle.roll_sweep.proofs.chunk.sweep_cells.Goals as goal
 use Rattle.roll_sweep.proofs.chunk.sweep_cells.Invariants.{nth_violated}
 use Rattle.roll_sweep.proofs.chunk.sweep_cells.Goals.{After-smaller-count, After-sweep_row-part}
 
 -- the part of a row that is swept together
+record Part (i times table k cells m : ℕ) : Type 0 where
+  pub more : 0 < m
+  pub within : k + m ≤ cells
+  pub in_row : i % times + m ≤ times
+  pub in_table : i % table + m ≤ table
+  pub few : k + m ≤ 64
+
 part : (c : After-smaller-count) →
     let a = c.args in
     let k = c.loop-k.k in
@@ -41,7 +48,7 @@ stepped c =
     let a = c.args in
     let at = c.loop-k in
     let m = c.smaller-count.result in
-    let h = part c.before.before.before.before.before in
+    let h = (let part : let a = c.args in let k = c.loop-k.k in Part (a.first + k) a.times (length a.units.now) k a.cells c.smaller-count.result = let a = c.args in let k = c.loop-k.k in let pos : 0 < a.times = omega arith in let some : 0 < length a.units.now = omega arith in let m = mod-lt (a.first + k) pos in let l = mod-lt (a.first + k) some in record { more = omega arith; within = omega arith; in_row = omega arith; in_table = omega arith; few = omega arith } in part) in
     let start : ℕ = (a.first + at.k) % length a.units.now in
     let z : at.k + m - at.k ≡ m = omega arith in
     let row : ℕ = (a.first + at.k) / a.times in
@@ -71,6 +78,12 @@ overflow_add-start-in-loop-k c = omega (arith, (part (goal.at.overflow_add-start
 
 pub offset_bounds-units-start : goal.offset_bounds-units-start
 offset_bounds-units-start c = omega (arith, (part (goal.at.offset_bounds-units-start c).After-smaller-count).in_table)
+
+pub slice_bounds-sweep_row-start : goal.slice_bounds-sweep_row-start
+slice_bounds-sweep_row-start c = omega (arith, (part (goal.at.slice_bounds-sweep_row-start c).After-smaller-count).in_table)
+
+pub slice_bounds-sweep_row-end : goal.slice_bounds-sweep_row-end
+slice_bounds-sweep_row-end c = omega (arith, (part (goal.at.slice_bounds-sweep_row-end c).After-smaller-count).in_table)
 
 pub overflow_shl-mask : goal.overflow_shl-mask
 overflow_shl-mask c = let h = part (goal.at.overflow_shl-mask c).After-smaller-count in

@@ -1,5 +1,5 @@
 -- `sweep_cells`: before cell k, where a row's part begins, mask and probes are those of the cells before it. Assumes nothing.
-use Prim.Native.Nat.{ℕ, ◌+◌, ◌-◌, ◌%◌, ◌≤◌, ◌<◌}
+use Prim.Native.Nat.{ℕ, ◌+◌, ◌-◌, ◌≤◌}
 use mathlib.Core.Bool.{Bool}
 use mathlib.Core.List.{List}
 use lib.ListN.{length, get_or}
@@ -7,7 +7,7 @@ use lib.Ieee.{Float, nan}
 use Rattle.solar_roll.specs.Vectors.{Vector}
 use Rattle.solar_roll.specs.declared.cell.ConfiguredRoll.{ConfiguredRoll}
 use Rattle.roll_sweep.specs.Chunk.{violates_by}
-use Rattle.roll_sweep.proofs.Swept.{Upto}
+use Rattle.roll_sweep.proofs.SweptCells.{Upto}
 use Rattle.roll_sweep.proofs.chunk.sweep_cells.Given as goal
 
 -- the k-th cell is violated at roll s
@@ -19,9 +19,3 @@ invariant-loop-k l = (l.k ≤ l.cells) × Upto (length l.rolls) (nth_violated l.
 
 abbrev pub decreases-loop-k : goal.decreases-loop-k
 decreases-loop-k l = l.cells - l.k
-record Part (i l.times table l.k l.cells m : ℕ) : Type 0 where
-  pub more : 0 < m
-  pub within : l.k + m ≤ l.cells
-  pub in_row : i % l.times + m ≤ l.times
-  pub in_table : i % table + m ≤ table
-  pub few : l.k + m ≤ 64

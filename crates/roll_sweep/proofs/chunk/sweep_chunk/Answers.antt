@@ -19,7 +19,7 @@ facts c = chunk_facts _ _ _ _ _ (sym c.chunk_refusal-refusal.ensures ∙ c.if-re
 cells_held : (c : After-cells_in-cells) →
     let a = c.args in
     Held (count a.targets.now) a.times a.chunk c.cells_in-cells.result
-cells_held c = held _ _ _ _ _ _ (facts c.before) c.cells_in-cells.ensures
+cells_held c = held _ _ _ _ _ _ ((let facts : let a = c.args in ChunkFacts (count a.targets.now) a.times (length a.units.now) (length a.rolls.now) a.chunk = chunk_facts _ _ _ _ _ (sym c.chunk_refusal-refusal.ensures ∙ c.if-refusal-ne0.false) in facts)) c.cells_in-cells.ensures
 
 pub returns-then-refusal-ne0 : goal.returns-then-refusal-ne0
 unfolding chunk_reply

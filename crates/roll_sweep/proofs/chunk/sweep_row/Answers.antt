@@ -1,11 +1,9 @@
 -- `sweep_row`: before cell k, mask and probes are those of the cells before it; before roll s of it, it is violated at all rolls before s. Assumes nothing.
 use Prim.Native.Nat.{◌≤◌, ◌<◌}
 use mathlib.Core.Path.{◌≡◌, refl, sym, ap, ◌∙◌}
-use mathlib.Core.Bool.{true}
 use mathlib.Core.List.{List, []}
 use native.Mathlib.Nat.{mul-le-mul}
 use native.Mathlib.Omega.{arith}
-use borrow.Author.Tests.{not-true, not-false}
 use lib.ListN.{length, get_or}
 use lib.Ieee.{Float, nan}
 use Rattle.buffers.proofs.Lent.{get_or_filled}
@@ -13,7 +11,7 @@ use Rattle.buffers.proofs.Ranges.{all_zero, all_next}
 use Rattle.solar_roll.specs.Roll.{roll_deg_in}
 use Rattle.solar_roll.specs.Cell.{roll_in}
 use Rattle.solar_roll.specs.Plan.{most_samples}
-use Rattle.roll_sweep.proofs.Swept.{upto_zero, upto_whole, upto_le, upto_clear, upto_marked}
+use Rattle.roll_sweep.proofs.SweptCells.{upto_zero, upto_whole, upto_le, upto_clear, upto_marked}
 use Rattle.roll_sweep.proofs.chunk.sweep_row.Goals as goal
 use Rattle.roll_sweep.proofs.chunk.sweep_row.Invariants.{row_violated}
 use Rattle.roll_sweep.proofs.chunk.sweep_row.Goals.{After-unit-1, After-violated}
@@ -35,7 +33,7 @@ at_sample : (c : After-violated) →
     ≡ c.violated.result
 unfolding roll_in
 at_sample c =
-    rw (← optimal_at_lem c.before.before.before.before.before, ← c.free_or_at-cell.ensures) (sym c.violated.ensures)
+    rw (← (let optimal_at_lem : let a = c.args in let k = c.cells.k in get_or c.rolls_deg_in.new.rolls k nan ≡ roll_deg_in a.axes (get_or a.units.now k []) a.panel.angle = let k = c.cells.k in ap (λ (l : List Float). get_or l k nan) c.rolls_deg_in.ensures ∙ get_or_filled _ _ _ nan k (omega arith) in optimal_at_lem), ← c.free_or_at-cell.ensures) (sym c.violated.ensures)
 
 pub cells-init : goal.cells-init
 cells-init c = (omega arith, refl, upto_zero _ _)
@@ -54,12 +52,12 @@ pub cells-preserved-then-not-violated : goal.cells-preserved-then-not-violated
 cells-preserved-then-not-violated c = let at = c.rolls in
     let out = c.cells in
     let h = c.rolls-test.true in
-    let e = at_sample (goal.at.cells-preserved-then-not-violated c).After-violated ∙ not-true _ c.if-not-violated.true in
+    let e = at_sample (goal.at.cells-preserved-then-not-violated c).After-violated ∙ c.if-not-violated.true in
     rw at.invariant.0 (omega arith, refl, upto_clear _ _ at.s _ out.invariant.2 h at.invariant.4 e (omega arith))
 
 pub rolls-preserved : goal.rolls-preserved
 rolls-preserved c = let at = c.rolls in
-    let e = at_sample (goal.at.rolls-preserved c).After-violated ∙ not-false _ c.if-not-violated.false in
+    let e = at_sample (goal.at.rolls-preserved c).After-violated ∙ c.if-not-violated.false in
     (at.invariant.0, omega arith, refl, omega arith, all_next _ _ at.invariant.4 e)
 
 pub cells-preserved : goal.cells-preserved

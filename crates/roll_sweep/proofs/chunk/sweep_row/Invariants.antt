@@ -10,7 +10,7 @@ use Rattle.solar_roll.specs.Vectors.{Vector}
 use Rattle.solar_roll.specs.Roll.{Axes}
 use Rattle.solar_roll.specs.Cell.{roll_in, violates}
 use Rattle.solar_roll.specs.declared.roll.Panel.{Panel}
-use Rattle.roll_sweep.proofs.Swept.{Upto}
+use Rattle.roll_sweep.proofs.SweptCells.{Upto}
 use Rattle.roll_sweep.proofs.chunk.sweep_row.Given as goal
 
 -- the row's cell k is violated at roll s

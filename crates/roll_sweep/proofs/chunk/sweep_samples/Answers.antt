@@ -7,7 +7,7 @@ use lib.ListN.{length, get_or}
 use lib.Ieee.{Float, nan}
 use Rattle.solar_roll.specs.Plan.{row_config}
 use Rattle.roll_sweep.specs.Chunk.{violates_by, sample_roll}
-use Rattle.roll_sweep.proofs.Swept.{swept_ext, swept_same, one_each}
+use Rattle.roll_sweep.proofs.SweptCells.{swept_ext, swept_same, one_each}
 use Rattle.roll_sweep.proofs.Cells.{configured_same, unconfigured}
 use Rattle.roll_sweep.proofs.chunk.sweep_samples.Goals as goal
 use Rattle.roll_sweep.proofs.chunk.sweep_samples.Goals.{Start}

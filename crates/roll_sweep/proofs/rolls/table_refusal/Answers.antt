@@ -1,10 +1,8 @@
 -- `table_refusal`: before roll k, none before it is refused. Assumes nothing.
 use mathlib.Core.Path.{sym, ◌∙◌}
-use mathlib.Core.Bool.{false}
 use native.Mathlib.Omega.{arith}
 use Rattle.buffers.proofs.Ranges.{any_zero, any_step, any_clear}
 use Rattle.buffers.proofs.Tests.{or_none}
-use Rattle.roll_sweep.specs.Rolls.{bad_roll}
 use Rattle.roll_sweep.proofs.Tables.{empty_table, long_table, bad_table, good_table}
 use Rattle.roll_sweep.proofs.rolls.table_refusal.Goals as goal
 

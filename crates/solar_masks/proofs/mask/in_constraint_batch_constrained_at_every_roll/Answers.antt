@@ -6,7 +6,7 @@ use Rattle.solar_masks.specs.Mask.{cell_mark, cells_refusal, cells_reply, mask_a
 use Rattle.solar_roll.specs.Plan.{Plan, plan_of, cells_of, samples_or_none_refusal}
 use Rattle.solar_masks.specs.declared.mask.MarkRule.{MarkRule}
 use lib.ListN.{length}
-use mathlib.Core.Path.{◌≡◌, sym, ap, ◌∙◌}
+use mathlib.Core.Path.{refl, ◌≡◌, sym, ap, ◌∙◌}
 use Rattle.solar_masks.proofs.mask.in_constraint_batch_constrained_at_every_roll.Goals as goal
 use Rattle.solar_masks.proofs.mask.in_constraint_batch_constrained_at_every_roll.Goals.{After-cells_refusal-refusal}
 
@@ -20,7 +20,7 @@ refusal c = c.cells_refusal-refusal.ensures ∙ ap (λ (s : ℕ). cells_refusal 
 pub returns-then-refusal-ne0 : goal.returns-then-refusal-ne0
 unfolding cells_reply mask_after
 returns-then-refusal-ne0 c = let k = c.cells_refusal-refusal.result in
-    refused_leaves k _ 0 _ _ (refusal (goal.at.returns-then-refusal-ne0 c).After-cells_refusal-refusal) c.if-refusal-ne0.true
+    record { result_value = (refused_leaves k _ 0 k k (refusal (goal.at.returns-then-refusal-ne0 c).After-cells_refusal-refusal) c.if-refusal-ne0.true).0; mask_after = (refused_leaves k _ 0 _ _ (refusal (goal.at.returns-then-refusal-ne0 c).After-cells_refusal-refusal) c.if-refusal-ne0.true).1 }
 
 pub at_every_roll-rule-requires : goal.at_every_roll-rule-requires
 at_every_roll-rule-requires c = few_samples _ (cells_said (plan (goal.at.at_every_roll-rule-requires c).After-cells_refusal-refusal) _ _ (sym (refusal (goal.at.at_every_roll-rule-requires c).After-cells_refusal-refusal) ∙ c.if-refusal-ne0.false))
@@ -35,4 +35,4 @@ returns c = let k = c.cells_refusal-refusal.result in
     let p = plan (goal.at.returns c).After-cells_refusal-refusal in
     let m = c.args.mask.now in
     let w = c.mark.ensures ∙ ap (λ (rule : MarkRule). filled (cells_of p) (cell_mark p rule) m) c.at_every_roll-rule.ensures in
-    accepted_leaves k _ 0 _ _ _ (refusal (goal.at.returns c).After-cells_refusal-refusal) c.if-refusal-ne0.false w
+    record { result_value = (accepted_leaves k _ 0 k k k (refusal (goal.at.returns c).After-cells_refusal-refusal) c.if-refusal-ne0.false refl).0; mask_after = (accepted_leaves k _ 0 _ _ _ (refusal (goal.at.returns c).After-cells_refusal-refusal) c.if-refusal-ne0.false w).1 }

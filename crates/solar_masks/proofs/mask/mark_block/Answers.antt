@@ -31,7 +31,7 @@ room o = omega (arith, o.loop-row.invariant.1.same, o.requires.0)
 fits : (i : In-loop-row) → i.loop-row.row * i.args.times + i.args.from + i.args.count ≤ length i.loop-row.mask
 fits i =
     let a = i.args in
-    omega (arith, room i.before, mul-le-mul_right a.times i.loop-row-test.true, suc-mul i.loop-row.row a.times, i.requires.1)
+    omega (arith, (let room : (count i.args.targets.now) * i.args.times ≤ length i.loop-row.mask = omega (arith, i.loop-row.invariant.1.same, i.requires.0) in room), mul-le-mul_right a.times i.loop-row-test.true, suc-mul i.loop-row.row a.times, i.requires.1)
 
 pub loop-row-init : goal.loop-row-init
 loop-row-init c = (omega arith, columns_none _ _ _ _ _ _ _)
@@ -44,6 +44,9 @@ overflow_add-start c = omega (arith, fits (goal.at.overflow_add-start c).In-loop
 
 pub slice_bounds-mark_row-count : goal.slice_bounds-mark_row-count
 slice_bounds-mark_row-count c = omega (arith, fits (goal.at.slice_bounds-mark_row-count c).In-loop-row)
+
+pub slice_bounds-mark_row-start : goal.slice_bounds-mark_row-start
+slice_bounds-mark_row-start c = omega (arith, fits (goal.at.slice_bounds-mark_row-start c).In-loop-row)
 
 pub mark_row-requires : goal.mark_row-requires
 mark_row-requires c = (c.requires.2, rw (part_lent _ c.loop-row.mask) (simp length-drop (omega (arith, fits (goal.at.mark_row-requires c).In-loop-row))))

@@ -3,7 +3,7 @@ use Rattle.buffers.specs.Ranges.{flag}
 use Rattle.buffers.specs.Rows.{ColumnsWritten}
 use Rattle.solar_roll.specs.Cell.{roll_in}
 use Rattle.solar_masks.specs.Mask.{marked_by}
-use Rattle.solar_roll.specs.Plan.{count, row_direction, row_config}
+use Rattle.solar_roll.specs.Plan.{row_direction, row_config}
 use Rattle.solar_roll.specs.Roll.{body_axes}
 use lib.ListN.{get_or}
 use mathlib.Core.List.{[]}

@@ -14,7 +14,11 @@ pub returns-then-refusal-ne0 : goal.returns-then-refusal-ne0
 unfolding row_reply row_mask_after severities_after
 returns-then-refusal-ne0 c = let k = c.row_refusal-refusal.result in
     let e = c.row_refusal-refusal.ensures in
-    ((refused_leaves k _ 0 k k e c.if-refusal-ne0.true).0, ((refused_leaves k _ 0 _ _ e c.if-refusal-ne0.true).1, (refused_leaves k _ 0 _ _ e c.if-refusal-ne0.true).1))
+    record {
+      result_value = (refused_leaves k _ 0 k k e c.if-refusal-ne0.true).0;
+      mask_after = (refused_leaves k _ 0 _ _ e c.if-refusal-ne0.true).1;
+      severities_after = (refused_leaves k _ 0 _ _ e c.if-refusal-ne0.true).1;
+    }
 
 pub fill_row-requires : goal.fill_row-requires
 fill_row-requires c = row_room (plan (goal.at.fill_row-requires c).After-row_refusal-refusal) _ _ _ (sym c.row_refusal-refusal.ensures ∙ c.if-refusal-ne0.false)
@@ -24,4 +28,8 @@ unfolding row_reply row_mask_after severities_after
 returns c = let k = c.row_refusal-refusal.result in
     let e = c.row_refusal-refusal.ensures in
     let w = c.fill_row.ensures in
-    ((accepted_leaves k _ 0 k k k e c.if-refusal-ne0.false refl).0, ((accepted_leaves k _ 0 _ _ _ e c.if-refusal-ne0.false w.0).1, (accepted_leaves k _ 0 _ _ _ e c.if-refusal-ne0.false w.1).1))
+    record {
+      result_value = (accepted_leaves k _ 0 k k k e c.if-refusal-ne0.false refl).0;
+      mask_after = (accepted_leaves k _ 0 _ _ _ e c.if-refusal-ne0.false w.mask_after).1;
+      severities_after = (accepted_leaves k _ 0 _ _ _ e c.if-refusal-ne0.false w.severities_after).1;
+    }

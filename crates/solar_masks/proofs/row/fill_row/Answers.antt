@@ -87,11 +87,11 @@ returns c = let a = c.args in
     let e : c.loop-j.j ≡ times_of p = omega arith in
     let axes = c.body_axes-axes.ensures ∙ ap body_axes c.direction.ensures in
     let settings = ap (λ (s : SolarRollConfig). s.tolerance_deg) c.row_config-settings.ensures in
-    let panel = c.panel_at-panel.ensures in (
-      c.loop-j.invariant.1
+    let panel = c.panel_at-panel.ensures in record {
+      mask_after = c.loop-j.invariant.1
           ∙ ap (λ (n : ℕ). filled n (M (goal.at.returns c).At-loop-j) a.mask.now) e
-          ∙ filled_ext (M (goal.at.returns c).At-loop-j) (mark_at p (at_configured p.configured) a.row) (times_of p) a.mask.now (λ t l. mark_shared p a.row t _ _ _ axes refl panel _ _ settings),
-      c.loop-j.invariant.2
+          ∙ filled_ext (M (goal.at.returns c).At-loop-j) (mark_at p (at_configured p.configured) a.row) (times_of p) a.mask.now (λ t l. mark_shared p a.row t _ _ _ axes refl panel _ _ settings);
+      severities_after = c.loop-j.invariant.2
           ∙ ap (λ (n : ℕ). filled n (S (goal.at.returns c).At-loop-j) a.severities.now) e
-          ∙ filled_ext (S (goal.at.returns c).At-loop-j) (severity_at p a.row) (times_of p) a.severities.now (λ t l. severity_shared p a.row t _ _ _ axes refl panel _ settings),
-    )
+          ∙ filled_ext (S (goal.at.returns c).At-loop-j) (severity_at p a.row) (times_of p) a.severities.now (λ t l. severity_shared p a.row t _ _ _ axes refl panel _ settings);
+    }

@@ -3,7 +3,7 @@ use Rattle.solar_masks.proofs.Calls.{cells_facts, cells_room}
 use Rattle.solar_masks.proofs.NamedValues.{values_in_turn}
 use Rattle.solar_masks.specs.Mask.{ValuesInTurn, cells_reply, values_after}
 use Rattle.solar_roll.specs.Plan.{Plan, plan_of}
-use mathlib.Core.Path.{◌≡◌, sym, ◌∙◌, subst}
+use mathlib.Core.Path.{refl, ◌≡◌, sym, ◌∙◌, subst}
 use mathlib.Core.List.{List}
 use Prim.Native.Nat.{◌≤◌}
 use lib.ListN.{length}
@@ -29,7 +29,11 @@ unfolding cells_reply values_after
 returns-then-refusal-ne0 c = let k = c.cells_refusal-refusal.result in
     let e = c.cells_refusal-refusal.ensures in
     let values = c.args.values.now in
-    promised (plan (goal.at.returns-then-refusal-ne0 c).After-cells_refusal-refusal) _ values values (refused_leaves k _ 0 _ _ e c.if-refusal-ne0.true)
+    record {
+      result_value = (refused_leaves k _ 0 k k e c.if-refusal-ne0.true).0;
+      values_after = (refused_leaves k _ 0 _ _ e c.if-refusal-ne0.true).1;
+      in_turn = (promised (plan (goal.at.returns-then-refusal-ne0 c).After-cells_refusal-refusal) _ values values (refused_leaves k _ 0 _ _ e c.if-refusal-ne0.true)).1.1;
+    }
 
 pub write_values-requires : goal.write_values-requires
 write_values-requires c = let z = sym c.cells_refusal-refusal.ensures ∙ c.if-refusal-ne0.false in
@@ -39,4 +43,8 @@ pub returns : goal.returns
 unfolding cells_reply values_after
 returns c = let k = c.cells_refusal-refusal.result in
     let e = c.cells_refusal-refusal.ensures in
-    promised (plan (goal.at.returns c).After-cells_refusal-refusal) _ c.args.values.now _ (accepted_leaves k _ 0 _ _ _ e c.if-refusal-ne0.false c.write_values.ensures)
+    record {
+      result_value = (accepted_leaves k _ 0 k k k e c.if-refusal-ne0.false refl).0;
+      values_after = (accepted_leaves k _ 0 _ _ _ e c.if-refusal-ne0.false c.write_values.ensures).1;
+      in_turn = (promised (plan (goal.at.returns c).After-cells_refusal-refusal) _ c.args.values.now _ (accepted_leaves k _ 0 _ _ _ e c.if-refusal-ne0.false c.write_values.ensures)).1.1;
+    }

@@ -28,7 +28,7 @@ room o = omega (arith, o.loop-row.invariant.1.same, o.requires.0)
 fits : (i : In-loop-row) → i.loop-row.row * i.args.times + i.args.from + i.args.count ≤ length i.loop-row.values
 fits i =
     let a = i.args in
-    omega (arith, room i.before, mul-le-mul_right a.times i.loop-row-test.true, suc-mul i.loop-row.row a.times, i.requires.1)
+    omega (arith, (let room : (count i.args.targets.now) * i.args.times ≤ length i.loop-row.values = omega (arith, i.loop-row.invariant.1.same, i.requires.0) in room), mul-le-mul_right a.times i.loop-row-test.true, suc-mul i.loop-row.row a.times, i.requires.1)
 
 pub loop-row-init : goal.loop-row-init
 loop-row-init c = (omega arith, columns_none _ _ _ _ _ _ _)
@@ -45,6 +45,9 @@ offset_bounds-values-start c = omega (arith, fits (goal.at.offset_bounds-values-
 pub slice_bounds-value_row-count : goal.slice_bounds-value_row-count
 slice_bounds-value_row-count c = omega (arith, fits (goal.at.slice_bounds-value_row-count c).In-loop-row)
 
+pub slice_bounds-value_row-start : goal.slice_bounds-value_row-start
+slice_bounds-value_row-start c = omega (arith, fits (goal.at.slice_bounds-value_row-start c).In-loop-row)
+
 pub value_row-requires : goal.value_row-requires
 value_row-requires c = (c.requires.2, rw (part_lent _ c.loop-row.values) (simp length-drop (omega (arith, fits (goal.at.value_row-requires c).In-loop-row))))
 
@@ -58,7 +61,7 @@ loop-row-preserved c = let a = c.args in
     let e : (t : ℕ) → t < a.count → g t ≡ F (goal.at.loop-row-preserved c).At-loop-row r (a.from + t) =
     λ t l. let q : a.from + t - a.from ≡ t = omega arith in
     simp (c.direction-target.ensures, q) in
-    let w = filled_part g start a.count m c.Value-row.new.1.1.1.1.0 c.Value-row.ensures in (
+    let w = filled_part g start a.count m c.value_row.new.values c.value_row.ensures in (
       omega arith,
       subst (λ (l : List Float). ColumnsWritten (rows (goal.at.loop-row-preserved c).At-loop-row) a.times (r + 1) a.from a.count (F (goal.at.loop-row-preserved c).At-loop-row) zero·0 a.values.now l) (sym w)
           (columns_row (rows (goal.at.loop-row-preserved c).At-loop-row) a.times a.from a.count (F (goal.at.loop-row-preserved c).At-loop-row) zero·0 r g m c.loop-row-test.true c.requires.1 (room (goal.at.loop-row-preserved c).At-loop-row) a.values.now e c.loop-row.invariant.1),

@@ -1,7 +1,7 @@
 use Prim.Native.Nat.{◌-◌, ◌≤◌}
 use Rattle.buffers.specs.Rows.{ColumnsWritten}
 use Rattle.float.specs.Arithmetic.{zero·0}
-use Rattle.solar_roll.specs.Plan.{count, row_direction}
+use Rattle.solar_roll.specs.Plan.{row_direction}
 use Rattle.solar_roll.specs.Roll.{body_axes, roll_deg_in}
 use lib.ListN.{get_or}
 use mathlib.Core.List.{[]}

@@ -28,15 +28,15 @@ abbrev F : At-loop-from → ℕ → ℕ → Float
 F o r j = roll_deg_in (body_axes (direction_of (plan o) r)) (sun_unit (triple (plan o).suns j) (triple (plan o).observers j)) o.panel_at-panel.result.angle
 
 -- the block of times, and the table with its units
-block : (c : After-smaller-count) → Block c.loop-from.from (times_of (plan c.before.before)) c.smaller-count.result
+block : (c : After-smaller-count) → Block c.loop-from.from (times_of ((let a = c.args in plan_of a.targets.now a.suns.now a.observers.now a.tolerances.now a.configured a.panels.now))) c.smaller-count.result
 block c = block_of _ _ _ c.loop-from-test.true c.smaller-count.ensures
 
 units_filled : (c : After-sun_units) →
-    (c.sun_units.new.units ≡ filled c.smaller-count.result (λ t. sun_at (plan c.before.before.before.before) (c.loop-from.from + t)) c.loop-from.units)
+    (c.sun_units.new.units ≡ filled c.smaller-count.result (λ t. sun_at ((let a = c.args in plan_of a.targets.now a.suns.now a.observers.now a.tolerances.now a.configured a.panels.now)) (c.loop-from.from + t)) c.loop-from.units)
     × (c.smaller-count.result ≤ length c.sun_units.new.units)
 unfolding sun_at
 units_filled c =
-    block_units (plan c.before.before.before.before) c.loop-from.from _ c.loop-from.units _ c.loop-from.invariant.1 c.smaller-count.ensures c.sun_units.ensures
+    block_units ((let a = c.args in plan_of a.targets.now a.suns.now a.observers.now a.tolerances.now a.configured a.panels.now)) c.loop-from.from _ c.loop-from.units _ c.loop-from.invariant.1 c.smaller-count.ensures c.sun_units.ensures
 
 pub loop-from-init : goal.loop-from-init
 loop-from-init c = (omega arith, refl, columns_zero _ _ _ _ _ _)
