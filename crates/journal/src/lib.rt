@@ -1,6 +1,7 @@
 // The journal of a sweep: section 4's frames, when a journal is right, and begin, work, work over a range, recover
 // and collect.
 #![tactic(auto)]
+
 mod accepted;
 mod calls;
 mod header;
