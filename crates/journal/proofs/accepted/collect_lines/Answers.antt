@@ -4,7 +4,6 @@ use mathlib.Core.Path.{◌≡◌, sym, ap, ◌∙◌}
 use Prim.Native.Nat.{ℕ}
 use native.Mathlib.Omega.{arith}
 use lib.ListN.{length}
-use borrow.Author.Tests.{not-true, not-false}
 use Rattle.buffers.specs.Lent.{filled}
 use Rattle.roll_sweep.specs.Sweep.{Sweep, cells, chunks}
 use Rattle.journal.specs.Right.{whole_lines, torn, right}
@@ -65,14 +64,14 @@ pub returns-then-not-all_seen : goal.returns-then-not-all_seen
 returns-then-not-all_seen c = let a = c.args in
     let b = a.journal.now in
     let u = a.used in
-    let has = have_lines (goal.at.returns-then-not-all_seen c).After-all_seen false (not-true c.all_seen.result c.if-not-all_seen.true) in
+    let has = have_lines (goal.at.returns-then-not-all_seen c).After-all_seen false (c.if-not-all_seen.true) in
     λ s p. collect_refused s b u a.mask.now 15 (sym (collect_15 s b u a.mask.now p.plan (not_wrong (goal.at.returns-then-not-all_seen c).In-Right s p) (whole (goal.at.returns-then-not-all_seen c).Else-is_torn) (has s p.all))) (λ z. omega arith)
 
 pub returns-then-mask-count : goal.returns-then-mask-count
 returns-then-mask-count c = let a = c.args in
     let b = a.journal.now in
     let u = a.used in
-    let has = have_lines (goal.at.returns-then-mask-count c).After-all_seen true (not-false c.all_seen.result c.if-not-all_seen.false) in
+    let has = have_lines (goal.at.returns-then-mask-count c).After-all_seen true (c.if-not-all_seen.false) in
     λ s p. collect_refused s b u a.mask.now 7 (sym (collect_7 s b u a.mask.now p.plan (not_wrong (goal.at.returns-then-mask-count c).In-Right s p) (whole (goal.at.returns-then-mask-count c).Else-is_torn) (has s p.all) (omega (arith, c.if-mask-count.true, p.all)))) (λ z. omega arith)
 
 pub returns : goal.returns
@@ -80,7 +79,7 @@ unfolding held_bit
 returns c = let a = c.args in
     let b = a.journal.now in
     let u = a.used in
-    let has = have_lines (goal.at.returns c).After-all_seen true (not-false c.all_seen.result c.if-not-all_seen.false) in
+    let has = have_lines (goal.at.returns c).After-all_seen true (c.if-not-all_seen.false) in
     λ s p. collect_accepted s b u a.mask.now _ _ (checked (goal.at.returns c).In-Right).1
     (c.write_cells.ensures
     ∙ held_bits b _ _ (whole_lines u) (tables (goal.at.returns c).In-Right) a.cells a.mask.now c.requires.1

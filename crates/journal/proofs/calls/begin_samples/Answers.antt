@@ -26,7 +26,7 @@ said c rolls = refusal_said (plan c) rolls c.args.said c.plan_refusal-refusal.re
 
 -- the plan has passed
 passes : (c : Else-refusal-ne0) (rolls : List Float) → ((λ (rolls : List Float). sweep_of ((let a = c.args in plan_of a.targets.now a.suns.now a.observers.now a.tolerances.now a.configured a.panels.now)) rolls c.args.said) rolls).refusal (ltb (length c.args.journal.now) c.args.used) ≡ 0
-passes c rolls = sym ((λ (rolls : (c : tie.After-plan-refusal) (rolls : List Float)). refusal_said ((let a = c.args in plan_of a.targets.now a.suns.now a.observers.now a.tolerances.now a.configured a.panels.now)) rolls c.args.said c.plan_refusal-refusal.result _ c.plan_refusal-refusal.ensures) rolls) ∙ c.if-refusal-ne0.false
+passes c rolls = sym ((let said : (rolls : List Float) → c.plan_refusal-refusal.result ≡ ((λ (rolls : List Float). sweep_of ((let a = c.args in plan_of a.targets.now a.suns.now a.observers.now a.tolerances.now a.configured a.panels.now)) rolls c.args.said) rolls).refusal (ltb (length c.args.journal.now) c.args.used) = λ rolls. refusal_said ((let a = c.args in plan_of a.targets.now a.suns.now a.observers.now a.tolerances.now a.configured a.panels.now)) rolls c.args.said c.plan_refusal-refusal.result _ c.plan_refusal-refusal.ensures in said) rolls) ∙ c.if-refusal-ne0.false
 
 pub returns-then-refusal-ne0 : goal.returns-then-refusal-ne0
 unfolding begin_refusal

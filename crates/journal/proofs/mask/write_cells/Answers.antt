@@ -1,5 +1,4 @@
 -- `journal::mask::write_cells` meets its contract. Assumes nothing.
-use mathlib.Core.Logic.{⊎_elim}
 use mathlib.Core.Path.{◌≡◌, ap, ◌∙◌}
 use Prim.Native.Nat.{ℕ, ◌+◌, ◌/◌, ◌≤◌, ◌<◌}
 use native.Mathlib.Omega.{arith}
@@ -10,6 +9,7 @@ use Rattle.buffers.proofs.Lent.{filled_zero, length_filled}
 use Rattle.journal.specs.Lines.{bit_of}
 use Rattle.journal.proofs.Cells.{cell_bit, cells_next}
 use Rattle.journal.proofs.mask.write_cells.Goals as goal
+use Rattle.journal.proofs.mask.write_cells.Goals.{then-left-lt64, else-left-lt64}
 
 pub loop-at-init : goal.loop-at-init
 loop-at-init c = (omega arith, λ h. omega arith, filled_zero _ _)
@@ -18,20 +18,20 @@ pub write_bits-requires : goal.write_bits-requires
 write_bits-requires c = let a = c.args in
     let p = c.loop-at in
     let n : length p.out ≡ length a.out.now = ap length p.invariant.2 ∙ length_filled (cell_bit a.masks.now) p.at a.out.now (omega arith) in
-    ⊎_elim (λ w. omega arith) (λ w. omega arith) c.if-left-lt64.branch
+    elim c.if-left-lt64.branch [ then-left-lt64 w ↦ omega arith | else-left-lt64 w ↦ omega arith ]
 
 pub overflow_add-at : goal.overflow_add-at
-overflow_add-at c = ⊎_elim (λ w. omega arith) (λ w. omega arith) c.if-left-lt64.branch
+overflow_add-at c = elim c.if-left-lt64.branch [ then-left-lt64 w ↦ omega arith | else-left-lt64 w ↦ omega arith ]
 
 pub loop-at-smaller : goal.loop-at-smaller
-loop-at-smaller c = ⊎_elim (λ w. omega arith) (λ w. omega arith) c.if-left-lt64.branch
+loop-at-smaller c = elim c.if-left-lt64.branch [ then-left-lt64 w ↦ omega arith | else-left-lt64 w ↦ omega arith ]
 
 pub loop-at-preserved : goal.loop-at-preserved
 loop-at-preserved c = let a = c.args in
     let p = c.loop-at in
     let j = c.if-left-lt64 in
     let w : (j.w ≤ 64) × (p.at + j.w ≤ a.cells) × (p.at + j.w < a.cells → j.w ≡ 64) =
-    ⊎_elim (λ w. (omega arith, omega arith, λ h. omega arith)) (λ w. (omega arith, omega arith, λ h. omega arith)) j.branch in (
+    elim j.branch [ then-left-lt64 w ↦ (omega arith, omega arith, λ h. omega arith) | else-left-lt64 w ↦ (omega arith, omega arith, λ h. omega arith) ] in (
       w.1,
       λ h. omega (arith, w.2 h, p.invariant.1 (omega arith)),
       c.write_bits.ensures

@@ -3,7 +3,6 @@ use mathlib.Core.Bool.{Bool}
 use mathlib.Core.Path.{◌≡◌, sym, ap, subst, ◌∙◌}
 use Prim.Native.Nat.{ℕ}
 use native.Mathlib.Omega.{arith}
-use borrow.Author.Tests.{not-true, not-false}
 use Rattle.journal.specs.Lines.{held_probes}
 use Rattle.journal.specs.Right.{whole_lines, lines_right, right}
 use Rattle.journal.specs.Pass.{checked_of, Tables}
@@ -16,7 +15,7 @@ agrees-requires c = (omega (arith, c.smaller-m.ensures), omega (arith, c.smaller
 pub returns-then-not-agrees : goal.returns-then-not-agrees
 returns-then-not-agrees c = let a = c.args in
     is_wrong _ _ _ (header_differs a.cells a.n a.header.now a.journal.now a.used c.smaller-m.result c.smaller-m.ensures
-    (sym c.agrees.ensures ∙ not-true c.agrees.result c.if-not-agrees.true))
+    (sym c.agrees.ensures ∙ c.if-not-agrees.true))
 
 pub check_lines-requires : goal.check_lines-requires
 unfolding whole_lines
@@ -28,7 +27,7 @@ returns c = let a = c.args in
     let w = c.whole_lines.ensures in
     let r : right a.cells a.n a.header.now a.journal.now a.used ≡ lines_right a.cells a.n a.journal.now (whole_lines a.used) =
     header_agrees a.cells a.n a.header.now a.journal.now a.used c.smaller-m.result c.smaller-m.ensures
-    (sym g.ensures ∙ not-false g.result c.if-not-agrees.false) in
+    (sym g.ensures ∙ c.if-not-agrees.false) in
     let z = c.check_lines.ensures in (
       z.0 ∙ ap (λ (l : ℕ). checked_of (lines_right a.cells a.n a.journal.now l) (held_probes a.journal.now l)) w
           ∙ ap (λ (t : Bool). checked_of t (held_probes a.journal.now (whole_lines a.used))) (sym r),

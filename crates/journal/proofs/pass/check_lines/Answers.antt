@@ -3,7 +3,6 @@ use mathlib.Core.Bool.{true, false}
 use mathlib.Core.Path.{◌≡◌, sym, ap, ◌∙◌, subst}
 use Prim.Native.Nat.{ℕ, ◌<◌}
 use native.Mathlib.Omega.{arith}
-use borrow.Author.Tests.{not-true, not-false}
 use Rattle.journal.specs.Lines.{chunk_at, mask_at, probes_at, has_chunk, held_probes}
 use Rattle.journal.specs.Right.{line_at, fits, line_fits, lines_right}
 use Rattle.journal.specs.Pass.{most_chunks, Tables}
@@ -20,7 +19,7 @@ fitting c =
     let p = c.loop-l in
     ap (fits a.cells a.n) (sym c.read_line-line.ensures)
     ∙ sym c.line_fits.ensures
-    ∙ not-false c.line_fits.result c.if-not-line_fits.false
+    ∙ c.if-not-line_fits.false
 
 chunk_read : (c : After-slice_known-in-loop-l-1) →
     c.read_line-line.result.chunk ≡ chunk_at c.args.journal.now c.loop-l.l
@@ -66,11 +65,16 @@ returns-then-not-line_fits c = let a = c.args in
     let u : line_fits a.cells a.n a.journal.now p.l ≡ false =
     ap (fits a.cells a.n) (sym c.read_line-line.ensures)
     ∙ sym c.line_fits.ensures
-    ∙ not-true c.line_fits.result c.if-not-line_fits.true in
+    ∙ c.if-not-line_fits.true in
     is_wrong _ _ _ (lines_unfit a.cells a.n a.journal.now p.l a.lines (omega arith) u)
 
 pub bounds-seen-c : goal.bounds-seen-c
-bounds-seen-c c = omega (arith, within (goal.at.bounds-seen-c c).After-slice_known-in-loop-l-1, c.loop-l.invariant.3.flags.count)
+unfolding line_at
+bounds-seen-c c = let a = c.args in
+    let p = c.loop-l in
+    let read : c.read_line-line.result.chunk ≡ chunk_at a.journal.now p.l = ap (λ (x : Line). x.chunk) c.read_line-line.ensures in
+    let fit : line_fits a.cells a.n a.journal.now p.l ≡ true = ap (fits a.cells a.n) (sym c.read_line-line.ensures) ∙ sym c.line_fits.ensures ∙ c.if-not-line_fits.false in
+    omega (arith, read, fits_exists a.cells a.n a.journal.now p.l fit, chunks_le a.cells c.requires.1, p.invariant.3.flags.count)
 
 pub shape_of-seen-then-seen-c-ne0 : goal.shape_of-seen-then-seen-c-ne0
 shape_of-seen-then-seen-c-ne0 c = let p = c.loop-l in
@@ -89,7 +93,7 @@ returns-then-seen-c-ne0 c = let a = c.args in
     is_wrong _ _ _ (lines_repeat a.cells a.n b p.l a.lines (omega arith) (fitting (goal.at.returns-then-seen-c-ne0 c).After-slice_known-in-loop-l-1) r)
 
 pub bounds-seen-c-in-loop-l : goal.bounds-seen-c-in-loop-l
-bounds-seen-c-in-loop-l c = slice-read-if2 c
+bounds-seen-c-in-loop-l c = omega (arith, within (goal.at.bounds-seen-c-in-loop-l c).After-slice_known-in-loop-l-1, c.loop-l.invariant.3.flags.count)
 
 pub offset_bounds-masks-c : goal.offset_bounds-masks-c
 offset_bounds-masks-c c = omega (arith, within (goal.at.offset_bounds-masks-c c).After-slice_known-in-loop-l-1)

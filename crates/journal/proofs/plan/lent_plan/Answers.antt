@@ -23,7 +23,7 @@ said c rolls = refusal_said (plan c) rolls c.args.said c.plan_refusal-refusal.re
 passes : (c : Else-refusal-ne0) (rolls : List Float) →
     let a = c.args in
     (sweep_of ((let a = c.args in plan_of a.targets.now a.suns.now a.observers.now a.tolerances.now a.configured a.panels.now)) rolls a.said).refusal (ltb a.room a.used) ≡ 0
-passes c rolls = sym ((λ (rolls : (c : tie.After-plan-refusal) (rolls : List Float)). refusal_said ((let a = c.args in plan_of a.targets.now a.suns.now a.observers.now a.tolerances.now a.configured a.panels.now)) rolls c.args.said c.plan_refusal-refusal.result _ c.plan_refusal-refusal.ensures) rolls) ∙ c.if-refusal-ne0.false
+passes c rolls = sym ((let said : (rolls : List Float) → let a = c.args in c.plan_refusal-refusal.result ≡ (sweep_of ((let a = c.args in plan_of a.targets.now a.suns.now a.observers.now a.tolerances.now a.configured a.panels.now)) rolls a.said).refusal (ltb a.room a.used) = λ rolls. refusal_said ((let a = c.args in plan_of a.targets.now a.suns.now a.observers.now a.tolerances.now a.configured a.panels.now)) rolls c.args.said c.plan_refusal-refusal.result _ c.plan_refusal-refusal.ensures in said) rolls) ∙ c.if-refusal-ne0.false
 
 pub returns-then-refusal-ne0 : goal.returns-then-refusal-ne0
 returns-then-refusal-ne0 c rolls size = (said (goal.at.returns-then-refusal-ne0 c).After-plan_refusal-refusal rolls, λ z. absurd (c.if-refusal-ne0.true z))

@@ -1,3 +1,4 @@
+use Prim.Native.Nat.{◌<◌}
 -- `journal::range::append_lines` meets its contract. Assumes nothing.
 use native.Mathlib.Omega.{arith}
 use Rattle.journal.proofs.range.append_lines.Goals as goal

@@ -17,30 +17,23 @@ use Rattle.journal.proofs.Written.{SweepFacts}
 use Rattle.journal.proofs.Along.{is_refused, along_start, along_stop, along_end, next_exists, next_room, along_next}
 use Rattle.journal.proofs.Planned.{PlanPassed, passed, sweep_facts}
 use Rattle.journal.proofs.range.append_swept.Goals as goal
-use Rattle.journal.proofs.range.append_swept.Goals.{After-is_refused, Else-is_refused}
+use Rattle.journal.proofs.range.append_swept.Goals.{After-is_refused, After-shared_slice_known-7-1, Else-is_refused}
 
--- ---- what is known at the places of the code
-abbrev Lent : Type 0
-Lent = tie.After-shared-slice-known7 invariant-loop decreases-loop
+abbrev plan : After-shared_slice_known-7-1 → Plan
+plan c = let a = c.args in plan_of a.targets.now a.suns.now a.observers.now a.tolerances.now a.configured a.panels.now
 
-abbrev Start_of : Lent → tie.Start invariant-loop decreases-loop
-Start_of c = c.before.before.before.before.before.before.before.before
+abbrev sweep : After-shared_slice_known-7-1 → Sweep
+sweep c = sweep_of (plan c) c.args.rolls.now 0
 
-abbrev plan : Lent → Plan
-plan c = let a = (Start_of c).args in plan_of a.targets.now a.suns.now a.observers.now a.tolerances.now a.configured a.panels.now
+known : (c : After-shared_slice_known-7-1) → PlanPassed (plan c) 0 (length c.args.journal.now) c.args.used
+known c = passed _ _ _ _ _ c.requires.1.1.plan
 
-abbrev sweep : Lent → Sweep
-sweep c = sweep_of (plan c) (Start_of c).args.rolls.now 0
-
-known : (c : Lent) → PlanPassed (plan c) 0 (length (Start_of c).args.journal.now) (Start_of c).args.used
-known c = passed _ _ _ _ _ (Start_of c).requires.1.1.plan
-
-facts : (c : Lent) → SweepFacts (sweep c)
-facts c = let x = Start_of c in let r = x.pre.1.1 in sweep_facts _ _ _ r.one r.most (length x.args.journal.now) x.args.used r.plan
+facts : (c : After-shared_slice_known-7-1) → SweepFacts (sweep c)
+facts c = let r = c.requires.1.1 in sweep_facts _ _ _ r.one r.most (length c.args.journal.now) c.args.used r.plan
 
 -- the test of the next chunk
 told : (c : After-is_refused) (t : Bool) → c.is_refused.result ≡ t →
-    is_refused (chunks (cells (sweep c))) (Start_of c).args.seen.now (length c.loop-left.journal - c.loop-left.at) c.loop-left.chunk ≡ t
+    is_refused (chunks (cells ((sweep_of ((let a = c.args in plan_of a.targets.now a.suns.now a.observers.now a.tolerances.now a.configured a.panels.now)) c.args.rolls.now 0)))) c.args.seen.now (length c.loop-left.journal - c.loop-left.at) c.loop-left.chunk ≡ t
 unfolding sweep_of chunks
 told c t e = sym c.is_refused.ensures ∙ e
 
@@ -49,64 +42,62 @@ room : (c : Else-is_refused) → let p = c.loop-left in p.at + line_length ≤ l
 unfolding chunks sweep_of
 room c =
     let p = c.loop-left in
-    let a = (Start_of c).args in
-    next_room _ (facts c) a.from a.limit a.seen.now a.journal.now a.used p.chunk p.left p.journal p.at p.invariant ((λ (t : (c : tie.After-is-refused invariant-loop decreases-loop) (t : Bool)) (e : c.is-refused.result ≡ t). sym c.is_refused.ensures ∙ e) false c.if-is_refused.false)
+    let a = c.args in
+    next_room _ ((let facts : SweepFacts ((sweep_of ((let a = c.args in plan_of a.targets.now a.suns.now a.observers.now a.tolerances.now a.configured a.panels.now)) c.args.rolls.now 0)) = let r = c.requires.1.1 in sweep_facts _ _ _ r.one r.most (length c.args.journal.now) c.args.used r.plan in facts)) a.from a.limit a.seen.now a.journal.now a.used p.chunk p.left p.journal p.at p.invariant ((let told : (t : Bool) → c.is_refused.result ≡ t → is_refused (chunks (cells ((sweep_of ((let a = c.args in plan_of a.targets.now a.suns.now a.observers.now a.tolerances.now a.configured a.panels.now)) c.args.rolls.now 0)))) c.args.seen.now (length c.loop-left.journal - c.loop-left.at) c.loop-left.chunk ≡ t = λ t e. sym c.is_refused.ensures ∙ e in told) false c.if-is_refused.false)
 
 -- the chunk exists
-exists : (c : Else-is_refused) → c.loop-left.chunk < chunks (cells (sweep c))
+exists : (c : Else-is_refused) → c.loop-left.chunk < chunks (cells ((sweep_of ((let a = c.args in plan_of a.targets.now a.suns.now a.observers.now a.tolerances.now a.configured a.panels.now)) c.args.rolls.now 0)))
 unfolding chunks sweep_of
 exists c =
     let p = c.loop-left in
-    let a = (Start_of c).args in
-    next_exists _ (facts c) a.from a.limit a.seen.now a.journal.now a.used p.chunk p.left p.journal p.at p.invariant ((λ (t : (c : tie.After-is-refused invariant-loop decreases-loop) (t : Bool)) (e : c.is-refused.result ≡ t). sym c.is_refused.ensures ∙ e) false c.if-is_refused.false)
+    let a = c.args in
+    next_exists _ ((let facts : SweepFacts ((sweep_of ((let a = c.args in plan_of a.targets.now a.suns.now a.observers.now a.tolerances.now a.configured a.panels.now)) c.args.rolls.now 0)) = let r = c.requires.1.1 in sweep_facts _ _ _ r.one r.most (length c.args.journal.now) c.args.used r.plan in facts)) a.from a.limit a.seen.now a.journal.now a.used p.chunk p.left p.journal p.at p.invariant ((let told : (t : Bool) → c.is_refused.result ≡ t → is_refused (chunks (cells ((sweep_of ((let a = c.args in plan_of a.targets.now a.suns.now a.observers.now a.tolerances.now a.configured a.panels.now)) c.args.rolls.now 0)))) c.args.seen.now (length c.loop-left.journal - c.loop-left.at) c.loop-left.chunk ≡ t = λ t e. sym c.is_refused.ensures ∙ e in told) false c.if-is_refused.false)
 
 pub overflow_mul-chunks : goal.overflow_mul-chunks
-overflow_mul-chunks c = omega (arith, (known c).facts.few_cells)
+overflow_mul-chunks c = omega (arith, (known (goal.at.overflow_mul-chunks c).After-shared_slice_known-7-1).facts.few_cells)
 
 pub overflow_add-chunks : goal.overflow_add-chunks
-overflow_add-chunks c = omega (arith, (known c).facts.few_cells)
+overflow_add-chunks c = omega (arith, (known (goal.at.overflow_add-chunks c).After-shared_slice_known-7-1).facts.few_cells)
 
 pub loop-left-init : goal.loop-left-init
-loop-left-init c = let x = Start_of c in
-    let a = x.args in
-    along_start _ (facts c) a.from a.limit a.seen.now a.journal.now a.used _ x.pre.1.1 (known c).used
+loop-left-init c = let a = c.args in
+    along_start _ (facts (goal.at.loop-left-init c).After-shared_slice_known-7-1) a.from a.limit a.seen.now a.journal.now a.used _ c.requires.1.1 (known (goal.at.loop-left-init c).After-shared_slice_known-7-1).used
 
 pub overflow_sub-journal : goal.overflow_sub-journal
 overflow_sub-journal c = omega (arith, c.loop-left.invariant.within)
 
 pub is_refused-requires : goal.is_refused-requires
 unfolding chunks
-is_refused-requires c = (c.loop-left.invariant.count, chunks_le _ (known c).facts.few_cells)
+is_refused-requires c = (c.loop-left.invariant.count, chunks_le _ (known (goal.at.is_refused-requires c).After-shared_slice_known-7-1).facts.few_cells)
 
 pub shape_of-journal-then-is_refused : goal.shape_of-journal-then-is_refused
 shape_of-journal-then-is_refused c = c.loop-left.invariant.room
 
 pub returns-then-is_refused : goal.returns-then-is_refused
 returns-then-is_refused c = let p = c.loop-left in
-    let a = (Start_of c).args in
+    let a = c.args in
     ap (λ (u : ℕ). ran_to p.journal u p.chunk) (sym p.invariant.used)
-    ∙ along_stop _ (facts c) a.from a.limit a.seen.now a.journal.now a.used p.chunk p.left p.journal p.at p.invariant (told (goal.at.returns-then-is_refused c).After-is_refused true c.if-is_refused.true)
+    ∙ along_stop _ (facts (goal.at.returns-then-is_refused c).After-shared_slice_known-7-1) a.from a.limit a.seen.now a.journal.now a.used p.chunk p.left p.journal p.at p.invariant (told (goal.at.returns-then-is_refused c).After-is_refused true c.if-is_refused.true)
 
 pub sweep_rolls-swept-requires : goal.sweep_rolls-swept-requires
 unfolding sweep_of
-sweep_rolls-swept-requires c = let x = Start_of c in
-    ((known c).facts, x.pre.1.1.one, x.pre.1.1.most, x.pre.0, exists (goal.at.sweep_rolls-swept-requires c).Else-is_refused)
+sweep_rolls-swept-requires c = ((known (goal.at.sweep_rolls-swept-requires c).After-shared_slice_known-7-1).facts, c.requires.1.1.one, c.requires.1.1.most, c.requires.0, exists (goal.at.sweep_rolls-swept-requires c).Else-is_refused)
 
 pub append_line-requires : goal.append_line-requires
 append_line-requires c = room (goal.at.append_line-requires c).Else-is_refused
 
 pub overflow_add-at : goal.overflow_add-at
-overflow_add-at c = omega (arith, room (goal.at.overflow_add-at c).Else-is_refused, c.loop-left.invariant.room, (Start_of c).good.1.1.1.1.1.1.1.1.1.1.0.0)
+overflow_add-at c = omega (arith, room (goal.at.overflow_add-at c).Else-is_refused, c.loop-left.invariant.room, c.well_formed.1.1.1.1.1.1.1.1.1.1.0.0)
 
 pub overflow_add-chunk : goal.overflow_add-chunk
-overflow_add-chunk c = omega (arith, exists (goal.at.overflow_add-chunk c).Else-is_refused, chunks_le _ (facts c).few)
+overflow_add-chunk c = omega (arith, exists (goal.at.overflow_add-chunk c).Else-is_refused, chunks_le _ (facts (goal.at.overflow_add-chunk c).After-shared_slice_known-7-1).few)
 
 pub loop-left-preserved : goal.loop-left-preserved
 unfolding line_of
 loop-left-preserved c = let p = c.loop-left in
-    let a = (Start_of c).args in
+    let a = c.args in
     let swept = c.sweep_rolls-swept in
-    along_next _ (facts c) a.from a.limit a.seen.now a.journal.now a.used p.chunk p.left p.journal p.at p.invariant (told (goal.at.loop-left-preserved c).After-is_refused false c.if-is_refused.false) _ (omega arith)
+    along_next _ (facts (goal.at.loop-left-preserved c).After-shared_slice_known-7-1) a.from a.limit a.seen.now a.journal.now a.used p.chunk p.left p.journal p.at p.invariant (told (goal.at.loop-left-preserved c).After-is_refused false c.if-is_refused.false) _ (omega arith)
     (c.append_line.ensures ∙ ap (λ (r : Swept). put p.at (line_text p.chunk r.mask r.probes) p.journal) swept.ensures)
 
 pub shape_of-journal : goal.shape_of-journal
@@ -114,6 +105,6 @@ shape_of-journal c = c.loop-left.invariant.room
 
 pub returns : goal.returns
 returns c = let p = c.loop-left in
-    let a = (Start_of c).args in
+    let a = c.args in
     ap (λ (u : ℕ). ran_to p.journal u p.chunk) (sym p.invariant.used)
-    ∙ along_end _ (facts c) a.from a.limit a.seen.now a.journal.now a.used p.chunk p.left p.journal p.at p.invariant (omega arith)
+    ∙ along_end _ (facts (goal.at.returns c).After-shared_slice_known-7-1) a.from a.limit a.seen.now a.journal.now a.used p.chunk p.left p.journal p.at p.invariant (omega arith)
