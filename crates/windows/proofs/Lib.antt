@@ -5,9 +5,6 @@ pub mod Severities
 pub mod TopBits
 pub mod Refusals
 pub mod WindowLists
-pub mod StoredCount
-pub mod LentSlices
-pub mod StoredRecords
 pub mod Spread
 pub mod Durations
 pub mod Examples

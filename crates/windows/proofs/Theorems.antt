@@ -8,7 +8,6 @@ use lib.Ieee.{Float, nan, binary64, of_int}
 use lib.Ieee.Exact.{HasValue}
 use Rattle.buffers.specs.Ranges.{any}
 use Rattle.buffers.specs.Lent.{over}
-use Rattle.buffers.specs.Refusal.{first}
 use Rattle.buffers.proofs.Tests.{or_left, or_none}
 use Rattle.buffers.proofs.Ranges.{any_get_or}
 use Rattle.float.specs.Arithmetic.{zero·0}

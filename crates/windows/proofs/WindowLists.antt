@@ -1,19 +1,16 @@
 -- The windows of a listing, one after the other, and as they are written: what the loops that store windows ask. In order: the next window; what is
 -- left when k are written; columns; both listings, and what their calls answer and leave, into columns and into records. Assumes nothing.
-use Rattle.std.proofs.Common.{◌≡◌, ℕ, zero, suc, ◌+◌, ◌-◌, ◌<◌, ◌≤◌, Bool, false, ◌||◌, eqb, ltb, ◌⊎◌, List, [], ◌∷◌, ◌++◌, map, length, take, drop, set, ℤ, sym, refl, ap, ◌∙◌, subst, ⊎_elim, add-one, arith, length-drop, length-take-le, ltb-false}
+use Rattle.std.proofs.Common.{◌≡◌, ℕ, zero, suc, ◌+◌, ◌-◌, ◌<◌, ◌≤◌, Bool, false, ◌||◌, eqb, ltb, List, [], ◌∷◌, ◌++◌, map, length, take, drop, set, ℤ, sym, refl, ap, ◌∙◌, subst, ⊎_elim, add-one, arith, length-drop, length-take-le, ltb-false}
 use mathlib.Core.List.{map-append}
 use native.Mathlib.Decide.{dec_le}
 use lib.ListN.{length-map}
 use lib.Seq.{take-length}
-use lib.WfN.{lt-wf_rel}
-use mathlib.Core.WellFounded.InvImage
-use mathlib.Core.WellFounded.{WellFounded}
 use lib.Ieee.{Float}
 use Rattle.buffers.specs.Ranges.{any}
 use Rattle.buffers.specs.Lent.{over}
 use Rattle.buffers.specs.Refusal.{Reply, reply, unless_refused}
 use Rattle.buffers.proofs.Tests.{flag_le, or_left, or_right}
-use Rattle.buffers.proofs.Lent.{over_nil, over_next, length_over, length_kept, over_more}
+use Rattle.buffers.proofs.Lent.{over_nil, over_next, length_over, over_more}
 use Rattle.buffers.proofs.Refusal.{written_none, written_some}
 use Rattle.windows.specs.Runs.{Run, run, violation_runs, visibility_runs}
 use Rattle.windows.specs.Windows.{window_of, violation_windows, visibility_windows, Columns, written}
@@ -291,54 +288,31 @@ module _ {l : Listing} {mask : List ℕ} {times : List ℤ} {severities rated : 
   unfolding differ any no_room over
   records_left zs w = leaves k false (length ys) count r h q (λ (t : List Window). over t ys) ys zs (length ys ∷ []) refl refl refl w
 
--- the loop that stores count records: k are stored, and the rest is left from sample `from` on; ys is now zs
-pub record Pass (l : Listing) (mask : List ℕ) (times : List ℤ) (severities : List Float) (count : ℕ) (ys : List Window) : Type 0 where
-  pub k : ℕ
-  pub from : ℕ
-  pub zs : List Window
-  pub few : k ≤ count
+-- k windows of a listing are stored into the records ys, which are then the records zs
+pub record StoringRecords (l : Listing) (mask : List ℕ) (times : List ℤ) (severities : List Float) (k from : ℕ) (ys zs : List Window) : Type 0 where
   pub passed : WindowsPassed l mask times severities k from
   pub holds : zs ≡ over (take k (windows_left l mask times severities 0)) ys
 
-module _ {l : Listing} {mask : List ℕ} {times : List ℤ} {severities : List Float} {count : ℕ} (ys : List Window) (ok : Storable l mask times severities false count (length ys)) where
-  abbrev Passes : Type 0
-  Passes = Pass l mask times severities count ys
+module _ (l : Listing) (mask : List ℕ) (times : List ℤ) (severities : List Float) where
+  pub records_none : (ys : List Window) → StoringRecords l mask times severities 0 0 ys ys
+  records_none ys = record { passed = passed_none l mask times severities; holds = over_nil ys }
 
-  abbrev pub pass_first : Passes
-  pass_first = record { k = 0; from = 0; zs = ys; few = omega arith; passed = passed_none l mask times severities; holds = over_nil ys }
-
-  -- a later pass has fewer windows to store
-  abbrev pub Nearer : Passes → Passes → Type 0
-  Nearer s' s = count - s'.k < count - s.k
-
-  pub nearer_ends : WellFounded Nearer
-  nearer_ends = InvImage.wf (λ (s : Passes). count - s.k) lt-wf_rel.wf
-
-  module _ (s : Passes) where
-    taken : length (take s.k (left l mask times severities 0)) ≡ s.k
-    taken = length-take-le s.k (left l mask times severities 0) (omega (arith, s.few, ok.few))
-
-    pub pass_length : length s.zs ≡ length ys
-    pass_length = length_kept s.zs (take s.k (left l mask times severities 0)) ys s.holds (omega (arith, taken, s.few, ok.room))
+  -- count windows are to be stored
+  module _ (count k from : ℕ) (ys zs : List Window) (ok : Storable l mask times severities false count (length ys)) (few : k ≤ count) (s : StoringRecords l mask times severities k from ys zs) where
+    taken : length (take k (left l mask times severities 0)) ≡ k
+    taken = length-take-le k (left l mask times severities 0) (omega (arith, ok.few))
 
     -- what the next window asks
-    pub pass_asks : s.k < count → (s.from ≤ length mask) × Row l mask times severities × (0 < length (windows_left l mask times severities s.from))
-    pass_asks j = (s.passed.in_row, ok.row (omega arith), some_left l mask times severities s.k s.from s.passed (omega (arith, ok.few)))
+    pub records_ask : k < count → (from ≤ length mask) × Row l mask times severities × (0 < length (windows_left l mask times severities from))
+    records_ask j = (s.passed.in_row, ok.row (omega arith), some_left l mask times severities k from s.passed (omega (arith, ok.few)))
 
-    pub pass_more : s.k < count → (w : Window) → left l mask times severities s.from ≡ w ∷ left l mask times severities (w.last + 1) → set s.zs s.k w ≡ over (take (s.k + 1) (windows_left l mask times severities 0)) ys
-    pass_more j w e =
-        over_more s.zs (take s.k (left l mask times severities 0)) ys s.k w s.holds taken (omega (arith, ok.room))
-        ∙ ap (λ (t : List Window). over t ys) (sym (taken_next l mask times severities s.k s.from w s.passed e))
+    records_more : k < count → (w : Window) → left l mask times severities from ≡ w ∷ left l mask times severities (w.last + 1) → set zs k w ≡ over (take (k + 1) (windows_left l mask times severities 0)) ys
+    records_more j w e =
+        over_more zs (take k (left l mask times severities 0)) ys k w s.holds taken (omega (arith, ok.room))
+        ∙ ap (λ (t : List Window). over t ys) (sym (taken_next l mask times severities k from w s.passed e))
 
-    abbrev pub pass_next : s.k < count → (w : Window) → (left l mask times severities s.from ≡ w ∷ left l mask times severities (w.last + 1)) × (w.last < length mask) → Passes
-    pass_next j w g = record {
-      k = s.k + 1;
-      from = w.last + 1;
-      zs = set s.zs s.k w;
-      few = omega arith;
-      passed = passed_next l mask times severities s.k s.from w s.passed g.0 g.1;
-      holds = pass_more j w g.0;
-    }
+    pub records_next : k < count → (w : Window) → (left l mask times severities from ≡ w ∷ left l mask times severities (w.last + 1)) × (w.last < length mask) → StoringRecords l mask times severities (k + 1) (w.last + 1) ys (set zs k w)
+    records_next j w g = record { passed = passed_next l mask times severities k from w s.passed g.0 g.1; holds = records_more j w g.0 }
 
-    pub pass_last : count ≤ s.k → s.zs ≡ over (take count (windows_left l mask times severities 0)) ys
-    pass_last j = let same : s.k ≡ count = omega (arith, s.few) in s.holds ∙ ap (λ (m : ℕ). over (take m (left l mask times severities 0)) ys) same
+    pub records_last : count ≤ k → zs ≡ over (take count (windows_left l mask times severities 0)) ys
+    records_last j = let same : k ≡ count = omega arith in s.holds ∙ ap (λ (m : ℕ). over (take m (left l mask times severities 0)) ys) same

@@ -1,6 +1,6 @@
 -- What the private functions of the listings say to one another: which runs a listing gives, and what is left of them from a sample on. No public
 -- contract cites these. Definitions only. Assumes nothing.
-use Rattle.std.specs.Prelude.{◌≡◌, ℕ, suc, ◌+◌, ◌-◌, ◌<◌, ◌≤◌, Bool, true, cond, not, ◌&&◌, List, [], ◌∷◌, map, length, drop, set, ℤ, nat_le, slice_set, Float}
+use Rattle.std.specs.Prelude.{◌≡◌, ℕ, suc, ◌+◌, ◌-◌, ◌<◌, ◌≤◌, Bool, true, cond, not, ◌&&◌, List, [], ◌∷◌, map, length, drop, ℤ, nat_le, slice_set, Float}
 use Rattle.buffers.specs.Ranges.{flag}
 use Rattle.buffers.specs.Refusal.{Reply, refused, accepted}
 use Rattle.float.specs.Arithmetic.{zero·0}

@@ -26,6 +26,7 @@ fn byte_of(listing: Listing) -> u8
 }
 
 // Whether a maximal run of that byte is listed.
+#[tactic(auto, unfolding(crate::specs::Steps::keeps, crate::specs::Runs::rule_v))]
 fn is_listed(listing: Listing, first: usize, end: usize, samples: usize) -> bool
     requires { first < end }
     ensures { result ≡ keeps listing samples (run first (end - 1)) }

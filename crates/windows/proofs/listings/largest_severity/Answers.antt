@@ -16,4 +16,4 @@ loop-i-preserved c = (c.loop-i.invariant.0 + 1, omega (arith, c.loop-i.invariant
 
 pub returns : goal.returns
 unfolding largest
-returns c = c.loop-i.invariant.3 ∙ ap (largest_from _ _) (let e : c.loop-i.invariant.0 ≡ c.args.last - c.args.first = omega (arith, c.loop-i.invariant.1) in e)
+returns c = c.loop-i.invariant.3 ∙ ap (largest_from c.args.severities.now c.args.first) (let e : c.loop-i.invariant.0 ≡ c.args.last - c.args.first = omega (arith, c.loop-i.invariant.1) in e)

@@ -12,15 +12,15 @@ found c =
     let i = c.loop-k.invariant in
     next_found c.args.listing c.args.mask.now c.args.times.now c.args.severities.now _ _ _ c.next_run-run.ensures (some_left _ _ _ _ _ _ i.1.passed (omega (arith, c.requires.0, c.loop-k-test.true)))
 
-next : (c : After-run_window-w) →
+next : (c : After-run_window-w) → c.next_run-run.result.first < c.next_run-run.result.end →
     NextWindow c.args.listing c.args.mask.now c.args.times.now c.args.severities.now c.loop-k.from c.next_run-run.result.end c.run_window-w.result
-next c =
-    next_is c.args.listing c.args.mask.now c.args.times.now c.args.severities.now _ _ _ _ c.next_run-run.ensures (found c.before) c.run_window-w.ensures
+next c f =
+    next_is c.args.listing c.args.mask.now c.args.times.now c.args.severities.now _ _ _ _ c.next_run-run.ensures f c.run_window-w.ensures
 
 -- at the loop's end
 at_end : (c : After-loop-k) → SameLengths
     (columns c.args.first.now c.args.last.now c.args.first_time.now c.args.last_time.now c.args.severity.now c.args.is_last.now)
-    (columns c.loop-k.first c.loop-k.last c.loop-k.first-time c.loop-k.last-time c.loop-k.severity c.loop-k.is_last)
+    (columns c.loop-k.first c.loop-k.last c.loop-k.first_time c.loop-k.last_time c.loop-k.severity c.loop-k.is_last)
 at_end c =
     storing_lengths _ _ _ _ c.args.count _ _ _ _ c.requires.0 c.requires.2 c.loop-k.invariant.1 c.loop-k.invariant.0
 
@@ -38,13 +38,13 @@ run_window-w-requires c = let r = c.requires.1 (omega (arith, c.loop-k-test.true
     (omega (arith, found (goal.at.run_window-w-requires c).After-next_run-run), omega (arith, found (goal.at.run_window-w-requires c).After-next_run-run, c.next_run-run.ensures.within, r.timed), λ e. omega (arith, found (goal.at.run_window-w-requires c).After-next_run-run, c.next_run-run.ensures.within, r.rated e))
 
 pub store-requires : goal.store-requires
-store-requires c = (storing_room _ _ _ _ c.args.count _ _ _ _ c.requires.0 c.requires.2 c.loop-k.invariant.1 c.loop-k-test.true, (next (goal.at.store-requires c).After-run_window-w).flagged)
+store-requires c = (storing_room _ _ _ _ c.args.count _ _ _ _ c.requires.0 c.requires.2 c.loop-k.invariant.1 c.loop-k-test.true, (next (goal.at.store-requires c).After-run_window-w (found (goal.at.store-requires c).After-next_run-run)).flagged)
 
 pub overflow_add-k : goal.overflow_add-k
 overflow_add-k c = omega (arith, c.ranges.count, c.loop-k-test.true)
 
 pub loop-k-preserved : goal.loop-k-preserved
-loop-k-preserved c = (omega (arith, c.loop-k-test.true), storing_next _ _ _ _ c.args.count _ _ _ _ c.requires.0 c.requires.2 c.loop-k.invariant.1 c.loop-k-test.true _ _ _ (next (goal.at.loop-k-preserved c).After-run_window-w) c.store.ensures)
+loop-k-preserved c = (omega (arith, c.loop-k-test.true), storing_next _ _ _ _ c.args.count _ _ _ _ c.requires.0 c.requires.2 c.loop-k.invariant.1 c.loop-k-test.true _ _ _ (next (goal.at.loop-k-preserved c).After-run_window-w (found (goal.at.loop-k-preserved c).After-next_run-run)) c.store.ensures)
 
 pub shape_of-first : goal.shape_of-first
 shape_of-first c = (at_end (goal.at.shape_of-first c).After-loop-k).first

@@ -1,6 +1,7 @@
 -- `windows::listings::window_at` meets its contract. Assumes nothing.
-use Rattle.std.proofs.Common.{◌≡◌, ℕ, ◌+◌, eqb, List, length, get_or, ℤ, pos, w64}
+use Rattle.std.proofs.Common.{◌≡◌, ℕ, ◌+◌, eqb, List, length, get_or, ℤ, pos, rules, w64}
 use lib.Ieee.{Float}
+use mir.Val.{SFits}
 use mir.ValLaws.{to_z-of_z}
 use Rattle.buffers.specs.Ranges.{flag}
 use Rattle.windows.specs.Runs.{Run, run}
@@ -15,4 +16,6 @@ unfolding window_of
 same times severity f l t u b p q r = λ i. record { first = f; last = l; first_time = p i; last_time = q i; severity = severity; is_last = r i }
 
 pub returns : goal.returns
-returns c = same c.args.times.now c.args.severity c.args.first c.args.last _ _ _ (to_z-of_z w64 _ (record { sfits = c.result-1.given })) (to_z-of_z w64 _ (record { sfits = c.result-2-1.given })) c.last_flag-flag.ensures
+returns c = let f : SFits w64 (get_or c.args.times.now c.args.first (pos 0)) = search rules in
+    let l : SFits w64 (get_or c.args.times.now c.args.last (pos 0)) = search rules in
+    same c.args.times.now c.args.severity c.args.first c.args.last _ _ _ (to_z-of_z w64 _ f) (to_z-of_z w64 _ l) c.last_flag-flag.ensures

@@ -11,4 +11,4 @@ pub float_to_bits-bits : goal.float_to_bits-bits
 float_to_bits-bits c = not_nan c.args.x c.if-x.false
 
 pub returns : goal.returns
-returns c = severity_top c.args.x _ (subst T (sym c.well_formed.0.1) tt) c.wrapping_add_u64.ensures
+returns c = severity_top c.args.x _ (subst T (sym c.well_formed.0.1) tt) c.wrapping_add_u64.ensures.value

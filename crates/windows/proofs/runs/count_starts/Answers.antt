@@ -1,6 +1,6 @@
 -- `windows::runs::count_starts` meets its contract. The invariant: the start at sample 0, if there is one, those counted, and those that are left are all
 -- starts. Assumes nothing.
-use Rattle.std.proofs.Common.{◌≡◌, ℕ, ◌+◌, ◌<◌, ◌≤◌, true, false, List, length, arith}
+use Rattle.std.proofs.Common.{◌≡◌, ℕ, ◌+◌, ◌<◌, ◌≤◌, false, List, length, arith}
 use Rattle.windows.specs.Runs.{samples_are}
 use Rattle.windows.specs.Refusal.{most_lent}
 use Rattle.windows.specs.Steps.{starts}
