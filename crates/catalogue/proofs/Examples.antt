@@ -2,7 +2,7 @@
 -- refused. Assumes nothing.
 use mathlib.Core.Path.{◌≡◌, refl}
 use mathlib.Core.Bool.{true, false}
-use mathlib.Core.List.{List, [], ◌∷◌}
+use mathlib.Core.List.{[], ◌∷◌}
 use Prim.Native.Nat.{ℕ}
 use lib.Ieee.{Float, nan, binary64, of_bits, neg, add, sub, mul, div, lt, le, round, of_int}
 use Rattle.buffers.specs.Ranges.{any}

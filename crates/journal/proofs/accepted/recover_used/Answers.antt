@@ -2,7 +2,6 @@
 use mathlib.Core.Bool.{true, false}
 use mathlib.Core.Path.{sym, ◌∙◌}
 use native.Mathlib.Omega.{arith}
-use Rattle.roll_sweep.specs.Sweep.{cells}
 use Rattle.journal.proofs.Chains.{wrong_of, recover_11, recover_0, recover_refused, recover_accepted}
 use Rattle.journal.proofs.Scan.{told_wrong, told_right}
 use Rattle.journal.proofs.accepted.recover_used.Goals as goal

@@ -15,9 +15,9 @@ use Rattle.journal.proofs.range.work_even.Goals.{After-even_rolls, Joined-said-e
 -- a table has room for the samples that it is to hold
 most : (c : Joined-said-eq0) → c.if-said-eq0.end ≤ most_samples
 most c = elim c.if-said-eq0.branch [
-      then-said-eq0 w ↦ omega (arith, w.end-is, (samples_within _ (sym c.samples_refusal-said.ensures ∙ w.if-said-eq0.true)).1)
-      | else-said-eq0 w ↦ omega (arith, w.end-is)
-    ]
+  | then-said-eq0 w ↦ omega (arith, w.end-is, (samples_within _ (sym c.samples_refusal-said.ensures ∙ w.if-said-eq0.true)).1)
+  | else-said-eq0 w ↦ omega (arith, w.end-is)
+]
 
 -- they are all, where n is not refused
 all : (c : Joined-said-eq0) → c.samples_refusal-said.result ≡ 0 → c.if-said-eq0.end ≡ c.args.n
