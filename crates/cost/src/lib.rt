@@ -1,5 +1,6 @@
 // What a sweep costs, from the plan's size alone, and a plan of a size that costs most, and one that costs least.
 #![tactic(auto)]
+
 ghost use Rattle.std.specs.Prelude.{◌≡◌, false, ◌≤◌, ◌<◌, length};
 ghost use Rattle.buffers.specs.Lent.{over};
 ghost use Rattle.buffers.specs.Refusal.{reply_of};
