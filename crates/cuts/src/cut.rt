@@ -6,12 +6,13 @@ use crate::plan::{Plan, begin, collect, plan_by_table, plan_of, recover, work};
 use crate::say::{number, text};
 use buffers::Answer;
 use solar_roll::ConfiguredRoll;
+use std::io;
 use std::num::wrapping_add_u64;
 
 // What stands in a buffer beyond the used bytes.
 const UNUSED: u8 = b'?';
 
-#[derive(Drop)]
+#[derive(Clone, Copy)]
 struct Tally {
     cuts: u64,
     differ: u64,
@@ -260,42 +261,49 @@ fn same_resumed(
     same_collected(plan, journal, whole, end)
 }
 
-fn tell_difference(order: u64, w: u64, left: u64) {
-    text(b"differs: order ");
-    number(order);
-    text(b", write ");
-    number(w);
-    text(b", ");
-    number(left);
-    text(b" bytes left\n");
+fn tell_difference(rt: &impl Print, order: u64, w: u64, left: u64) -> io::Result<()> {
+    text(rt, b"differs: order ")?;
+    number(rt, order)?;
+    text(rt, b", write ")?;
+    number(rt, w)?;
+    text(rt, b", ")?;
+    number(rt, left)?;
+    text(rt, b" bytes left\n")
 }
 
 // Cuts one write at every byte.
-fn cut_write(plan: Plan, order: u64, w: u64, next: u64, whole: &[u8]) -> Tally {
+fn cut_write(
+    rt: &impl Print,
+    plan: Plan,
+    order: u64,
+    w: u64,
+    next: u64,
+    whole: &[u8],
+) -> io::Result<Tally> {
     let end = length_of(next);
     let mut tally = Tally { cuts: 0, differ: 0 };
     let mut left = length_of(w);
     while left <= end {
         let same = same_after_cut(plan, order, w, next, left, whole);
         if !same {
-            tell_difference(order, w, left);
+            tell_difference(rt, order, w, left)?;
         }
         tally = counted(tally, same);
         left += 1;
     }
-    tally
+    Ok(tally)
 }
 
 // Cuts every write of one order.
-fn cut_order(plan: Plan, order: u64, whole: &[u8]) -> Tally {
+fn cut_order(rt: &impl Print, plan: Plan, order: u64, whole: &[u8]) -> io::Result<Tally> {
     let mut tally = Tally { cuts: 0, differ: 0 };
     let mut w = 0;
     while w < plan.writes {
         let next = w + 1;
-        tally = both(tally, cut_write(plan, order, w, next, whole));
+        tally = both(tally, cut_write(rt, plan, order, w, next, whole)?);
         w = next;
     }
-    tally
+    Ok(tally)
 }
 
 fn marked(mask: &[u8; 160]) -> u64 {
@@ -310,55 +318,56 @@ fn marked(mask: &[u8; 160]) -> u64 {
     count
 }
 
-fn tell_plan(plan: Plan, whole: &[u8], used: u64) {
+fn tell_plan(rt: &impl Print, plan: Plan, whole: &[u8], used: u64) -> io::Result<()> {
     let mut mask = [2u8; 160];
-    number(plan.targets as u64);
-    text(b" x ");
-    number(plan.times as u64);
-    text(b" cells, n = ");
-    number(plan.n);
+    number(rt, plan.targets as u64)?;
+    text(rt, b" x ")?;
+    number(rt, plan.times as u64)?;
+    text(rt, b" cells, n = ")?;
+    number(rt, plan.n)?;
     if plan.first_tolerance != plan.second_tolerance {
-        text(b", two tolerances");
+        text(rt, b", two tolerances")?;
     }
     if plan.by_table {
-        text(b", by a table");
+        text(rt, b", by a table")?;
     }
     match collect(plan, whole, used, &mut mask) {
         Answer::Accepted(probes) => {
-            text(b": ");
-            number(marked(&mask));
-            text(b" marked, ");
-            number(probes);
-            text(b" probes");
+            text(rt, b": ")?;
+            number(rt, marked(&mask))?;
+            text(rt, b" marked, ")?;
+            number(rt, probes)?;
+            text(rt, b" probes")?;
         }
         Answer::Refused(_) => {
-            text(b": collect refuses");
+            text(rt, b": collect refuses")?;
         }
     }
+    Ok(())
 }
 
-fn tell_tally(tally: Tally) {
-    number(tally.cuts);
-    text(b" cuts, ");
-    number(tally.differ);
-    text(b" differ\n");
+fn tell_tally(rt: &impl Print, tally: Tally) -> io::Result<()> {
+    number(rt, tally.cuts)?;
+    text(rt, b" cuts, ")?;
+    number(rt, tally.differ)?;
+    text(rt, b" differ\n")
 }
 
 // Cuts every write of every order.
-fn cut_plan(plan: Plan, whole: &mut [u8]) -> Tally {
+fn cut_plan(rt: &impl Print, plan: Plan, whole: &mut [u8]) -> io::Result<Tally> {
     let count = orders(plan);
     let mut tally = Tally { cuts: 0, differ: 0 };
     let mut order = 0;
     while order < count {
         shorten(whole, 0);
         resume(plan, order, plan.writes, whole, 0);
-        tally = both(tally, cut_order(plan, order, whole));
+        tally = both(tally, cut_order(rt, plan, order, whole)?);
         order += 1;
     }
-    tell_plan(plan, whole, length_of(plan.writes));
-    text(b"; ");
-    tell_tally(tally);
-    tally
+    tell_plan(rt, plan, whole, length_of(plan.writes))?;
+    text(rt, b"; ")?;
+    tell_tally(rt, tally)?;
+    Ok(tally)
 }
 
 // The first has no cell, the second one; each of the others has clear and marked cells. The targets of one have different
@@ -378,14 +387,14 @@ fn small_plan(p: u64) -> Plan {
     }
 }
 
-pub(crate) fn cut_plans() {
+pub(crate) fn cut_plans(rt: &impl Print) -> io::Result<()> {
     let mut whole = [UNUSED; 240];
     let mut tally = Tally { cuts: 0, differ: 0 };
     let mut p = 0;
     while p < 10 {
-        tally = both(tally, cut_plan(small_plan(p), &mut whole));
+        tally = both(tally, cut_plan(rt, small_plan(p), &mut whole)?);
         p += 1;
     }
-    text(b"all: ");
-    tell_tally(tally);
+    text(rt, b"all: ")?;
+    tell_tally(rt, tally)
 }

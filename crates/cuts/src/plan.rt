@@ -5,7 +5,7 @@ use solar_roll::ConfiguredRoll;
 
 // A plan, and how many writes its whole journal has: the header's and one for each chunk. Of its two tolerances the first
 // `listed` are lent. By a table, its rolls are the first n of `table`.
-#[derive(Drop)]
+#[derive(Clone, Copy)]
 pub(crate) struct Plan {
     pub targets: usize,
     pub times: usize,

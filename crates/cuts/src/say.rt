@@ -1,10 +1,10 @@
 // Lines on standard output.
-use libc::STDOUT_FILENO;
+use std::io;
 
-pub(crate) fn text(words: &[u8]) {
-    io::write_all(STDOUT_FILENO, words);
+pub(crate) fn text(rt: &impl Print, words: &[u8]) -> io::Result<()> {
+    rt.write_all(words)
 }
 
-pub(crate) fn number(x: u64) {
-    io::print_decimal(STDOUT_FILENO, x);
+pub(crate) fn number(rt: &impl Print, x: u64) -> io::Result<()> {
+    print!(rt; "{x}")
 }

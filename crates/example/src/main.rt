@@ -1,9 +1,11 @@
 // Prints the journal of document 01's example: a target, two Suns, tolerance 10, one roll. A call that is refused prints its
 // number instead.
+#![tactic(auto)]
+
 use buffers::Answer;
 use journal::{begin, work};
-use libc::STDOUT_FILENO;
 use solar_roll::ConfiguredRoll;
+use std::io;
 
 // The header, then the line of the only chunk.
 fn write_journal(journal: &mut [u8]) -> Answer {
@@ -40,21 +42,17 @@ fn write_journal(journal: &mut [u8]) -> Answer {
     }
 }
 
-fn print_used(journal: &[u8], used: usize) {
+fn print_used(rt: &impl Print, journal: &[u8], used: usize) -> io::Result<()> {
     if used <= journal.len() {
-        io::write_all(STDOUT_FILENO, &journal[..used]);
+        rt.write_all(&journal[..used])?;
     }
+    Ok(())
 }
 
-fn main() {
+fn main(rt: HostRuntime) -> io::Result<()> {
     let mut journal = [0u8; 140];
     match write_journal(&mut journal) {
-        Answer::Accepted(used) => {
-            print_used(&journal, used as usize);
-        }
-        Answer::Refused(number) => {
-            io::print_decimal(STDOUT_FILENO, number);
-            io::write_all(STDOUT_FILENO, b"\n");
-        }
+        Answer::Accepted(used) => print_used(&rt, &journal, used as usize),
+        Answer::Refused(number) => println!(rt; "{number}"),
     }
 }

@@ -2,7 +2,9 @@
 // kind of question how many answers there are, and how many of them differ here; the gate wants none.
 //
 // harness/compare/src/bin/record.rs writes the files, and says what a line holds.
-ghost use Rattle.std.specs.Prelude.{◌<◌};
+#![tactic(auto)]
+
+ghost use Rattle.std.specs.Prelude.{◌<◌, ◌≤◌, length, IfOk};
 
 mod kinds;
 mod plans;
@@ -16,11 +18,14 @@ use kinds::{
     FIELD_AT_ROLL, GIVEN, NAMED_VALUES, RESULT, ROW, SECONDS, SWEEP, TABLE, VECTORS, VIOLATIONS,
     VISIBILITY,
 };
-use libc::STDOUT_FILENO;
 use plans::{difference, plan};
 use positions::vectors;
 use rows::{samples, windows};
+use std::fs::File;
+use std::io;
+use std::io::Read;
 use std::num::wrapping_add_u64;
+use std::rt::Files;
 use words::{UNWRITTEN, digit, put};
 
 // Whether a line's answer is the library's too.
@@ -88,61 +93,80 @@ fn replay(text: &[u8], counts: &mut [u64; 40]) {
     }
 }
 
-fn replay_file(name: &[u8], counts: &mut [u64; 40]) {
-    let mut buffer = io::large_buffer();
-    let fd = os::open_read(name);
-    let length = io::read_full(fd, &mut buffer);
-    libc::close(fd);
+// Reads until the buffer is full or the input ends, and answers how many bytes were read.
+fn read_full(input: &mut impl Read, buffer: &mut [u8]) -> io::Result<usize>
+    ensures { IfOk result (λ n. n ≤ length buffer.new) }
+{
+    let mut done = 0;
+    while done < buffer.len() {
+        let n = input.read(&mut buffer[done..])?;
+        if n == 0 {
+            break;
+        }
+        done += n;
+    }
+    Ok(done)
+}
+
+fn replay_file(rt: &impl Files, name: &str, counts: &mut [u64; 40]) -> io::Result<()> {
+    let mut buffer = [0u8; 65536];
+    let mut file = File::open(rt, name)?;
+    let length = read_full(&mut file, &mut buffer)?;
     replay(&buffer[..length], counts);
+    Ok(())
 }
 
-fn show(name: &[u8], kind: u64, counts: &[u64; 40]) {
+fn show(rt: &impl Print, name: &[u8], kind: u64, counts: &[u64; 40]) -> io::Result<()> {
     let k = place(kind);
-    io::write_all(STDOUT_FILENO, name);
-    io::print_decimal(STDOUT_FILENO, counts[k]);
-    io::write_all(STDOUT_FILENO, b" answers, ");
-    io::print_decimal(STDOUT_FILENO, counts[k + 20]);
-    io::write_all(STDOUT_FILENO, b" differ\n");
+    let answers = counts[k];
+    let differ = counts[k + 20];
+    rt.write_all(name)?;
+    println!(rt; "{answers} answers, {differ} differ")
 }
 
-fn show_rolls(counts: &[u64; 40]) {
-    show(b"differences: ", DIFFERENCE, counts);
-    show(b"cells, Free or a roll: ", CELL, counts);
-    show(b"named values: ", NAMED_VALUES, counts);
-    show(b"rows with severities: ", ROW, counts);
-    show(b"sweeps with probes: ", SWEEP, counts);
+fn show_rolls(rt: &impl Print, counts: &[u64; 40]) -> io::Result<()> {
+    show(rt, b"differences: ", DIFFERENCE, counts)?;
+    show(rt, b"cells, Free or a roll: ", CELL, counts)?;
+    show(rt, b"named values: ", NAMED_VALUES, counts)?;
+    show(rt, b"rows with severities: ", ROW, counts)?;
+    show(rt, b"sweeps with probes: ", SWEEP, counts)
 }
 
-fn show_masks(counts: &[u64; 40]) {
-    show(b"masks at the configured roll: ", BATCH, counts);
-    show(b"masks at a sweep's roll: ", AT_SWEEP, counts);
-    show(b"masks at a fixed roll: ", AT_FIXED, counts);
-    show(b"masks at every roll: ", EVERY_ROLL, counts);
-    show(b"fields of regard: ", FIELD, counts);
-    show(b"fields of regard at a roll: ", FIELD_AT_ROLL, counts);
+fn show_masks(rt: &impl Print, counts: &[u64; 40]) -> io::Result<()> {
+    show(rt, b"masks at the configured roll: ", BATCH, counts)?;
+    show(rt, b"masks at a sweep's roll: ", AT_SWEEP, counts)?;
+    show(rt, b"masks at a fixed roll: ", AT_FIXED, counts)?;
+    show(rt, b"masks at every roll: ", EVERY_ROLL, counts)?;
+    show(rt, b"fields of regard: ", FIELD, counts)?;
+    show(rt, b"fields of regard at a roll: ", FIELD_AT_ROLL, counts)
 }
 
-fn show_windows(counts: &[u64; 40]) {
-    show(b"violation windows: ", VIOLATIONS, counts);
-    show(b"visibility windows of a mask: ", VISIBILITY, counts);
-    show(b"visibility windows of a result: ", RESULT, counts);
-    show(b"expansions, rising times: ", EXPAND, counts);
-    show(b"expansions, reordered times: ", EXPAND_REORDERED, counts);
-    show(b"seconds: ", SECONDS, counts);
+fn show_windows(rt: &impl Print, counts: &[u64; 40]) -> io::Result<()> {
+    show(rt, b"violation windows: ", VIOLATIONS, counts)?;
+    show(rt, b"visibility windows of a mask: ", VISIBILITY, counts)?;
+    show(rt, b"visibility windows of a result: ", RESULT, counts)?;
+    show(rt, b"expansions, rising times: ", EXPAND, counts)?;
+    show(
+        rt,
+        b"expansions, reordered times: ",
+        EXPAND_REORDERED,
+        counts,
+    )?;
+    show(rt, b"seconds: ", SECONDS, counts)
 }
 
-fn main() {
+fn main(rt: HostRuntime) -> io::Result<()> {
     let mut counts = [0u64; 40];
-    replay_file(b"section-2", &mut counts);
-    replay_file(b"section-3", &mut counts);
-    replay_file(b"section-5", &mut counts);
-    replay_file(b"section-6", &mut counts);
-    replay_file(b"catalogue", &mut counts);
-    replay_file(b"table", &mut counts);
-    show_rolls(&counts);
-    show_masks(&counts);
-    show_windows(&counts);
-    show(b"vectors of catalogue positions: ", VECTORS, &counts);
-    show(b"sweeps with probes, by a table: ", TABLE, &counts);
-    show(b"of no kind: ", GIVEN, &counts);
+    replay_file(&rt, "section-2", &mut counts)?;
+    replay_file(&rt, "section-3", &mut counts)?;
+    replay_file(&rt, "section-5", &mut counts)?;
+    replay_file(&rt, "section-6", &mut counts)?;
+    replay_file(&rt, "catalogue", &mut counts)?;
+    replay_file(&rt, "table", &mut counts)?;
+    show_rolls(&rt, &counts)?;
+    show_masks(&rt, &counts)?;
+    show_windows(&rt, &counts)?;
+    show(&rt, b"vectors of catalogue positions: ", VECTORS, &counts)?;
+    show(&rt, b"sweeps with probes, by a table: ", TABLE, &counts)?;
+    show(&rt, b"of no kind: ", GIVEN, &counts)
 }

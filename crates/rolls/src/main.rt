@@ -1,8 +1,11 @@
 // Document 01's rolls and the edges of its refusals, printed: each line says what was asked, and then the answer.
+#![tactic(auto)]
+
 mod show;
 
 use show::{answered, asked, bits, bytes, cell};
 use solar_roll::{ConfiguredRoll, EvaluationRoll, cell_roll};
+use std::io;
 
 const X: [f64; 3] = [1.0, 0.0, 0.0];
 
@@ -21,32 +24,35 @@ fn infinity() -> f64 {
 }
 
 // Target [1, 0, 0], panel [0, 1, 0], observer at the origin.
-fn cells() {
-    asked(b"Sun [0, 1, 0]");
-    cell(cell_roll(X, Y, ORIGIN, Y));
-    asked(b"Sun [0, 0, 1]");
-    cell(cell_roll(X, Z, ORIGIN, Y));
-    asked(b"Sun [0, -1, 0]");
-    cell(cell_roll(X, [0.0, -1.0, 0.0], ORIGIN, Y));
-    asked(b"Sun [1, 0, 0]");
-    cell(cell_roll(X, X, ORIGIN, Y));
-    asked(b"Sun at the observer");
-    cell(cell_roll(Y, ORIGIN, ORIGIN, Y));
-    asked(b"panel [1, 0, 0]");
-    cell(cell_roll(X, Y, ORIGIN, X));
-    asked(b"target at the pole");
-    cell(cell_roll(Z, Y, ORIGIN, Y));
+fn cells(rt: &impl Print) -> io::Result<()> {
+    asked(rt, b"Sun [0, 1, 0]")?;
+    cell(rt, cell_roll(X, Y, ORIGIN, Y))?;
+    asked(rt, b"Sun [0, 0, 1]")?;
+    cell(rt, cell_roll(X, Z, ORIGIN, Y))?;
+    asked(rt, b"Sun [0, -1, 0]")?;
+    cell(rt, cell_roll(X, [0.0, -1.0, 0.0], ORIGIN, Y))?;
+    asked(rt, b"Sun [1, 0, 0]")?;
+    cell(rt, cell_roll(X, X, ORIGIN, Y))?;
+    asked(rt, b"Sun at the observer")?;
+    cell(rt, cell_roll(Y, ORIGIN, ORIGIN, Y))?;
+    asked(rt, b"panel [1, 0, 0]")?;
+    cell(rt, cell_roll(X, Y, ORIGIN, X))?;
+    asked(rt, b"target at the pole")?;
+    cell(rt, cell_roll(Z, Y, ORIGIN, Y))
 }
 
-fn refused_cells() {
-    asked(b"NaN in the Sun, target 2");
-    cell(cell_roll([2.0, 0.0, 0.0], [0.0, nan(), 0.0], ORIGIN, Y));
-    asked(b"observer at 1e101");
-    cell(cell_roll(X, Y, [1.0e101, 0.0, 0.0], Y));
-    asked(b"target 2, panel infinite");
-    cell(cell_roll([2.0, 0.0, 0.0], Y, ORIGIN, [infinity(), 0.0, 0.0]));
-    asked(b"panel infinite");
-    cell(cell_roll(X, Y, ORIGIN, [infinity(), 0.0, 0.0]));
+fn refused_cells(rt: &impl Print) -> io::Result<()> {
+    asked(rt, b"NaN in the Sun, target 2")?;
+    cell(rt, cell_roll([2.0, 0.0, 0.0], [0.0, nan(), 0.0], ORIGIN, Y))?;
+    asked(rt, b"observer at 1e101")?;
+    cell(rt, cell_roll(X, Y, [1.0e101, 0.0, 0.0], Y))?;
+    asked(rt, b"target 2, panel infinite")?;
+    cell(
+        rt,
+        cell_roll([2.0, 0.0, 0.0], Y, ORIGIN, [infinity(), 0.0, 0.0]),
+    )?;
+    asked(rt, b"panel infinite")?;
+    cell(rt, cell_roll(X, Y, ORIGIN, [infinity(), 0.0, 0.0]))
 }
 
 // Two targets at two times: rolls 0 and 90, then a free cell and 90.
@@ -59,201 +65,250 @@ const OBSERVERS: [f64; 6] = [0.0, 0.0, 0.0, 0.0, 0.0, 0.0];
 const TEN: [f64; 2] = [10.0, 10.0];
 
 // Each of these asks one question about them and shows the mask: one call a function, which is proved sooner than many.
-fn batch(question: &[u8], configured: ConfiguredRoll, mask: &mut [u8]) {
-    asked(question);
-    answered(solar_masks::in_constraint_batch(
-        &TARGETS, &SUNS, &OBSERVERS, &TEN, configured, &Y, mask,
-    ));
-    bytes(mask);
+fn batch(
+    rt: &impl Print,
+    question: &[u8],
+    configured: ConfiguredRoll,
+    mask: &mut [u8],
+) -> io::Result<()> {
+    asked(rt, question)?;
+    answered(
+        rt,
+        solar_masks::in_constraint_batch(&TARGETS, &SUNS, &OBSERVERS, &TEN, configured, &Y, mask),
+    )?;
+    bytes(rt, mask)
 }
 
 fn at_roll(
+    rt: &impl Print,
     question: &[u8],
     tolerances: &[f64],
     configured: ConfiguredRoll,
     roll: EvaluationRoll,
     mask: &mut [u8],
-) {
-    asked(question);
-    answered(solar_masks::in_constraint_batch_at_roll(
-        &TARGETS, &SUNS, &OBSERVERS, tolerances, configured, &Y, roll, mask,
-    ));
-    bytes(mask);
+) -> io::Result<()> {
+    asked(rt, question)?;
+    answered(
+        rt,
+        solar_masks::in_constraint_batch_at_roll(
+            &TARGETS, &SUNS, &OBSERVERS, tolerances, configured, &Y, roll, mask,
+        ),
+    )?;
+    bytes(rt, mask)
 }
 
-fn at_every_roll(question: &[u8], n: u64, mask: &mut [u8]) {
-    asked(question);
-    answered(solar_masks::in_constraint_batch_constrained_at_every_roll(
-        &TARGETS,
-        &SUNS,
-        &OBSERVERS,
-        &TEN,
-        ConfiguredRoll::None,
-        &Y,
-        n,
-        mask,
-    ));
-    bytes(mask);
+fn at_every_roll(rt: &impl Print, question: &[u8], n: u64, mask: &mut [u8]) -> io::Result<()> {
+    asked(rt, question)?;
+    answered(
+        rt,
+        solar_masks::in_constraint_batch_constrained_at_every_roll(
+            &TARGETS,
+            &SUNS,
+            &OBSERVERS,
+            &TEN,
+            ConfiguredRoll::None,
+            &Y,
+            n,
+            mask,
+        ),
+    )?;
+    bytes(rt, mask)
 }
 
-fn field_of_regard(question: &[u8], time: u64, roll: f64, mask: &mut [u8]) {
-    asked(question);
-    answered(solar_masks::field_of_regard_violated_at_roll(
-        &TARGETS,
-        &SUNS,
-        &OBSERVERS,
-        &TEN,
-        ConfiguredRoll::None,
-        &Y,
-        time,
-        roll,
-        mask,
-    ));
-    bytes(mask);
+fn field_of_regard(
+    rt: &impl Print,
+    question: &[u8],
+    time: u64,
+    roll: f64,
+    mask: &mut [u8],
+) -> io::Result<()> {
+    asked(rt, question)?;
+    answered(
+        rt,
+        solar_masks::field_of_regard_violated_at_roll(
+            &TARGETS,
+            &SUNS,
+            &OBSERVERS,
+            &TEN,
+            ConfiguredRoll::None,
+            &Y,
+            time,
+            roll,
+            mask,
+        ),
+    )?;
+    bytes(rt, mask)
 }
 
-fn masks() {
+fn masks(rt: &impl Print) -> io::Result<()> {
     let mut mask = [9u8; 6];
-    batch(b"no configured roll", ConfiguredRoll::None, &mut mask);
-    batch(b"configured roll 0", ConfiguredRoll::Some(0.0), &mut mask);
+    batch(rt, b"no configured roll", ConfiguredRoll::None, &mut mask)?;
+    batch(
+        rt,
+        b"configured roll 0",
+        ConfiguredRoll::Some(0.0),
+        &mut mask,
+    )?;
     at_roll(
+        rt,
         b"Sweep 90 with 0 configured",
         &TEN,
         ConfiguredRoll::Some(0.0),
         EvaluationRoll::Sweep(90.0),
         &mut mask,
-    );
+    )?;
     at_roll(
+        rt,
         b"Fixed 90 with 0 configured",
         &TEN,
         ConfiguredRoll::Some(0.0),
         EvaluationRoll::Fixed(90.0),
         &mut mask,
-    );
+    )
 }
 
-fn masks_by_tolerance() {
+fn masks_by_tolerance(rt: &impl Print) -> io::Result<()> {
     let mut mask = [9u8; 6];
     at_roll(
+        rt,
         b"tolerance 90 met exactly at roll 0",
         &[90.0, 90.0],
         ConfiguredRoll::None,
         EvaluationRoll::Sweep(0.0),
         &mut mask,
-    );
+    )?;
     at_roll(
+        rt,
         b"NaN tolerance",
         &[nan(), nan()],
         ConfiguredRoll::None,
         EvaluationRoll::Sweep(0.0),
         &mut mask,
-    );
+    )?;
     at_roll(
+        rt,
         b"tolerance -1",
         &[-1.0, -1.0],
         ConfiguredRoll::None,
         EvaluationRoll::Sweep(0.0),
         &mut mask,
-    );
+    )?;
     at_roll(
+        rt,
         b"tolerance -1, then NaN",
         &[-1.0, nan()],
         ConfiguredRoll::None,
         EvaluationRoll::Sweep(0.0),
         &mut mask,
-    );
-    at_every_roll(b"every roll, n = 1", 1, &mut mask);
-    at_every_roll(b"every roll, n = 0", 0, &mut mask);
-    field_of_regard(b"field of regard at time 1, roll 0", 1, 0.0, &mut mask);
+    )?;
+    at_every_roll(rt, b"every roll, n = 1", 1, &mut mask)?;
+    at_every_roll(rt, b"every roll, n = 0", 0, &mut mask)?;
+    field_of_regard(rt, b"field of regard at time 1, roll 0", 1, 0.0, &mut mask)
 }
 
 fn row(
+    rt: &impl Print,
     question: &[u8],
     target: u64,
     tolerances: &[f64],
     configured: ConfiguredRoll,
     mask: &mut [u8],
     severities: &mut [f64],
-) {
-    asked(question);
-    answered(solar_masks::evaluate(
-        &TARGETS, &SUNS, &OBSERVERS, tolerances, configured, &Y, target, mask, severities,
-    ));
-    bytes(mask);
-    bits(severities);
+) -> io::Result<()> {
+    asked(rt, question)?;
+    answered(
+        rt,
+        solar_masks::evaluate(
+            &TARGETS, &SUNS, &OBSERVERS, tolerances, configured, &Y, target, mask, severities,
+        ),
+    )?;
+    bytes(rt, mask)?;
+    bits(rt, severities)
 }
 
-fn rows() {
+fn rows(rt: &impl Print) -> io::Result<()> {
     let mut mask = [9u8; 3];
     let mut severities = [9.0; 3];
     row(
+        rt,
         b"row 0, configured roll 0",
         0,
         &TEN,
         ConfiguredRoll::Some(0.0),
         &mut mask,
         &mut severities,
-    );
+    )?;
     row(
+        rt,
         b"row 0, tolerance -infinity",
         0,
         &[-infinity(), 10.0],
         ConfiguredRoll::Some(0.0),
         &mut mask,
         &mut severities,
-    );
+    )?;
     row(
+        rt,
         b"row 1, tolerance 10",
         1,
         &[-infinity(), 10.0],
         ConfiguredRoll::Some(0.0),
         &mut mask,
         &mut severities,
-    );
+    )?;
     row(
+        rt,
         b"row 0, no configured roll",
         0,
         &TEN,
         ConfiguredRoll::None,
         &mut mask,
         &mut severities,
-    );
+    )?;
     let mut values = [9.0; 5];
-    asked(b"named values, of a free cell too");
-    answered(solar_masks::named_values(
-        &TARGETS,
-        &SUNS,
-        &OBSERVERS,
-        &TEN,
-        ConfiguredRoll::None,
-        &Y,
-        &mut values,
-    ));
-    bits(&values);
+    asked(rt, b"named values, of a free cell too")?;
+    answered(
+        rt,
+        solar_masks::named_values(
+            &TARGETS,
+            &SUNS,
+            &OBSERVERS,
+            &TEN,
+            ConfiguredRoll::None,
+            &Y,
+            &mut values,
+        ),
+    )?;
+    bits(rt, &values)
 }
 
 // The masks of what is refused, or has no cell: nothing is shown, as none is written.
 fn refused_batch(
+    rt: &impl Print,
     question: &[u8],
     targets: &[f64],
     suns: &[f64],
     observers: &[f64],
     tolerances: &[f64],
     mask: &mut [u8],
-) {
-    asked(question);
-    answered(solar_masks::in_constraint_batch(
-        targets,
-        suns,
-        observers,
-        tolerances,
-        ConfiguredRoll::None,
-        &Y,
-        mask,
-    ));
+) -> io::Result<()> {
+    asked(rt, question)?;
+    answered(
+        rt,
+        solar_masks::in_constraint_batch(
+            targets,
+            suns,
+            observers,
+            tolerances,
+            ConfiguredRoll::None,
+            &Y,
+            mask,
+        ),
+    )
 }
 
 fn refused_row(
+    rt: &impl Print,
     question: &[u8],
     targets: &[f64],
     suns: &[f64],
@@ -261,127 +316,169 @@ fn refused_row(
     tolerances: &[f64],
     mask: &mut [u8],
     severities: &mut [f64],
-) {
-    asked(question);
-    answered(solar_masks::evaluate(
-        targets,
-        suns,
-        observers,
-        tolerances,
-        ConfiguredRoll::None,
-        &Y,
-        0,
-        mask,
-        severities,
-    ));
+) -> io::Result<()> {
+    asked(rt, question)?;
+    answered(
+        rt,
+        solar_masks::evaluate(
+            targets,
+            suns,
+            observers,
+            tolerances,
+            ConfiguredRoll::None,
+            &Y,
+            0,
+            mask,
+            severities,
+        ),
+    )
 }
 
 // n over 3,600, by both calls that take it.
-fn refused_samples(targets: &[f64], suns: &[f64], observers: &[f64], mask: &mut [u8]) {
-    asked(b"n = 3601 with a configured roll");
-    answered(solar_masks::in_constraint_batch_constrained_at_every_roll(
-        targets,
-        suns,
-        observers,
-        &TEN,
-        ConfiguredRoll::Some(0.0),
-        &Y,
-        3601,
-        mask,
-    ));
-    asked(b"n = 2^40");
-    answered(solar_masks::field_of_regard_violated_batch(
-        targets,
-        suns,
-        observers,
-        &TEN,
-        ConfiguredRoll::None,
-        &Y,
-        0,
-        1099511627776,
-        mask,
-    ));
+fn refused_samples(
+    rt: &impl Print,
+    targets: &[f64],
+    suns: &[f64],
+    observers: &[f64],
+    mask: &mut [u8],
+) -> io::Result<()> {
+    asked(rt, b"n = 3601 with a configured roll")?;
+    answered(
+        rt,
+        solar_masks::in_constraint_batch_constrained_at_every_roll(
+            targets,
+            suns,
+            observers,
+            &TEN,
+            ConfiguredRoll::Some(0.0),
+            &Y,
+            3601,
+            mask,
+        ),
+    )?;
+    asked(rt, b"n = 2^40")?;
+    answered(
+        rt,
+        solar_masks::field_of_regard_violated_batch(
+            targets,
+            suns,
+            observers,
+            &TEN,
+            ConfiguredRoll::None,
+            &Y,
+            0,
+            1099511627776,
+            mask,
+        ),
+    )
 }
 
-fn refused_field(question: &[u8], tolerances: &[f64], mask: &mut [u8]) {
-    asked(question);
-    answered(solar_masks::field_of_regard_violated_at_roll(
-        &TARGETS,
-        &SUNS[..0],
-        &OBSERVERS[..0],
-        tolerances,
-        ConfiguredRoll::None,
-        &Y,
-        0,
-        0.0,
-        mask,
-    ));
+fn refused_field(
+    rt: &impl Print,
+    question: &[u8],
+    tolerances: &[f64],
+    mask: &mut [u8],
+) -> io::Result<()> {
+    asked(rt, question)?;
+    answered(
+        rt,
+        solar_masks::field_of_regard_violated_at_roll(
+            &TARGETS,
+            &SUNS[..0],
+            &OBSERVERS[..0],
+            tolerances,
+            ConfiguredRoll::None,
+            &Y,
+            0,
+            0.0,
+            mask,
+        ),
+    )
 }
 
 // A target beyond 1, and a Sun whose last number is NaN.
 const BEYOND: [f64; 3] = [2.0, 0.0, 0.0];
 
-fn refused_lengths(mask: &mut [u8]) {
+fn refused_lengths(rt: &impl Print, mask: &mut [u8]) -> io::Result<()> {
     let suns = [0.0, 1.0, 0.0, 0.0, 0.0, nan()];
     refused_batch(
+        rt,
         b"targets of 2 numbers",
         &BEYOND[..2],
         &suns,
         &OBSERVERS,
         &TEN,
         mask,
-    );
+    )?;
     refused_batch(
+        rt,
         b"fewer observers than Suns",
         &BEYOND,
         &suns,
         &ORIGIN,
         &TEN,
         mask,
-    );
-    refused_samples(&BEYOND, &suns, &OBSERVERS, mask);
+    )?;
+    refused_samples(rt, &BEYOND, &suns, &OBSERVERS, mask)
 }
 
-fn refused_numbers(mask: &mut [u8]) {
+fn refused_numbers(rt: &impl Print, mask: &mut [u8]) -> io::Result<()> {
     let suns = [0.0, 1.0, 0.0, 0.0, 0.0, nan()];
     refused_batch(
+        rt,
         b"target 2, NaN in the last Sun",
         &BEYOND,
         &suns,
         &OBSERVERS,
         &TEN,
         mask,
-    );
-    refused_batch(b"target 2", &BEYOND, &suns[..3], &ORIGIN, &TEN, mask);
+    )?;
+    refused_batch(rt, b"target 2", &BEYOND, &suns[..3], &ORIGIN, &TEN, mask)?;
     refused_batch(
+        rt,
         b"no targets",
         &BEYOND[..0],
         &suns[..3],
         &ORIGIN,
         &TEN[..0],
         mask,
-    );
-    refused_field(b"no times, field of regard", &TEN, mask);
+    )?;
+    refused_field(rt, b"no times, field of regard", &TEN, mask)
 }
 
-fn refused_tolerances(mask: &mut [u8]) {
-    refused_batch(b"two tolerances for a target", &X, &Y, &ORIGIN, &TEN, mask);
+fn refused_tolerances(rt: &impl Print, mask: &mut [u8]) -> io::Result<()> {
     refused_batch(
+        rt,
+        b"two tolerances for a target",
+        &X,
+        &Y,
+        &ORIGIN,
+        &TEN,
+        mask,
+    )?;
+    refused_batch(
+        rt,
         b"no tolerance for a target",
         &X,
         &Y,
         &ORIGIN,
         &TEN[..0],
         mask,
-    );
-    refused_field(b"no times, one tolerance for two targets", &TEN[..1], mask);
+    )?;
+    refused_field(
+        rt,
+        b"no times, one tolerance for two targets",
+        &TEN[..1],
+        mask,
+    )
 }
 
-fn too_short(mask: &mut [u8]) {
+fn too_short(rt: &impl Print, mask: &mut [u8]) -> io::Result<()> {
     let mut severities = [9.0; 2];
     let mut unlent_mask = [9u8; 1];
     let mut unlent_severities = [9.0; 1];
     refused_row(
+        rt,
         b"row 0 of no rows, no room",
         &TARGETS[..0],
         &Y,
@@ -389,8 +486,9 @@ fn too_short(mask: &mut [u8]) {
         &TEN[..0],
         &mut unlent_mask[..0],
         &mut severities,
-    );
+    )?;
     refused_row(
+        rt,
         b"no room for the severities",
         &X,
         &Y,
@@ -398,28 +496,29 @@ fn too_short(mask: &mut [u8]) {
         &TEN[..1],
         mask,
         &mut unlent_severities[..0],
-    );
+    )?;
     refused_batch(
+        rt,
         b"no room for the mask",
         &X,
         &Y,
         &ORIGIN,
         &TEN[..1],
         &mut unlent_mask[..0],
-    );
+    )
 }
 
-fn main() {
-    cells();
-    refused_cells();
-    masks();
-    masks_by_tolerance();
-    rows();
+fn main(rt: HostRuntime) -> io::Result<()> {
+    cells(&rt)?;
+    refused_cells(&rt)?;
+    masks(&rt)?;
+    masks_by_tolerance(&rt)?;
+    rows(&rt)?;
     let mut mask = [9u8; 2];
-    refused_lengths(&mut mask);
-    refused_numbers(&mut mask);
-    refused_tolerances(&mut mask);
-    too_short(&mut mask);
-    asked(b"the lent mask after all of these");
-    bytes(&mask);
+    refused_lengths(&rt, &mut mask)?;
+    refused_numbers(&rt, &mut mask)?;
+    refused_tolerances(&rt, &mut mask)?;
+    too_short(&rt, &mut mask)?;
+    asked(&rt, b"the lent mask after all of these")?;
+    bytes(&rt, &mask)
 }

@@ -1,45 +1,35 @@
 // Answers as lines of text.
 use buffers::Answer;
 use float::bits as pattern;
-use io::{print_decimal, print_hex, write_all};
-use libc::STDOUT_FILENO;
 use solar_roll::CellRoll;
+use std::io;
 
 // What was asked.
-pub(crate) fn asked(question: &[u8]) {
-    write_all(STDOUT_FILENO, question);
-    write_all(STDOUT_FILENO, b": ");
+pub(crate) fn asked(rt: &impl Print, question: &[u8]) -> io::Result<()> {
+    rt.write_all(question)?;
+    rt.write_all(b": ")
 }
 
-fn refused(number: u64) {
-    write_all(STDOUT_FILENO, b"refused ");
-    print_decimal(STDOUT_FILENO, number);
-    write_all(STDOUT_FILENO, b"\n");
+fn refused(rt: &impl Print, number: u64) -> io::Result<()> {
+    println!(rt; "refused {number}")
 }
 
 // A cell's answer: its roll by its bits.
-pub(crate) fn cell(c: CellRoll) {
+pub(crate) fn cell(rt: &impl Print, c: CellRoll) -> io::Result<()> {
     match c {
-        CellRoll::Free => {
-            write_all(STDOUT_FILENO, b"free\n");
-        }
+        CellRoll::Free => println!(rt; "free"),
         CellRoll::At(roll) => {
-            write_all(STDOUT_FILENO, b"at ");
-            print_hex(STDOUT_FILENO, pattern(roll), 16);
-            write_all(STDOUT_FILENO, b"\n");
+            let word = pattern(roll);
+            println!(rt; "at {word:016x}")
         }
-        CellRoll::Refused(number) => refused(number),
+        CellRoll::Refused(number) => refused(rt, number),
     }
 }
 
-pub(crate) fn answered(answer: Answer) {
+pub(crate) fn answered(rt: &impl Print, answer: Answer) -> io::Result<()> {
     match answer {
-        Answer::Accepted(number) => {
-            write_all(STDOUT_FILENO, b"accepted ");
-            print_decimal(STDOUT_FILENO, number);
-            write_all(STDOUT_FILENO, b"\n");
-        }
-        Answer::Refused(number) => refused(number),
+        Answer::Accepted(number) => println!(rt; "accepted {number}"),
+        Answer::Refused(number) => refused(rt, number),
     }
 }
 
@@ -48,24 +38,25 @@ fn wide(byte: u8) -> u64 {
 }
 
 // A mask, a digit a byte.
-pub(crate) fn bytes(mask: &[u8]) {
-    write_all(STDOUT_FILENO, b"  ");
+pub(crate) fn bytes(rt: &impl Print, mask: &[u8]) -> io::Result<()> {
+    print!(rt; "  ")?;
     let mut i = 0;
     while i < mask.len() {
-        print_decimal(STDOUT_FILENO, wide(mask[i]));
+        let byte = wide(mask[i]);
+        print!(rt; "{byte}")?;
         i += 1;
     }
-    write_all(STDOUT_FILENO, b"\n");
+    println!(rt;)
 }
 
 // Floats by their bits.
-pub(crate) fn bits(values: &[f64]) {
+pub(crate) fn bits(rt: &impl Print, values: &[f64]) -> io::Result<()> {
     let mut i = 0;
     while i < values.len() {
         let value = values[i];
-        write_all(STDOUT_FILENO, b"  ");
-        print_hex(STDOUT_FILENO, pattern(value), 16);
+        let word = pattern(value);
+        print!(rt; "  {word:016x}")?;
         i += 1;
     }
-    write_all(STDOUT_FILENO, b"\n");
+    println!(rt;)
 }

@@ -3,9 +3,12 @@
 //
 // A line has three words of 16 hexadecimal digits: an operand, dashes and its root; or y, z and the arctangent of (y, z); or r,
 // a colon, its sine and its cosine.
-ghost use Rattle.std.specs.Prelude.{◌+◌, ◌<◌, ◌≤◌, length};
+#![tactic(auto)]
 
-use libc::{STDIN_FILENO, STDOUT_FILENO};
+ghost use Rattle.std.specs.Prelude.{◌+◌, ◌<◌, ◌≤◌, length, IfOk};
+
+use std::io;
+use std::io::Read;
 use std::num::wrapping_add_u64;
 
 const LINE: usize = 51;
@@ -36,7 +39,7 @@ fn word(text: &[u8], at: usize) -> u64
 }
 
 // What a line has.
-#[derive(Drop)]
+#[derive(Clone, Copy)]
 enum Form {
     Root,
     Arctangent,
@@ -74,19 +77,19 @@ fn agrees(text: &[u8], at: usize) -> bool
     }
 }
 
-fn write_line(text: &[u8], at: usize)
+fn write_line(rt: &impl Print, text: &[u8], at: usize) -> io::Result<()>
     requires { at + 51 ≤ length text.now }
 {
     let end = at + LINE;
-    io::write_all(STDOUT_FILENO, &text[at..end]);
+    rt.write_all(&text[at..end])
 }
 
-fn show(count: u64, name: &[u8]) {
-    io::print_decimal(STDOUT_FILENO, count);
-    io::write_all(STDOUT_FILENO, name);
+fn show(rt: &impl Print, count: u64, name: &[u8]) -> io::Result<()> {
+    print!(rt; "{count}")?;
+    rt.write_all(name)
 }
 
-fn replay(text: &[u8]) {
+fn replay(rt: &impl Print, text: &[u8]) -> io::Result<()> {
     let lines = text.len() / LINE;
     let mut roots: u64 = 0;
     let mut arctangents: u64 = 0;
@@ -105,17 +108,32 @@ fn replay(text: &[u8]) {
         if agrees(text, at) {
             agree = wrapping_add_u64(agree, 1);
         } else {
-            write_line(text, at);
+            write_line(rt, text, at)?;
         }
     }
-    show(roots, b" roots, ");
-    show(arctangents, b" arctangents and ");
-    show(sines, b" sines and cosines: ");
-    show(agree, b" agree\n");
+    show(rt, roots, b" roots, ")?;
+    show(rt, arctangents, b" arctangents and ")?;
+    show(rt, sines, b" sines and cosines: ")?;
+    show(rt, agree, b" agree\n")
 }
 
-fn main() {
-    let mut space = io::large_buffer();
-    let n = io::read_full(STDIN_FILENO, &mut space);
-    replay(&space[..n]);
+// Reads until the buffer is full or the input ends, and answers how many bytes were read.
+fn read_full(input: &mut impl Read, buffer: &mut [u8]) -> io::Result<usize>
+    ensures { IfOk result (λ n. n ≤ length buffer.new) }
+{
+    let mut done = 0;
+    while done < buffer.len() {
+        let n = input.read(&mut buffer[done..])?;
+        if n == 0 {
+            break;
+        }
+        done += n;
+    }
+    Ok(done)
+}
+
+fn main(rt: HostRuntime) -> io::Result<()> {
+    let mut space = [0u8; 65536];
+    let n = read_full(&mut rt.reader(), &mut space)?;
+    replay(&rt, &space[..n])
 }
