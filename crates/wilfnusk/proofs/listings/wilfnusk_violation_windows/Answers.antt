@@ -1,0 +1,5 @@
+use Rattle.wilfnusk.proofs.listings.wilfnusk_violation_windows.Goals as goal
+
+pub returns : goal.returns
+returns c = let call = c.violation_windows.ensures in
+    (simp (c.int64.ensures, call.0), call.1)
