@@ -1,7 +1,6 @@
 -- What a size costs, what is refused of it, and the lists that a plan is written into, by computation. Assumes nothing.
 use mathlib.Core.Path.{◌≡◌, refl}
 use mathlib.Core.List.{List, [], ◌∷◌}
-use Prim.Native.Nat.{ℕ}
 use lib.Ieee.{Float}
 use Rattle.buffers.specs.Lent.{over}
 use Rattle.buffers.specs.Refusal.{first, carried, refused, accepted, reply, unless_refused}

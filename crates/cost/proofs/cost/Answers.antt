@@ -25,9 +25,9 @@ three x y z l h =
 pub returns-then-refusal-ne0 : goal.returns-then-refusal-ne0
 unfolding cost_reply cost_after cost_refusal
 returns-then-refusal-ne0 c = let k = c.size_refusal-refusal.result in record {
-      result_value = (refused_leaves k _ 0 k k c.size_refusal-refusal.ensures c.if-refusal-ne0.true).0;
-      out_after = (refused_leaves k _ 0 _ _ c.size_refusal-refusal.ensures c.if-refusal-ne0.true).1;
-    }
+  result_value = (refused_leaves k _ 0 k k c.size_refusal-refusal.ensures c.if-refusal-ne0.true).0;
+  out_after = (refused_leaves k _ 0 _ _ c.size_refusal-refusal.ensures c.if-refusal-ne0.true).1;
+}
 
 pub overflow_mul-cells : goal.overflow_mul-cells
 overflow_mul-cells c = let f = size_facts _ _ _ _ (sym c.size_refusal-refusal.ensures ∙ c.if-refusal-ne0.false) in
