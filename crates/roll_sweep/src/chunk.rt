@@ -30,6 +30,7 @@ pub enum ChunkAnswer {
 }
 
 // How many of the cells a chunk holds.
+#[tactic(auto, unfolding(crate::specs::Sweep::cells_in))]
 pub fn cells_in(cells: u64, chunk: u64) -> u64
     ensures { result ≡ cells_in cells chunk }
 {
