@@ -5,7 +5,7 @@ use crate::{
     engine::{self, HEADER_BYTES},
     explain,
     fault::Fault,
-    from_0_up, from_1_up,
+    from_1_up,
     journal::{done, look, Journal},
     look::about,
     plan::Plan,
@@ -30,7 +30,7 @@ pub struct Check {
     #[arg(long, value_name = "N", value_parser = from_1_up, requires = "recompute")]
     sample: Option<NonZeroUsize>,
     /// Draw the lines that were drawn with this seed
-    #[arg(long, value_parser = from_0_up, requires = "sample")]
+    #[arg(long, requires = "sample")]
     seed: Option<u32>,
     /// Write the missing digest J.plan beside the journal, once every line was worked out again and found the same
     #[arg(long, requires = "recompute", conflicts_with = "sample")]

@@ -87,7 +87,7 @@ impl Digest {
         if good && lines.next().is_none() {
             Ok(digest)
         } else {
-            Err(source.fault(0, "not the digest of a plan", &format!("what `wilfnusk sweep` writes. Move the file away{}", again)))
+            Err(source.fault(0, "no digest of a plan", &format!("what `wilfnusk sweep` writes. Move the file away{}", again)))
         }
     }
     /// The files of this one whose numbers are not the other's.
@@ -299,11 +299,9 @@ mod tests {
         let journal = folder.path().join("j");
         let path = Digest::path(&journal);
         let same = plan(TOML, TARGETS, EPHEMERIS).unwrap();
-        for (version, says) in [
-            ("4", "a digest of version 4, which a newer"),
-            ("10", "a digest of version 10, which a newer"),
-            ("0", "not the digest of a plan"),
-        ] {
+        for (version, says) in
+            [("4", "a digest of version 4, which a newer"), ("10", "a digest of version 10, which a newer"), ("0", "no digest of a plan")]
+        {
             fs::write(&path, new().replace("plan 3", &format!("plan {}", version))).unwrap();
             let fault = is_known(&same, &journal).unwrap_err();
             assert!(fault.status() == 3 && fault.to_string().contains(says), "{}", fault);
@@ -312,7 +310,7 @@ mod tests {
         for title in ["wilfnusk plan", "wilfnusk plan ", "wilfnusk plan 03", "wilfnusk plan +3", "wilfnusk plan 3 ", "wilfnusk plan three"]
         {
             fs::write(&path, new().replace("wilfnusk plan 3", title)).unwrap();
-            assert!(Digest::beside(&journal, None).unwrap_err().to_string().contains("not the digest of a plan"), "{}", title);
+            assert!(Digest::beside(&journal, None).unwrap_err().to_string().contains("no digest of a plan"), "{}", title);
         }
     }
     /// As a program of version 2 hashed it, too.
@@ -468,7 +466,7 @@ mod tests {
         for other in nameless.iter().chain(&more) {
             fs::write(Digest::path(&journal), other).unwrap();
             let read = Digest::beside(&journal, None).map_err(|e| e.to_string());
-            assert!(matches!(&read, Err(e) if e.contains("not the digest of a plan")), "{:?} of {}", read, other);
+            assert!(matches!(&read, Err(e) if e.contains("no digest of a plan")), "{:?} of {}", read, other);
         }
     }
     #[test]

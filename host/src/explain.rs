@@ -284,7 +284,7 @@ fn damage(plan: &Plan, path: &Path, bytes: &[u8]) -> String {
     if faults.len() == lines(bytes).count() {
         return text + "\nTo go on, sweep into another journal with --journal";
     }
-    text += "\nThe other lines are right and need not be lost: a command that salvages them is planned.";
+    text += "\nThe other lines are right and need not be lost: a salvage that keeps them is to come.";
     match left_out(bytes, &faults) {
         Some(script) => {
             let (path, copy) = (quoted(path), quoted(&with_suffix(path, ".damaged")));
@@ -348,7 +348,7 @@ fn header_faults(header: &[u8], bytes: &[u8]) -> String {
         start += width;
     }
     if faults.is_empty() {
-        faults.push(format!("  line 1, column {}: byte {:#04x}; allowed: 0x0a, the end of the line", digits + 1, bytes[digits]));
+        faults.push(format!("  line 1, column {}: byte {:#04x}; allowed: 0x0a, the line's end", digits + 1, bytes[digits]));
     }
     faults.join("\n")
 }
@@ -373,7 +373,7 @@ fn line_fault(plan: &Plan, line: &[u8], number: usize, seen: &mut [Option<usize>
         return Some((i + 1, format!("byte {:#04x}; allowed: 0 to 9 and a to f", line[i])));
     }
     if line[digits] != b'\n' {
-        return Some((digits + 1, format!("byte {:#04x}; allowed: 0x0a, the end of the line", line[digits])));
+        return Some((digits + 1, format!("byte {:#04x}; allowed: 0x0a, the line's end", line[digits])));
     }
     let (chunk, mask, probes) = (chunk_of(line)?, hex(&line[8..24])?, hex(&line[24..32])?);
     let chunks = plan.chunks() as u64;

@@ -30,7 +30,7 @@ impl Place {
             Ok(now) => Ok(Place { path: path.to_owned(), now: Some(now) }),
             Err(e) if e.kind() == io::ErrorKind::NotFound => {
                 if path.symlink_metadata().is_ok() {
-                    return Err(io::Error::new(io::ErrorKind::InvalidInput, "it is a link to a file that does not exist"));
+                    return Err(io::Error::new(io::ErrorKind::InvalidInput, "it is a link to a file that is not there"));
                 }
                 match path.file_name() {
                     Some(name) if !path.as_os_str().as_bytes().ends_with(b"/") => {
@@ -50,7 +50,7 @@ impl Place {
     pub fn is_open(&self, file: &File) -> bool {
         matches!((&self.now, file.metadata()), (Some(a), Ok(b)) if a.is_file() && same_file(a, &b))
     }
-    /// The first bytes of a regular file that stands there, at most so many.
+    /// The first bytes of a plain file that stands there, at most so many.
     pub fn head(&self, most: u64) -> io::Result<Vec<u8>> {
         let mut head = Vec::new();
         if let Some(path) = self.existing() {
@@ -58,7 +58,7 @@ impl Place {
         }
         Ok(head)
     }
-    /// The name, without links, of a regular file that stands there.
+    /// The name, without links, of a plain file that stands there.
     pub fn existing(&self) -> Option<&Path> {
         self.now.as_ref().filter(|now| now.is_file()).map(|_| &*self.path)
     }
@@ -113,10 +113,10 @@ pub fn folder_of(path: &Path) -> &Path {
     path.parent().filter(|p| !p.as_os_str().is_empty()).unwrap_or_else(|| Path::new("."))
 }
 
-/// Writes a regular file whole or not at all, and makes it last. A link stays: the file that it leads to is written.
+/// Writes a plain file whole or not at all, and makes it last. A link stays: the file that it leads to is written.
 pub fn write_whole(path: &Path, bytes: &[u8]) -> Result<(), Fault> {
     let done = Place::of(path).and_then(|place| match place.is_stream() {
-        true => Err(io::Error::new(io::ErrorKind::InvalidInput, "it is not a regular file")),
+        true => Err(io::Error::new(io::ErrorKind::InvalidInput, "it is no plain file")),
         false => place.replace(|out| out.write_all(bytes), || Ok(())),
     });
     done.map_err(|e| fault(path, &e))?;
@@ -185,7 +185,7 @@ pub fn reason(e: &io::Error) -> String {
         io::ErrorKind::QuotaExceeded => "the disk quota is used up".into(),
         io::ErrorKind::ReadOnlyFilesystem => "the file system is read-only".into(),
         io::ErrorKind::FileTooLarge => {
-            "the file cannot grow further: a limit on the size of files (ulimit -f) or of the file system".into()
+            "the file may not grow further: a limit on the size of files (ulimit -f) or of the file system".into()
         }
         io::ErrorKind::IsADirectory => "it is a folder".into(),
         io::ErrorKind::NotFound => "there is no such file or folder".into(),
@@ -280,7 +280,7 @@ mod tests {
         assert_eq!(fs::read(&path).unwrap(), b"new");
         fs::remove_file(&path).unwrap();
         let text = write_whole(&link, b"new").unwrap_err().to_string();
-        assert!(text.ends_with("link: it is a link to a file that does not exist"), "{}", text);
+        assert!(text.ends_with("link: it is a link to a file that is not there"), "{}", text);
         assert!(!path.exists());
     }
     #[test]

@@ -61,7 +61,7 @@ macro_rules! rfc_3339 {
         "RFC 3339, such as 2026-03-20T14:46:00Z"
     };
     ($form:literal) => {
-        concat!(rfc_3339!(), " (this looks like ", $form, ")")
+        concat!(rfc_3339!(), " (this reads like ", $form, ")")
     };
 }
 
@@ -86,28 +86,28 @@ pub fn parse(text: &str) -> Result<i64, Fault> {
     let is_date = r.at == text.len();
     r.one_of(b"Tt ", if is_date { rfc_3339!("a date alone") } else { "T between date and time" })?;
     let hour = r.number(2, 0, 23, "an hour from 00 to 23")?;
-    r.one_of(b":", "hours, minutes and seconds separated by :")?;
+    r.one_of(b":", "hours, minutes and seconds with : between them")?;
     let minute = r.number(2, 0, 59, "a minute from 00 to 59")?;
     r.one_of(b":", rfc_3339!("a time without seconds"))?;
-    let second = r.number(2, 0, 59, "a second from 00 to 59 (nanoseconds since 1970 do not count leap seconds)")?;
+    let second = r.number(2, 0, 59, "a second from 00 to 59 (leap seconds have no place in nanoseconds since 1970)")?;
     let mut nanos = 0;
     match r.text.get(r.at) {
         Some(b'.') => {
             r.at += 1;
             nanos = r.fraction()?;
         }
-        Some(b',') => return Err((r.at, "a decimal point before the fraction of a second")),
+        Some(b',') => return Err((r.at, "a point before the fraction of a second")),
         _ => {}
     }
     let zone = match r.text.get(r.at) {
-        None => "Z at its end for UTC, or an offset such as +01:00 (this looks like a time without a time zone)",
+        None => "Z at its end for UTC, or an offset such as +01:00 (this reads like a time without its zone)",
         Some(_) => "Z or an offset such as +01:00",
     };
     let offset = match r.one_of(b"Zz+-", zone)? {
         sign @ (b'+' | b'-') => {
-            let hours = r.number(2, 0, 23, "offset hours from 00 to 23")?;
-            r.one_of(b":", "offset hours and minutes separated by :")?;
-            let minutes = r.number(2, 0, 59, "offset minutes from 00 to 59")?;
+            let hours = r.number(2, 0, 23, "an offset's hours from 00 to 23")?;
+            r.one_of(b":", "an offset's hours and minutes with : between them")?;
+            let minutes = r.number(2, 0, 59, "an offset's minutes from 00 to 59")?;
             (60 * hours + minutes) * if sign == b'+' { 60 } else { -60 }
         }
         _ => 0,
@@ -257,10 +257,10 @@ mod tests {
             ("2026:079:00:00:00", 4, "a day of the year"),
             ("2026-03-20", 10, "a date alone"),
             ("2026-03-20T14:46Z", 16, "a time without seconds"),
-            ("2026-03-20T14:46:00", 19, "a time without a time zone"),
-            ("2026-03-20T14:46:00.25", 22, "a time without a time zone"),
+            ("2026-03-20T14:46:00", 19, "a time without its zone"),
+            ("2026-03-20T14:46:00.25", 22, "a time without its zone"),
             ("2026-03-20 14:46:00 UTC", 19, "Z or an offset"),
-            ("2026-03-20T14:46:00,5Z", 19, "a decimal point before the fraction"),
+            ("2026-03-20T14:46:00,5Z", 19, "a point before the fraction"),
             ("2026/03/20 14:46:00", 4, "such as 2026-03-20T14:46:00Z"),
             ("20 Mar 2026", 0, "such as 2026-03-20T14:46:00Z"),
             ("noon", 0, "such as 2026-03-20T14:46:00Z"),

@@ -84,7 +84,7 @@ impl Journal {
     }
     fn fault(&self, e: &io::Error) -> Fault {
         Fault::Files(format!(
-            "{}: {}; every whole line is kept; once that is fixed, the same command resumes the sweep",
+            "{}: {}; every whole line is kept: once that is mended, the same command goes on",
             shown(&self.path),
             reason(e)
         ))
@@ -106,7 +106,7 @@ fn sync_name(path: &Path) -> io::Result<()> {
 
 /// Opens the file for this process alone, and makes an empty one if there is none.
 fn locked(path: &Path, wait: Option<bool>) -> Result<File, Fault> {
-    let advice = if wait.is_some() { "let it finish, or wait for it with --wait" } else { "let it finish, then check again" };
+    let advice = if wait.is_some() { "let it end, or wait for it with --wait" } else { "let it end, then check again" };
     let wait = wait.unwrap_or(false);
     let asked = Instant::now();
     let mut reported = false;
@@ -127,11 +127,11 @@ fn locked(path: &Path, wait: Option<bool>) -> Result<File, Fault> {
             Err(e) if e.kind() == io::ErrorKind::WouldBlock => {
                 // `wilfnusk status` looks at the lock for a moment.
                 if !wait && asked.elapsed() > Duration::from_millis(300) {
-                    return Err(Fault::Files(format!("{}: another process is sweeping into it; {}", shown(path), advice)));
+                    return Err(Fault::Files(format!("{}: another process sweeps into it; {}", shown(path), advice)));
                 }
                 if wait && !reported && asked.elapsed() > Duration::from_secs(1) {
                     reported = true;
-                    tell!("waiting: another process is sweeping into {}", shown(path));
+                    tell!("waiting: another process sweeps into {}", shown(path));
                 }
             }
             Err(e) => return Err(fault(path, &e)),
@@ -153,7 +153,7 @@ pub fn opened(path: &Path) -> io::Result<File> {
     OpenOptions::new().read(true).custom_flags(libc::O_NONBLOCK).open(path)
 }
 
-/// Refuses what is not a regular file and so cannot keep what is written.
+/// Refuses what is no plain file and so cannot keep what is written.
 fn plain(path: &Path, file: &File) -> Result<Metadata, Fault> {
     let about = file.metadata().map_err(|e| fault(path, &e))?;
     let kind = about.file_type();
@@ -162,9 +162,9 @@ fn plain(path: &Path, file: &File) -> Result<Metadata, Fault> {
         () if kind.is_dir() => "a folder",
         () if kind.is_fifo() => "a pipe",
         () if kind.is_char_device() || kind.is_block_device() => "a device",
-        () => "a special file",
+        () => "no file that keeps what is written",
     };
-    Err(Fault::Files(format!("{}: this is {}; allowed: a regular file", shown(path), what)))
+    Err(Fault::Files(format!("{}: this is {}; allowed: a plain file", shown(path), what)))
 }
 
 /// The bytes of a journal or of its digest, or the length of a file that is too large for either.
@@ -308,7 +308,7 @@ mod tests {
         let journal = begun(folder.path());
         assert!(is_locked(&journal.path));
         let second = Journal::open(&journal.path, Some(false)).err().unwrap();
-        assert!(second.to_string().contains("another process is sweeping into it"));
+        assert!(second.to_string().contains("another process sweeps into it"));
         let path = journal.path.clone();
         drop(journal);
         assert!(!is_locked(&path));

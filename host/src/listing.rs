@@ -35,7 +35,7 @@ impl Kind {
 pub struct Listed {
     pub kind: Kind,
     pub window: Window,
-    /// The library's: last time minus first time, in whole seconds, rounded down.
+    /// The library's: last time minus first time, in seconds, cut to whole ones.
     pub seconds: u64,
 }
 
@@ -169,7 +169,7 @@ impl<'a> Listing<'a> {
             parts.push(format!("{} of {}", grouped(self.rows.len()), counted(self.plan.names.len(), "target")));
         }
         if !self.selected.has_all_times() {
-            parts.push(format!("windows that overlap the times {}", self.selected.when()));
+            parts.push(format!("windows that meet the times {}", self.selected.when()));
         }
         if parts.is_empty() {
             None
@@ -223,7 +223,7 @@ impl<'a> Listing<'a> {
         }
         writeln!(out, "% of the time: each sample weighted by the step to the next one")?;
         writeln!(out, "samples: times of the ephemeris, in a window or not")?;
-        writeln!(out, "seconds: from a window's first sample to its last, rounded down")?;
+        writeln!(out, "seconds: from a window's first sample to its last, cut to whole ones")?;
         if clipped {
             wrapped(&mut out, &format!("samples and % of the time: {}", self.selected.when()))?;
             writeln!(out, "seconds of windows: of whole windows, also where they leave these times")?;

@@ -5,7 +5,7 @@ use crate::{
     explain,
     fault::{csv_error, Fault},
     files::buffered,
-    from_0_up, instant,
+    instant,
     journal::{done, is_locked, look},
     listing::{Degrees, Listing},
     outputs::Outputs,
@@ -317,8 +317,8 @@ pub struct Regard {
     #[arg(long, value_name = "TIME", required_unless_present = "sample")]
     time: Option<String>,
     /// A sample number, from 0
-    #[arg(long, value_name = "J", value_parser = from_0_up, conflicts_with = "time")]
-    sample: Option<u32>,
+    #[arg(long, value_name = "J", conflicts_with = "time")]
+    sample: Option<usize>,
     /// The marks at this roll, in degrees; a configured roll overrides it, with a warning [default: at every roll of the plan, which must then be even steps]
     #[arg(long, value_name = "DEG", value_parser = degrees, allow_hyphen_values = true)]
     roll: Option<f64>,
@@ -332,7 +332,7 @@ impl Regard {
         let targets = self.names.of(&plan)?;
         let sample = match (&self.time, self.sample) {
             (Some(text), _) => sample_at(&plan, text)?,
-            (None, sample) => sample.unwrap_or(0) as usize,
+            (None, sample) => sample.unwrap_or(0),
         };
         let by = match (self.roll, &plan.rolls) {
             (Some(roll), _) => {

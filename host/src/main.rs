@@ -54,7 +54,7 @@ use std::{
     name = "wilfnusk",
     version,
     about = "Sweeps a plan of targets over rolls and lists when each may be looked at. The sweep is kept in a journal: \
-        the same command resumes after a power cut, which costs at most the chunks being worked out, about a tenth of a second of work per job.",
+        the same command goes on after a power cut, which costs at most the chunks being worked out, about a tenth of a second of work per job.",
     // help2man makes sections of the manual page of the two.
     after_help = "Examples:\n  \
         wilfnusk example season                            a plan to start from\n  \
@@ -126,11 +126,6 @@ impl Files {
 /// A count of the command line.
 fn from_1_up(text: &str) -> Result<NonZeroUsize, String> {
     text.parse().map_err(|_| "allowed: a whole number from 1 up".into())
-}
-
-/// A sample's number, or a seed.
-fn from_0_up(text: &str) -> Result<u32, String> {
-    text.parse().map_err(|_| format!("allowed: a whole number from 0 to {}", u32::MAX))
 }
 
 fn run(command: Command) -> Result<(), Fault> {

@@ -118,7 +118,7 @@ impl Outputs {
         let all = asked.iter().map(|asked| format!("{} {}", asked.option, shown(asked.path))).collect();
         let older = asked.iter().filter(|asked| !asked.on_stdout() && asked.path.is_file()).map(|asked| shown(asked.path));
         let (all, were) = joined(all, "was", "were")?;
-        let mut text = format!("{} {} not written, as windows are listed only for a whole sweep", all, were);
+        let mut text = format!("{} {} not written, as windows are listed of a whole sweep only", all, were);
         if let Some((older, are)) = joined(older.collect(), "is an older file", "are older files") {
             text += &format!("\n{} {}, not of this sweep", older, are);
         }
@@ -167,7 +167,7 @@ const HEADER_START: usize = 24;
 /// How much of a file is searched for a chunk line.
 const SEARCHED: u64 = 1 << 16;
 
-/// The sign by which a regular file that stands in an output's place is a journal or a digest, damaged or not.
+/// The sign by which a plain file that stands in an output's place is a journal or a digest, damaged or not.
 fn of_a_sweep(path: &Path, place: &Place) -> io::Result<Option<String>> {
     let Some(existing) = place.existing() else { return Ok(None) };
     let head = place.head(SEARCHED)?;
@@ -230,7 +230,7 @@ mod tests {
     }
     #[test]
     fn outputs_that_are_not_written_are_named_with_older_files_in_their_place() {
-        let words = "not written, as windows are listed only for a whole sweep";
+        let words = "not written, as windows are listed of a whole sweep only";
         assert_eq!(outputs("", "").unwritten(), None);
         assert_eq!(outputs("w.csv", "").unwritten().unwrap(), format!("--csv w.csv was {}", words));
         assert_eq!(outputs("w.csv", "-").unwritten().unwrap(), format!("--csv w.csv, --json - were {}", words));

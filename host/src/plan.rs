@@ -188,7 +188,7 @@ impl Plan {
         }
         if more > 0 {
             let more = counted(more, "more target");
-            warnings.push(format!("{}: the same applies to {}", shown(&self.targets_sheet.source.path), more));
+            warnings.push(format!("{}: the same holds of {}", shown(&self.targets_sheet.source.path), more));
         }
         warnings
     }
@@ -590,7 +590,7 @@ mod tests {
         assert!(told[1].contains("line 6, column 1: target `A` has the name of line 2"), "{}", told[1]);
         let told = warnings(&format!("name,x,y,z\n{}", "A,1,0,0\n".repeat(1000)));
         assert_eq!(told.len(), 6);
-        assert!(told[5].ends_with("t.csv: the same applies to 994 more targets"), "{}", told[5]);
+        assert!(told[5].ends_with("t.csv: the same holds of 994 more targets"), "{}", told[5]);
     }
     #[test]
     fn a_name_of_several_lines_is_warned_of() {
@@ -607,8 +607,8 @@ mod tests {
             let toml = format!("targets = \"{}\"\nephemeris = \"e.csv\"\nrolls = 1\ntolerance = 1\n", file);
             plan(&toml, TARGETS, EPHEMERIS).unwrap_err().to_string()
         };
-        assert_eq!(says("/dev/zero"), "/dev/zero: it is a device; allowed: a regular file");
-        assert_eq!(says("/dev"), "/dev: it is a folder; allowed: a regular file");
+        assert_eq!(says("/dev/zero"), "/dev/zero: it is a device; allowed: a plain file");
+        assert_eq!(says("/dev"), "/dev: it is a folder; allowed: a plain file");
         assert!(says("\\u0000.csv").contains("targets reads \"\\u{0}.csv\", and there is no such file"));
         let folder = tempfile::tempdir().unwrap();
         let huge = folder.path().join("huge.csv");

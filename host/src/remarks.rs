@@ -124,7 +124,7 @@ fn hours(plan: &Plan) -> Option<String> {
         return None;
     }
     Some(format!(
-        "{}: every ra, of {}, is between 0 and 24; ra is in degrees: multiply hours by 15",
+        "{}: every ra, of {}, lies within 0 to 24; ra is in degrees: multiply hours by 15",
         plan.targets_sheet.column_at(1),
         counted(count, "target")
     ))

@@ -148,7 +148,7 @@ impl Sheet {
         }));
         if self.several.count > NAMED {
             let more = counted(self.several.count - NAMED, "more field");
-            warnings.push(format!("{}: the same applies to {}", shown(&source.path), more));
+            warnings.push(format!("{}: the same holds of {}", shown(&source.path), more));
         }
         warnings
     }

@@ -18,12 +18,12 @@ pub struct Source {
 }
 
 impl Source {
-    /// Reads a regular file of at most this many bytes: a pipe may never end or begin, and a device has no end.
+    /// Reads a plain file of at most this many bytes: a pipe may never end or begin, and a device has no end.
     pub fn read(path: &Path, most: u64) -> Result<Source, Fault> {
         let fault = |e| files::fault(path, &e);
         let kind = fs::metadata(path).map_err(fault)?.file_type();
         if !kind.is_file() {
-            return Err(Fault::Files(format!("{}: it is a {}; allowed: a regular file", shown(path), word(kind))));
+            return Err(Fault::Files(format!("{}: it is a {}; allowed: a plain file", shown(path), word(kind))));
         }
         let file = File::open(path).map_err(fault)?;
         // The length is asked first, so that a file far too long is not read; what grows meanwhile is not followed.

@@ -32,7 +32,7 @@ pub struct Sweep {
     /// Work out these chunks in this order, such as 40..80 or 7,0..5
     #[arg(long, value_name = "A..B", value_delimiter = ',')]
     chunks: Option<Vec<Chunks>>,
-    /// Wait while another process is sweeping into the journal
+    /// Wait while another process sweeps into the journal
     #[arg(long)]
     wait: bool,
     /// Work out on N threads [default: one per core]. The journal's bytes are the same for any N
@@ -168,7 +168,7 @@ impl Sweep {
         let about = format!("{}: {} of {} chunks have a line", shown(&journal.path), grouped(count), grouped(plan.chunks()));
         if stop::asked() {
             let unwritten = self.outputs.unwritten().map_or(String::new(), |what| format!("\n{}", what));
-            return Err(Fault::Stopped(format!("stopped. {}; the same command resumes the sweep{}", about, unwritten)));
+            return Err(Fault::Stopped(format!("stopped. {}; the same command goes on{}", about, unwritten)));
         }
         if count < plan.chunks() {
             tell!("{}; missing: {}", about, ranges(&has_line, false));

@@ -386,7 +386,7 @@ fn check_ends_with_the_cost() {
     {
         let lock = File::open(f.path("plan.journal")).unwrap();
         lock.lock_exclusive().unwrap();
-        ends(" --recompute --write-digest", 3, warning, &["another process is sweeping into it"]);
+        ends(" --recompute --write-digest", 3, warning, &["another process sweeps into it"]);
     }
     ends(" --recompute --write-digest", 0, &known(3), &["wrote plan.journal.plan"]);
     assert_eq!(f.read("plan.journal.plan"), digest);

@@ -180,7 +180,7 @@ fn a_digest_that_is_not_of_lowercase_hexadecimal_digits_is_no_digest() {
     let spoiled = [of("settings", "x"), of("targets", &"X".repeat(64)), of("targets", "\0"), upper];
     for text in spoiled.into_iter().map(String::into_bytes).chain([vec![0; (1 << 24) + 1]]) {
         f.write("plan.journal.plan", &text);
-        let says = "plan.journal.plan, line 1, column 1: not the digest of a plan; allowed: what `wilfnusk sweep` writes. Move the file away and work \
+        let says = "plan.journal.plan, line 1, column 1: no digest of a plan; allowed: what `wilfnusk sweep` writes. Move the file away and work \
                     every line out again with `wilfnusk check plan.toml --recompute --write-digest`, which writes a new digest if every line is the same\n";
         for words in ["check", "status", "windows", "mask", "sweep", "check --recompute --write-digest"] {
             refused(&f, 3, &format!("{} plan.toml", words), &[says]);
@@ -325,9 +325,9 @@ fn a_digest_is_written_when_asked_for_and_every_line_is_the_same() {
     let lock = File::open(f.path("plan.journal")).unwrap();
     lock.lock_exclusive().unwrap();
     // `check` has no --wait.
-    let says = "plan.journal: another process is sweeping into it; let it finish, then check again\n";
+    let says = "plan.journal: another process sweeps into it; let it end, then check again\n";
     refused(&f, 3, "check plan.toml --recompute --write-digest", &[says]);
-    let says = "plan.journal: another process is sweeping into it; let it finish, or wait for it with --wait\n";
+    let says = "plan.journal: another process sweeps into it; let it end, or wait for it with --wait\n";
     refused(&f, 3, "sweep plan.toml", &[says]);
     assert!(!f.has("plan.journal.plan"));
     drop(lock);
@@ -355,8 +355,8 @@ fn merge_refuses_outputs_that_it_must_not_write() {
     assert!(!f.has("nodir"));
     // No digest is written over a file that is none.
     f.write("x.plan", "my notes");
-    refused(&f, 3, "merge plan.toml plan.journal -o x", &["x.plan, line 1, column 1: not the digest of a plan"]);
-    refused(&f, 3, "sweep plan.toml --journal x", &["x.plan, line 1, column 1: not the digest of a plan"]);
+    refused(&f, 3, "merge plan.toml plan.journal -o x", &["x.plan, line 1, column 1: no digest of a plan"]);
+    refused(&f, 3, "sweep plan.toml --journal x", &["x.plan, line 1, column 1: no digest of a plan"]);
     assert_eq!(f.read("x.plan"), "my notes");
     assert!(!f.has("-") && !f.has("all.journal") && !f.has("nowhere"));
     // Nobody reads what it prints; the journal is written all the same.
@@ -372,7 +372,7 @@ fn a_pipe_is_no_journal() {
     let refused = |words: &str, says: &str| f.shell(&format!("timeout 20 $W {}", words)).says(3, &[says]);
     pipe("plan.journal");
     for words in ["sweep", "check", "status", "windows", "mask"] {
-        refused(&format!("{} plan.toml", words), "plan.journal: this is a pipe; allowed: a regular file");
+        refused(&format!("{} plan.toml", words), "plan.journal: this is a pipe; allowed: a plain file");
     }
     refused("merge plan.toml plan.journal -o all.journal", "plan.journal: this is a pipe");
     refused("sweep plan.toml --journal /dev/zero", "/dev/zero: this is a device");

@@ -123,7 +123,7 @@ fn totals_agree_in_table_summary_and_json() {
     let unwrapped = table.split_whitespace().collect::<Vec<_>>().join(" ");
     for words in [
         "2 clear samples stand alone and are in no window: a single one is listed only if it is the last",
-        "seconds: from a window's first sample to its last, rounded down",
+        "seconds: from a window's first sample to its last, cut to whole ones",
     ] {
         assert!(unwrapped.contains(words), "{}", table);
     }
@@ -200,7 +200,7 @@ fn windows_of_selected_targets_and_times_are_whole() {
     assert_eq!(between("2026-03-20T00:02:30Z", "2026-03-20T00:03:30Z"), Vec::<String>::new());
 
     let part = [
-        "part of the plan: 1 of 2 targets; windows that overlap the times from\n    2026-03-20T00:05:00Z\n",
+        "part of the plan: 1 of 2 targets; windows that meet the times from\n    2026-03-20T00:05:00Z\n",
         "in this part: 1 target, 2 samples",
     ];
     let table = f.run(&[&["windows", "plan.toml"], &one[..]].concat()).stdout;
@@ -218,7 +218,7 @@ fn windows_of_selected_targets_and_times_are_whole() {
     let parsed = json(&f.run(&[&["windows", "plan.toml", "--json", "-"], &one[..]].concat()).stdout);
     assert_eq!(parsed["part"], json!({"targets": 1, "of_targets": 2, "from": "2026-03-20T00:05:00.000000000Z", "to": null}));
     let svg = f.run(&[&["windows", "plan.toml", "--svg", "-"], &one[..]].concat()).stdout;
-    assert!(svg.contains("Part of the plan: 1 of 2 targets; windows that overlap the times from 2026-03-20T00:05:00Z"));
+    assert!(svg.contains("Part of the plan: 1 of 2 targets; windows that meet the times from 2026-03-20T00:05:00Z"));
 
     let words = [&["mask", "plan.toml"], &one[..]].concat();
     assert_eq!(f.run(&words).stdout, "10 Vega\n");
@@ -485,20 +485,6 @@ fn a_count_that_is_no_whole_number_from_1_up_is_refused() {
         done(&f, &format!("{} 1", words));
     }
     assert!(f.all() == before, "a file was changed");
-}
-
-#[test]
-fn a_seed_or_a_sample_that_is_no_whole_number_is_refused() {
-    let f = folder().swept();
-    for (words, option) in
-        [("check plan.toml --recompute --sample 1 --seed", "--seed <SEED>"), ("regard plan.toml --sample", "--sample <J>")]
-    {
-        for number in ["x", "1.5", "4294967296"] {
-            common::run(&f, &format!("{} {}", words, number))
-                .says(2, &[&format!("'{}' for '{}': allowed: a whole number from 0 to 4294967295\n", number, option)]);
-        }
-        done(&f, &format!("{} 0", words));
-    }
 }
 
 #[test]

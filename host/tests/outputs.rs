@@ -78,7 +78,7 @@ fn outputs_that_cannot_be_written_are_refused_before_the_sweep() {
         (["--csv", "-", "--json", "-"], 2, "only one can go to standard output"),
         (["--csv", "no/w.csv", "--svg", "w.svg"], 3, "no/w.csv: there is no such file or folder"),
         (["--csv", "w.csv", "--svg", "d"], 3, "d: it is a folder"),
-        (["--csv", "w.csv", "--summary", "loose"], 3, "loose: it is a link to a file that does not exist"),
+        (["--csv", "w.csv", "--summary", "loose"], 3, "loose: it is a link to a file that is not there"),
         (["--csv", "w.csv", "--target", "Nobody"], 2, "--target Nobody: no target of t.csv has that name"),
         (["--from", "2026-03-20T00:00:02Z", "--to", "2026-03-20T00:00:01Z"], 2, "is after --to"),
     ] {
@@ -94,7 +94,7 @@ fn outputs_that_cannot_be_written_are_refused_before_the_sweep() {
 fn a_partial_sweep_names_the_outputs_it_does_not_write() {
     let f = Folder::new(&["A", "B"], &"01".repeat(40), "tolerance = 10\n");
     let ended = f.run(&["sweep", "plan.toml", "--part", "1/2", "--csv", "w.csv", "--svg", "w.svg"]);
-    ended.says(0, &["--csv w.csv, --svg w.svg were not written, as windows are listed only for a whole sweep", "wilfnusk windows"]);
+    ended.says(0, &["--csv w.csv, --svg w.svg were not written, as windows are listed of a whole sweep only", "wilfnusk windows"]);
     assert!(!f.path("w.csv").exists());
     f.run(&["sweep", "plan.toml", "--csv", "w.csv"]).says(0, &["wrote w.csv"]);
 }
@@ -105,7 +105,7 @@ fn a_write_that_fails_leaves_the_old_file_and_nothing_else() {
     f.write("w.csv", "old\n");
     let before = f.all();
     let ended = f.shell("ulimit -f 0; exec $W windows plan.toml --csv w.csv");
-    ended.says(3, &["w.csv: the file cannot grow further"]);
+    ended.says(3, &["w.csv: the file may not grow further"]);
     assert!(f.all() == before, "{:?}", f.all().iter().map(|(name, _)| name).collect::<Vec<_>>());
 }
 
@@ -326,7 +326,7 @@ fn a_standard_output_that_cannot_be_written_is_named_with_the_reason() {
         let full = f.shell(&format!("exec $W {} > /dev/full", words));
         full.says(3, &["wilfnusk: standard output: the disk is full\n"]);
         let limited = f.shell(&format!("ulimit -f 0; exec $W {} > out", words));
-        limited.says(3, &["wilfnusk: standard output: the file cannot grow further: a limit on the size of files (ulimit -f)"]);
+        limited.says(3, &["wilfnusk: standard output: the file may not grow further: a limit on the size of files (ulimit -f)"]);
         assert!(!full.stderr.contains("os error") && !limited.stderr.contains("os error"), "{:?} {:?}", full, limited);
     }
 }

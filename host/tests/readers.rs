@@ -104,8 +104,8 @@ fn a_field_of_several_lines_is_warned_of_in_every_column_of_both_files() {
     }
     for (rows, last) in [
         (5, "/t.csv, line 10, column 5: field `a\\nb` has 2 lines"),
-        (6, "/t.csv: the same applies to 1 more field"),
-        (9, "/t.csv: the same applies to 4 more fields"),
+        (6, "/t.csv: the same holds of 1 more field"),
+        (9, "/t.csv: the same holds of 4 more fields"),
     ] {
         let targets: String = (0..rows).map(|i| format!("TT{},\"a\nb\",{},0\n", i, 10 * i)).collect();
         let (status, message) = checked(PLAN, &format!("name,note,ra,dec\n{}", targets), EPHEMERIS);
@@ -118,11 +118,11 @@ fn a_field_of_several_lines_is_warned_of_in_every_column_of_both_files() {
 #[test]
 fn a_device_and_a_pipe_are_refused_as_inputs() {
     let (status, message) = checked(&PLAN.replace("t.csv", "/dev/zero"), TARGETS, EPHEMERIS);
-    assert_eq!((status, message.as_str()), (Some(3), "wilfnusk: /dev/zero: it is a device; allowed: a regular file\n"));
+    assert_eq!((status, message.as_str()), (Some(3), "wilfnusk: /dev/zero: it is a device; allowed: a plain file\n"));
     let folder = tempfile::tempdir().unwrap();
     let pipe = folder.path().join("plan.toml");
     assert!(Command::new("mkfifo").arg(&pipe).status().unwrap().success());
     let output = check(&pipe);
     assert_eq!(output.status.code(), Some(3));
-    assert!(String::from_utf8(output.stderr).unwrap().ends_with("plan.toml: it is a pipe; allowed: a regular file\n"));
+    assert!(String::from_utf8(output.stderr).unwrap().ends_with("plan.toml: it is a pipe; allowed: a plain file\n"));
 }

@@ -216,7 +216,7 @@ fn right_ascensions_that_look_like_hours_are_warned_of() {
         let rows = ra.iter().enumerate().map(|(i, ra)| format!("20,T{},{}\n", i, ra));
         f.write("t.csv", &format!("dec,name,RA\n{}", rows.collect::<String>()));
         let says = format!(
-            "t.csv, line 1, column 10: every ra, of {} targets, is between 0 and 24; ra is in degrees: multiply hours by 15",
+            "t.csv, line 1, column 10: every ra, of {} targets, lies within 0 to 24; ra is in degrees: multiply hours by 15",
             ra.len()
         );
         warned(&f, &[says.as_str()][..usize::from(is_warned)]);

@@ -220,7 +220,7 @@ fn a_file_is_whole_or_as_it_was() {
     f.write("r.csv", "old\n");
     let before = f.all();
     let ended = f.shell("ulimit -f 0; exec $W rolls plan.toml --csv r.csv");
-    ended.says(3, &["r.csv: the file cannot grow further"]);
+    ended.says(3, &["r.csv: the file may not grow further"]);
     assert!(f.all() == before, "{:?}", f.all().iter().map(|(name, _)| name).collect::<Vec<_>>());
     let ended = f.run(&["rolls", "plan.toml", "--csv", "r.csv"]);
     assert_eq!((ended.status, ended.stdout.as_str(), ended.stderr.as_str()), (0, "", "wrote r.csv\n"));
@@ -243,7 +243,7 @@ fn an_output_never_overwrites_a_file_of_the_plan() {
     for (file, says) in [
         ("no/r.csv", "no/r.csv: there is no such file or folder"),
         ("d", "d: it is a folder"),
-        ("loose", "loose: it is a link to a file that does not exist"),
+        ("loose", "loose: it is a link to a file that is not there"),
     ] {
         f.run(&["rolls", "plan.toml", "--csv", file]).says(3, &[says]);
     }

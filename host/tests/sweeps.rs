@@ -156,7 +156,7 @@ fn a_sweep_that_lacks_chunks_says_how_many_and_that_an_old_output_is_not_its_own
         0,
         &[
             "plan.journal: 16 of 33 chunks have a line; missing: 16..33\n",
-            "--csv w.csv, --json w.json were not written, as windows are listed only for a whole sweep",
+            "--csv w.csv, --json w.json were not written, as windows are listed of a whole sweep only",
             "\nw.csv is an older file, not of this sweep\n",
         ],
     );
@@ -176,7 +176,7 @@ fn a_limit_on_the_size_of_files_is_reported() {
         assert_eq!(output.status.signal(), None, "{}: killed", words);
         let text = String::from_utf8(output.stderr).unwrap();
         assert!(
-            output.status.code() == Some(3) && text.contains(&format!("{}: the file cannot grow further", file)),
+            output.status.code() == Some(3) && text.contains(&format!("{}: the file may not grow further", file)),
             "{}: {}",
             words,
             text

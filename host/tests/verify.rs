@@ -218,7 +218,7 @@ fn a_spoiled_digest_is_refused_with_advice_that_works() {
     let not_text = [&digest.as_bytes()[..60], b"\xff", &digest.as_bytes()[61..]].concat();
     for spoiled in [digest[..40].as_bytes().to_vec(), b"my notes\n".to_vec(), vec![0; 300], not_text, Vec::new()] {
         f.write("plan.journal.plan", &spoiled);
-        let says = "plan.journal.plan, line 1, column 1: not the digest of a plan; allowed: what `wilfnusk sweep` writes. Move the file away and work every \
+        let says = "plan.journal.plan, line 1, column 1: no digest of a plan; allowed: what `wilfnusk sweep` writes. Move the file away and work every \
                     line out again with `wilfnusk check plan.toml --recompute --write-digest`, which writes a new digest if every line is the same\n";
         refused(&f, 3, &[says]);
         for words in

@@ -64,17 +64,20 @@ held = (refl, refl, refl, refl, refl, refl, refl, refl, refl, refl, refl)
 
 -- ---- right: of 66 cells and 3 samples, so chunk 1 has two cells
 
--- one of them marked: 1 + 3 probes to 6; none: 2 to 6; both: 6; a spare bit
+-- one of them marked: 1 + 3 probes to 6; a spare bit
 pub probes :
     (possible 66 3 1 2 3 ≡ false) ×
     (possible 66 3 1 2 4 ≡ true) ×
     (possible 66 3 1 2 6 ≡ true) ×
     (possible 66 3 1 2 7 ≡ false) ×
-    (possible 66 3 1 0 2 ≡ true) ×
-    (possible 66 3 1 3 5 ≡ false) ×
     (possible 66 3 1 4 6 ≡ false)
 unfolding possible cells_in ones
-probes = (refl, refl, refl, refl, refl, refl, refl)
+probes = (refl, refl, refl, refl, refl)
+
+-- none marked: 2 to 6; both: 6
+pub probes_of_none_and_both : (possible 66 3 1 0 2 ≡ true) × (possible 66 3 1 3 5 ≡ false)
+unfolding possible cells_in ones
+probes_of_none_and_both = (refl, refl)
 
 abbrev header : List ℕ
 header = replicate header_length 7

@@ -47,7 +47,7 @@ fn output<T: Copy + PartialEq>(
     let mut out = vec![pattern; lent];
     let answer = call(&mut out);
     let touched = if answer.is_ok() { written.min(lent) } else { 0 };
-    assert!(out[touched..].iter().all(|x| *x == pattern), "{answer:?}, and an entry that the call must not write has changed");
+    assert!(out[touched..].iter().all(|x| *x == pattern), "{answer:?}, and a place that is not its to write has changed");
     out.truncate(touched);
     answer.map(|()| out).map_err(|r| r.number())
 }
@@ -97,7 +97,7 @@ fn columns(lent: [usize; 6], call: impl FnOnce(Columns) -> Result<u64, Refusal>)
         && last_time[n..].iter().all(|&x| x == TIME)
         && severity[n..].iter().all(|&x| x == FLOAT)
         && is_last[n..].iter().all(|&x| x == BYTE);
-    assert!(beyond, "{answer:?}, and an entry that the call must not write has changed");
+    assert!(beyond, "{answer:?}, and a place that is not its to write has changed");
     let window = |k: usize| Window {
         first: first[k] as usize,
         last: last[k] as usize,
@@ -114,7 +114,7 @@ fn records(lent: usize, call: impl FnOnce(&mut [wilfnusk::Window]) -> Result<u64
     let mut out = vec![RECORD; lent];
     let answer = call(&mut out);
     let n = answer.as_ref().map_or(0, |&n| n as usize);
-    assert!(out[n..].iter().all(|w| *w == RECORD), "{answer:?}, and an entry that the call must not write has changed");
+    assert!(out[n..].iter().all(|w| *w == RECORD), "{answer:?}, and a place that is not its to write has changed");
     let window = |w: &wilfnusk::Window| Window {
         first: w.first as usize,
         last: w.last as usize,
@@ -130,7 +130,7 @@ fn records(lent: usize, call: impl FnOnce(&mut [wilfnusk::Window]) -> Result<u64
 pub fn work_range(plan: &Plan, chunks: Range<u64>, journal: &mut [u8], used: u64) -> Answer<(u64, u64)> {
     let mut stopped = NUMBER;
     let answer = lent(plan).work_range_into(rolls(plan), chunks, journal, used, &mut stopped);
-    assert!(answer.is_ok() || stopped == NUMBER, "{answer:?}, and a number that the call must not write has changed");
+    assert!(answer.is_ok() || stopped == NUMBER, "{answer:?}, and a number that is not its to write has changed");
     answer.map(|used| (used, stopped)).map_err(|r| r.number())
 }
 
@@ -158,7 +158,7 @@ fn written_plan(size: Size, lent: [usize; 5], call: impl FnOnce(u64, u64, u64, P
     let answer = call(size.targets, size.times, size.n, PlanLists { target_numbers, suns, observers, tolerances, panel });
     for (list, places) in lists.iter_mut().zip(size.places()) {
         let touched = if answer.is_ok() { list.len().min(places as usize) } else { 0 };
-        assert!(list[touched..].iter().all(|x| *x == FLOAT), "{answer:?}, and an entry that the call must not write has changed");
+        assert!(list[touched..].iter().all(|x| *x == FLOAT), "{answer:?}, and a place that is not its to write has changed");
         list.truncate(touched);
     }
     let [targets, suns, observers, tolerances, panels] = lists;
@@ -205,7 +205,7 @@ impl Calls for Library {
             Ok(Optimal::At(roll)) => (1, roll),
             Err(refusal) => (-(refusal as i64), FLOAT),
         };
-        assert_eq!((number, roll), expected, "the wrapper's answer differs, or a roll that it must not write has changed");
+        assert_eq!((number, roll), expected, "the wrapper says something else, or a roll that is not its to write has changed");
         answer
     }
     fn named_values(&self, plan: &Plan, room: usize) -> Answer<Vec<f64>> {
@@ -306,7 +306,7 @@ impl Calls for Library {
         let (a, b) = (first.as_ptr(), last.as_ptr());
         let number = unsafe { wilfnusk::sys::wilfnusk_total_violation_duration(a, first.len(), b, last.len(), &mut seconds) };
         let expected = answer.map_or_else(|refusal| (-(refusal as i64), FLOAT), |sum| (0, sum));
-        assert_eq!((number, seconds), expected, "the wrapper's answer differs, or a number that it must not write has changed");
+        assert_eq!((number, seconds), expected, "the wrapper says something else, or a number that is not its to write has changed");
         answer
     }
 }

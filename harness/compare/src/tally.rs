@@ -214,11 +214,8 @@ impl Tally {
                 "fewer than half of the plans have tolerances that can mark, or a configured roll".to_string(),
             ),
             (3 * self.differing >= self.plans, "fewer than a third of the plans have tolerances that differ".to_string()),
-            (
-                5 * (self.plans - self.differing) >= self.plans,
-                "fewer than a fifth of the plans were compared with one evaluator".to_string(),
-            ),
-            (self.largest_whole > 65_536, "no plan beyond the original's own chunks was compared with one evaluator".to_string()),
+            (5 * (self.plans - self.differing) >= self.plans, "fewer than a fifth of the plans were asked of one evaluator".to_string()),
+            (self.largest_whole > 65_536, "no plan beyond the original's own chunks was asked of one evaluator".to_string()),
             (self.mixed_chunks >= 1000, "fewer than 1,000 chunks have several tolerances".to_string()),
             (5 * self.both >= 2 * self.rows, "fewer than two fifths of the rows are both marked and clear".to_string()),
             (2 * self.reached[1] >= self.plans, "fewer than half of the plans have probes between the fewest and the most".to_string()),
@@ -307,7 +304,7 @@ impl Tally {
         let plans = 2 * (SAMPLES.len() as u64 * self.shapes + LARGE.len() as u64);
         let files = ["file's length", "file, recovered", "file's lines"].map(|kind| self.asked(kind));
         let good = self.table(&[
-            (self.plans == plans, format!("{} plans were compared, not both of each shape and n, {plans}", self.plans)),
+            (self.plans == plans, format!("{} plans were asked, not both of each shape and n, {plans}", self.plans)),
             (files == [plans; 3], format!("{files:?} journals were read back from a file, not {plans}")),
             (self.probes >= 100_000_000, "fewer than 100,000,000 probes".to_string()),
         ]);

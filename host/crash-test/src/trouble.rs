@@ -129,7 +129,7 @@ fn signal(child: &Child, signal: i32) {
 fn second_process(machine: &Machine) {
     let first = stopped(machine);
     let journal = machine.journal();
-    says(&machine.sweep(None), 3, &["plan.journal: another process is sweeping into it", "--wait"]);
+    says(&machine.sweep(None), 3, &["plan.journal: another process sweeps into it", "--wait"]);
     assert!(machine.journal() == journal);
     let mut waiting = machine.sweep_command(None);
     let waiting = waiting.arg("--wait").spawn().unwrap();
@@ -188,7 +188,7 @@ fn edited(machine: &Machine) {
     says(&machine.sweep(None), 0, &["plan.journal.plan is missing", "worked out again"]);
     assert!(!digest.exists(), "a digest was made up for lines of unknown origin");
     fs::write(&digest, &text[..40]).unwrap();
-    says(&machine.sweep(None), 3, &["plan.journal.plan, line 1, column 1: not the digest of a plan"]);
+    says(&machine.sweep(None), 3, &["plan.journal.plan, line 1, column 1: no digest of a plan"]);
     fs::write(&digest, String::from_utf8_lossy(&text).replacen("plan 3\n", "plan 2\n", 1)).unwrap();
     says(&machine.sweep(None), 3, &["plan.journal.plan, line 1, column 1: a digest of version 2", "by an earlier wilfnusk"]);
     fs::write(&digest, text).unwrap();

@@ -408,7 +408,7 @@ fn tolerances(machine: &dyn Machine) {
     assert_eq!([&a.1[..30], &a.1[60..]], [&b.1[..30], &b.1[60..]], "rows 0 and 2");
     assert_ne!(a.1[30..60], b.1[30..60], "row 1");
     assert!(a.2 > b.2, "fewer probes where more is allowed");
-    assert_eq!(machine.recover(&wide, &a.0, a.0.len() as u64), Ok(a.0.len() as u64), "the header depends on the first entry alone");
+    assert_eq!(machine.recover(&wide, &a.0, a.0.len() as u64), Ok(a.0.len() as u64), "nothing in it tells the list");
     // Another first entry is another plan.
     assert_eq!(machine.recover(&with(&[21.0, 5.0, 30.0]), &a.0, a.0.len() as u64), Err(11));
 
@@ -474,7 +474,7 @@ fn tables(machine: &dyn Machine) {
 
     // So a sweep that was cut off and is resumed with the other one is accepted, and ends as no sweep with one table does.
     let mut file = a.0[..HEADER + LINE + 7].to_vec();
-    let used = machine.recover(&second, &file, file.len() as u64).expect("the header does not depend on the table");
+    let used = machine.recover(&second, &file, file.len() as u64).expect("nothing in it tells the table");
     assert_eq!(used, (HEADER + LINE) as u64);
     file.resize(HEADER + 2 * LINE, FILL);
     assert_eq!(machine.work(&second, 1, &mut file, used), Ok(length));

@@ -118,7 +118,7 @@ fn equal_and_differing(file: &File) -> [usize; 2] {
     let plans: Vec<Vec<u64>> = file.0.lines().map(words).filter(|line| line[0] == GIVEN).collect();
     let equal = |line: &Vec<u64>| {
         let list = &line[line[5] as usize..];
-        assert_eq!(list.len() as u64, line[1] / 3, "one tolerance per target");
+        assert_eq!(list.len() as u64, line[1] / 3, "a tolerance a target");
         list.iter().all(|x| *x == list[0])
     };
     [true, false].map(|kind| plans.iter().filter(|line| line[1] > 3 && equal(line) == kind).count())
