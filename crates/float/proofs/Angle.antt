@@ -55,9 +55,9 @@ zero_within : (j : ℕ) → Within j zero·0
 unfolding of_bits
 zero_within j = record { s = false; m = 0; e = pos 0; is = refl; size_le = omega arith }
 
-pI_within : Within 2 PI
+pi_within : Within 2 PI
 unfolding of_bits
-pI_within = record { s = _; m = _; e = _; is = refl; size_le = lit≤ tt }
+pi_within = record { s = _; m = _; e = _; is = refl; size_le = lit≤ tt }
 
 half_PI_within : Within 1 (div binary64 PI two)
 unfolding of_bits div round
@@ -119,7 +119,7 @@ within_arctangent (fin s m e) (fin t n d) h g = signed s (half t)
     r = let a = fin false m e in let b = fin false n d in quadrant_angle a b (halved (halved (halved (ratio a b))))
 
     half : (b : Bool) → Within 13 (cond b (sub binary64 PI r) r)
-    half true = within_sub 12 (lit< tt) (weaken 2 12 (lit≤ tt) pI_within) (within_quadrant m n e d)
+    half true = within_sub 12 (lit< tt) (weaken 2 12 (lit≤ tt) pi_within) (within_quadrant m n e d)
     half false = weaken 12 13 (lit≤ tt) (within_quadrant m n e d)
 
     signed : (b : Bool) → Within 13 (cond t (sub binary64 PI r) r) → Within 13 (cond b (neg (cond t (sub binary64 PI r) r)) (cond t (sub binary64 PI r) r))
