@@ -1,10 +1,19 @@
 // The sign, the size, the remainder and the bit pattern of an f64.
-ghost use Rattle.std.specs.Prelude.{◌≡◌, from_bits, to_bits};
+ghost use Rattle.std.specs.Prelude.{◌≡◌, ◌*◌, ◌%◌, ◌^◌, ◌<◌, ◌≤◌, false, from_bits, to_bits};
 ghost use Rattle.std.specs.Float.{binary64};
-ghost use Rattle.std.specs.Float.Ieee.{rem};
+ghost use Rattle.std.specs.Float.Ieee.{rem, round};
+ghost use Rattle.std.specs.Float.Ieee.Exact.{HasValue};
 ghost use Rattle.float.specs.Arithmetic.{full_turn, sign_bit_of, abs_of, finite, rem_euclid, to_degrees};
+ghost use Rattle.float.specs.RootSteps.{magnitude};
 
 use crate::PI;
+
+// A number as digits * 2^shift units of 2^-1074, the smallest value.
+#[derive(Clone, Copy)]
+struct Shifted {
+    digits: u64,
+    shift: u64,
+}
 
 // Whether the sign bit is set. A NaN's is not read: false.
 pub(crate) fn is_sign_negative(x: f64) -> bool
@@ -33,11 +42,85 @@ pub(crate) fn is_finite(x: f64) -> bool
     abs(x) < 1.0 / 0.0
 }
 
+// The magnitude of the bit pattern p, which has the sign clear and is no infinity and no NaN. All 53 digits, unless it is subnormal.
+fn digits_of(p: u64) -> Shifted
+    requires { p < 2047 * 2 ^ 52 }
+    ensures value { result.digits * 2 ^ result.shift ≡ magnitude p }
+    ensures few { result.digits < 2 ^ 53 }
+    ensures finite { result.shift < 2046 }
+    ensures normal { 0 < result.shift → 2 ^ 52 ≤ result.digits }
+{
+    let field = p >> 52;
+    if field == 0 {
+        return Shifted {
+            digits: p,
+            shift: 0,
+        };
+    }
+    Shifted {
+        digits: 0x10_0000_0000_0000 + p % 0x10_0000_0000_0000,
+        shift: field - 1,
+    }
+}
+
+// The remainder of d * 2^n by m, the power's digits brought down eleven at a time.
+fn reduced(d: u64, n: u64, m: u64) -> u64
+    requires { (d < 2 ^ 53) × (0 < m) × (m < 2 ^ 53) }
+    ensures { result ≡ (d * 2 ^ n) % m }
+{
+    let mut r = d;
+    let mut k = n;
+    while 11 < k {
+        r = (r << 11) % m;
+        k -= 11;
+    }
+    (r << k) % m
+}
+
+// 2^k units.
+fn power(k: u64) -> f64
+    requires { k < 2046 }
+    ensures { HasValue result false (2 ^ k) (2 ^ 1074) }
+{
+    f64::from_bits(if k < 52 { 1 << k } else { (k - 51) << 52 })
+}
+
+// r * 2^k units, negated if `negative`.
+fn in_units(negative: bool, r: u64, k: u64) -> f64
+    requires { (r < 2 ^ 53) × (k < 2046) }
+    ensures { result ≡ round binary64 negative (r * 2 ^ k) (2 ^ 1074) }
+{
+    let size = r as f64;
+    let signed = if negative { -size } else { size };
+    signed * power(k)
+}
+
+// The remainder of a by b, as Rust's `%`: it is exact, and has a's sign. Not by `%` itself, which the kit compiles to a call of `fmod` in the version that the
+// C library has since glibc 2.38: where that is older, no program with it starts.
+fn remainder(a: f64, b: f64) -> f64
+    ensures { result ≡ rem binary64 a b }
+{
+    if is_finite(a) {
+        let q = abs(b);
+        if q > 0.0 {
+            let p = abs(a);
+            if p < q {
+                return a;
+            }
+            let x = digits_of(f64::to_bits(p));
+            let y = digits_of(f64::to_bits(q));
+            let r = reduced(x.digits, x.shift - y.shift, y.digits);
+            return in_units(is_sign_negative(a), r, y.shift);
+        }
+    }
+    0.0 / 0.0
+}
+
 // The remainder of a by b that is not negative, but for rounding.
 pub fn rem_euclid(a: f64, b: f64) -> f64
     ensures { result ≡ rem_euclid a b }
 {
-    let r = a % b;
+    let r = remainder(a, b);
     if r < 0.0 { r + abs(b) } else { r }
 }
 
@@ -53,7 +136,7 @@ fn rem_turn(x: f64) -> f64
             return x - 360.0;
         }
     }
-    x % 360.0
+    remainder(x, 360.0)
 }
 
 // rem_euclid(x, 360.0).

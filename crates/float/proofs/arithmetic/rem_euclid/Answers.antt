@@ -4,8 +4,8 @@ use Rattle.float.proofs.arithmetic.rem_euclid.Goals as goal
 
 pub returns-then-r : goal.returns-then-r
 unfolding rem_euclid
-returns-then-r c = simp (c.if-r.true, c.abs.ensures)
+returns-then-r c = rw (← c.remainder-r.ensures, c.if-r.true, c.abs.ensures)
 
 pub returns-else-r : goal.returns-else-r
 unfolding rem_euclid
-returns-else-r c = simp c.if-r.false
+returns-else-r c = rw (← c.remainder-r.ensures, c.if-r.false)

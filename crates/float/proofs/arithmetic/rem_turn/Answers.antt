@@ -1,5 +1,5 @@
 -- `float::arithmetic::rem_turn` meets its contract. Assumes nothing.
-use Rattle.std.proofs.Common.{T, sym, refl, subst}
+use Rattle.std.proofs.Common.{T, sym, subst}
 use lib.Ieee.{of_bits, neg}
 use Rattle.float.proofs.Remainder.{rem_turn_small, rem_turn_once}
 use Rattle.float.proofs.arithmetic.rem_turn.Goals as goal
@@ -14,4 +14,4 @@ returns-then-x-3 c = sym (rem_turn_once c.args.x c.if-x.true c.if-x-2.false c.if
 
 pub returns : goal.returns
 unfolding of_bits
-returns c = refl
+returns c = c.remainder.ensures
