@@ -1,6 +1,6 @@
 // Records the roots, arctangents, sines and cosines that the crate `vectors` replays:
 //
-//     rustc -O -o target/vectors tools/vectors.rs && target/vectors > crates/vectors/stdin
+//     mkdir -p build && rustc -O -o build/vectors tools/vectors.rs && build/vectors > crates/vectors/stdin
 //
 // The roots are the machine's; the arctangents are section 1's rule of document 01 in plain f64, with the machine's root; the
 // sines and cosines are the rule of document 02's request One, in plain f64.

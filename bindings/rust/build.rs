@@ -1,4 +1,4 @@
-//! Links libwilfnusk.a, which `tools/library` puts into target/staticlib of the repository.
+//! Links libwilfnusk.a, which `tools/library` puts into build/lib of the repository.
 //! WILFNUSK_LIB_DIR names another folder.
 use std::{env, path::PathBuf, process::exit};
 
@@ -6,7 +6,7 @@ fn main() {
     println!("cargo:rerun-if-env-changed=WILFNUSK_LIB_DIR");
     let dir = env::var("WILFNUSK_LIB_DIR")
         .map(PathBuf::from)
-        .unwrap_or_else(|_| PathBuf::from(env::var("CARGO_MANIFEST_DIR").unwrap()).join("../../target/staticlib"));
+        .unwrap_or_else(|_| PathBuf::from(env::var("CARGO_MANIFEST_DIR").unwrap()).join("../../build/lib"));
     let archive = dir.join("libwilfnusk.a");
     if !archive.exists() {
         eprintln!(

@@ -2,7 +2,7 @@
 //! their own, and sweeps over tables of rolls in another. The seeds are here, so every run writes the same files. At the repository's root, after
 //! `harness/run`, which builds it:
 //!
-//!     target/cargo/release/record crates/replay/data
+//!     build/cargo/release/record crates/replay/data
 //!
 //! A line is words of hexadecimal digits, the first its kind. A line of kind 0 gives a plan, a row of samples or positions. Each other line
 //! asks about what was given last: two words of what is asked (0 where nothing is), then the Rust's answer up to the line's end. A float is
