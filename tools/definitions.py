@@ -10,8 +10,8 @@ from pathlib import Path
 
 PART = r"[^\s(){}\[\],;.«»⌜⌝]+"
 TOKEN = re.compile(rf"«[^»]+»|\[\]|(?<![^\s()»}}])\.(?:«[^»]+»|[\w'·-]+)|[(){{}}\[\],;⌜⌝]|{PART}(?:\.{PART})*|\.")
-WORDS = {"→", "=", ":", "λ", "let", "in", "record", "data", "where", "pub", "abbrev", "unfoldable", "Type", "Unit", "⊥", "×", "_", "now"}
-USE = re.compile(r"^(?:ghost |unfoldable |abbrev )*(pub )?use ([^\s;{]+?)(?:\.\{([^}]*)\}| as (\S+?))?;?$")
+WORDS = {"→", "=", ":", "λ", "let", "in", "record", "data", "where", "pub", "abbrev", "unfoldable", "Type", "Unit", "⊥", "×", "_"}
+USE = re.compile(r"^(?:ghost |unfoldable |abbrev )*(?:pub )?use ([^\s;{]+?)(?:(\.|::)\{([^}]*)\}| as (\S+?))?;?$", re.M)
 SIGNATURE = re.compile(rf"^( *)((?:(?:unfoldable|abbrev|pub) )*)(?!module |mod |use |infix)({PART}) :(?= |$)")
 TYPE = re.compile(r"^( *)(?:pub )?(record|data) (\S+)")
 MODULE = re.compile(r"^( *)module _ ")
@@ -48,17 +48,18 @@ class File:
         self.crate, folder = path.parts[at + 1], path.parts[at + 2]
         self.place = f"{folder}/" + "/".join(path.with_suffix("").parts[at + 3:])
         self.imports, self.aliases, self.definitions, self.constructors = {}, {}, {}, {}
-        for line in text.splitlines():
-            if m := USE.match(line):
-                _, module, names, alias = m.groups()
-                if alias:
-                    self.aliases[alias] = module
-                elif names is None:  # a `use` of the code: of types, and functions, which no contract names
-                    self.imports[module.split("::")[-1]] = (module, module.split("::")[-1])
-                for name in (names or "").split(","):
-                    old, _, new = name.strip().partition(" as ")
-                    if old:
-                        self.imports[new or old] = (module, old)
+        for m in USE.finditer(text):
+            module, sign, names, alias = m.groups()
+            if alias:
+                self.aliases[alias] = module
+            elif names is None:  # a `use` of the code: of types, and functions, which no contract names
+                self.imports.setdefault(module.split("::")[-1], (module, module.split("::")[-1]))
+            for name in (names or "").split(","):
+                old, _, new = name.strip().partition(" as ")
+                if old and sign == "::":
+                    self.imports.setdefault(new or old, (f"{module}::{old}", old))
+                elif old:  # in a contract a definition goes before a function of the code with its name
+                    self.imports[new or old] = (module, old)
         if path.suffix == ".rt":
             self.read_types()
         else:
@@ -121,7 +122,7 @@ class File:
         parts, theorem = [(type_, binders(" ".join(telescopes)))], not re.search("abbrev|unfoldable", marks)
         while not theorem and end < len(lines) and re.match(rf" {{{indent}}}(unfolding |{re.escape(name)} |  )", lines[end]):
             start, end = end, end + 1
-            while end < len(lines) and lines[end].startswith(" " * (indent + 1)):
+            while end < len(lines) and (lines[end].startswith(" " * (indent + 1)) or re.match(rf" {{{indent}}}[)\]}}]", lines[end])):
                 end += 1
             clause = without_comments("\n".join(lines[start:end])).strip()
             if not clause.startswith("unfolding "):
@@ -175,7 +176,7 @@ def free_names(text, bound):
             i += 1
         elif t == "in":
             scopes[-1].add(lets.pop())
-        elif t in WORDS or t[0] in ".«⌜⌝[],;" and t != "[]" or t[0].isdigit():
+        elif t in WORDS or t[0] in ".«[],;" and t != "[]" or t[0].isdigit():
             pass
         elif pending and pending[-1][1] and i + 1 < len(tokens) and tokens[i + 1] == "=":
             pass
@@ -193,6 +194,7 @@ class Library:
         for path, text in files:
             file = File(path, text)
             self.files[(file.crate, file.place)] = file
+        self.crates = {crate for crate, _ in self.files}
         self.types = {(file.crate, name): d for file in self.files.values() if file.path.suffix == ".rt" for name, d in file.definitions.items()}
         self.found = {}
 
@@ -205,15 +207,15 @@ class Library:
         """The definition of a name in a module: none where the module is the kit's, or made by the prover from the code."""
         if "::" in module:  # a type of the code
             return self.types.get((module.split("::")[0], name))
-        first, *rest = module.split(".")
-        if not first.startswith("Rattle·") or not rest:
+        first, crate, *rest = module.split(".") + [""]
+        if first != "Rattle" or crate not in self.crates:
             return None
-        crate = first.split("·")[1]
-        if rest[1:2] == ["declared"]:
-            found = self.types.get((crate, [part for part in rest if part != "the-variants"][-1]))
+        rest = rest[:-1]
+        if rest[:2] == ["specs", "declared"]:
+            found = self.types.get((crate, [part for part in rest if part != "TheVariants"][-1]))
         else:
             file = self.files.get((crate, "/".join(rest)))
-            if file is None and rest[0] != "specs":
+            if file is None and rest[:1] != ["specs"]:
                 return None
             found = file and self.within(file, name)
         if found is None:
@@ -222,7 +224,12 @@ class Library:
 
     def within(self, file, name):
         """What a name stands for in a file: a definition, or none where it is the kit's."""
-        for n in (name, f"_{name}_"):
+        alias, _, last = name.partition(".")
+        if last and alias in file.aliases:
+            return self.lookup(file.aliases[alias], last)
+        # what stands behind the dot is a field
+        name = alias
+        for n in (name, f"◌{name}◌"):
             if n in file.definitions:
                 return file.definitions[n]
             if n in file.constructors:
@@ -230,9 +237,6 @@ class Library:
             if n in file.imports:
                 module, old = file.imports[n]
                 return self.lookup(module.replace("crate::", f"{file.crate}::"), old)
-        alias, _, last = name.partition(".")
-        if last and alias in file.aliases:
-            return self.lookup(file.aliases[alias], last)
         if file.path.suffix == ".rt":
             return self.types.get((file.crate, name))
         return None
@@ -246,12 +250,13 @@ class Library:
             text, bound = " ".join(built) + " " + text, set(left) - set(built) - set(kit)
         own, kit = {}, {}
         for name in free_names(text, bound):
-            module = file.imports.get(name, file.imports.get(f"_{name}_", ("", "")))[0]
+            head = name.partition(".")[0]
+            module = file.imports.get(head, file.imports.get(f"◌{head}◌", ("", "")))[0]
             if d := self.within(file, name):
                 own[d] = None
             elif module:
-                kit[f"{module}.{name}"] = None
-            elif file.place.startswith("specs/") and name.partition(".")[0] not in file.aliases:
+                kit[f"{module}.{head}"] = None
+            elif file.place.startswith("specs/") and head not in file.aliases:
                 raise Unknown(f"{file.path}: {name} is neither bound nor defined nor brought in")
         return list(own), list(kit)
 
@@ -284,7 +289,7 @@ class Library:
 
     def contract(self, file, function):
         """The definitions that the `ensures` of a public function name, and the names there that are the kit's."""
-        parameters = set(re.findall(r"(\w+)\s*:", function.parameters))
+        parameters = {"result", *re.findall(r"(\w+)\s*:", function.parameters)}
         return self.together(file, [(body, parameters) for kind, body in function.clauses if kind == "ensures"])
 
     def functions(self):
@@ -318,13 +323,23 @@ def functions(text):
         while c := re.compile(r"\s*(requires|ensures)\b[^{]*").match(plain, end):
             end = matching(plain, c.end(), "{", "}")
             clauses.append((c[1], " ".join(plain[c.end() + 1:end - 1].split())))
-        above = []
-        for line in reversed(text[:m.start()].splitlines()):
-            if not line.startswith(("//", "#[")):
-                break
-            above.insert(0, line)
-        comment = "\n".join(line for line in above if line.startswith("//"))
+        comment = "\n".join(above(text[:m.start()]))
         yield Function(m[1], text.count("\n", 0, m.start()) + 1, comment, text[m.start():end].rstrip(), parameters, bool(returns), clauses)
+
+
+def above(text):
+    """The comment lines at the end of a text, beside attributes, of which each may take several lines."""
+    found = []
+    while True:
+        text = text.rstrip("\n") if text.endswith("\n") and not text.endswith("\n\n") else text
+        start = text.rfind("\n") + 1
+        if text.startswith("//", start):
+            found.insert(0, text[start:])
+        elif text.endswith("]") and (start := re.search(r"(?:\n|^)#\[(?:(?!\n#\[|\n\n).)*$", text, re.S)) is not None:
+            start = start.start() + text.startswith("\n", start.start())
+        else:
+            return found
+        text = text[:start]
 
 
 def matching(text, at, opening, closing):
