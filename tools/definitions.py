@@ -16,7 +16,7 @@ SIGNATURE = re.compile(rf"^( *)((?:(?:unfoldable|abbrev|pub) )*)(?!module |mod |
 TYPE = re.compile(r"^( *)(?:pub )?(record|data) (\S+)")
 MODULE = re.compile(r"^( *)module _ ")
 RUST_TYPE = re.compile(r"^(?:pub(?:\([a-z]+\))? )?(?:struct|enum) (\w+)[^{]*\{.*?^\}", re.M | re.S)
-HEAD = re.compile(r'\bpub (?:extern "C" )?fn (\w+)(?:<[^>]*>)?\s*(?=\()')
+HEAD = re.compile(r'\bpub (?:(?:const|unsafe|extern "C") )*fn (\w+)(?:<[^>]*>)?\s*(?=\()')
 
 
 class Unknown(Exception):
