@@ -167,9 +167,9 @@ module _ {A : Type 0} where
         ∙ get_or-append-add (take i l) (t ++ drop (i + length t) l) k d
         ∙ get_or-append t (drop (i + length t) l) d k g
 
-    pub get_d_after : (k : ℕ) → i + length t ≤ k → get_or (put i t l) k d ≡ get_or l k d
+    pub get_or_after : (k : ℕ) → i + length t ≤ k → get_or (put i t l) k d ≡ get_or l k d
     unfolding put
-    get_d_after k g =
+    get_or_after k g =
         let p : List A = take i l ++ t in
         let n : length p ≡ i + length t = length-append (take i l) t ∙ omega (arith, front) in
         let e : k ≡ length p + (k - (i + length t)) = omega arith in

@@ -15,7 +15,7 @@ use Rattle.buffers.specs.Ranges.{tab}
 use Rattle.buffers.specs.Lent.{filled, put}
 use Rattle.buffers.specs.Rows.{ColumnsWritten}
 use Rattle.buffers.proofs.Ranges.{length_tab, get_or_tab}
-use Rattle.buffers.proofs.Lent.{length_put, get_or_before, get_or_inside, get_d_after, length_filled, get_or_filled, get_or_filled_beyond}
+use Rattle.buffers.proofs.Lent.{length_put, get_or_before, get_or_inside, get_or_after, length_filled, get_or_filled, get_or_filled_beyond}
 
 -- ---- cell numbers: in rows of `times` cells, row i at time j is the cell i * times + j
 
@@ -69,7 +69,7 @@ module _ {A : Type 0} (rows times from count : ℕ) (f : ℕ → ℕ → A) (d :
     low k h = get_or_before start (tab count g) m d fits k h
 
     high : (k : ℕ) → start + count ≤ k → get_or new k d ≡ get_or m k d
-    high k h = get_d_after start (tab count g) m d fits k (omega (arith, width))
+    high k h = get_or_after start (tab count g) m d fits k (omega (arith, width))
 
     here : (j : ℕ) → from ≤ j → j < from + count → get_or new (row * times + j) d ≡ g (j - from)
     here j a b =

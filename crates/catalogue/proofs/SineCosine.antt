@@ -169,7 +169,7 @@ halves (suc (suc (suc zero))) l = record { n = 2652839157010665; d = negsuc 48; 
 halves (suc (suc (suc (suc zero)))) l = record { n = 884279719003555; d = negsuc 46; is = refl; at = refl }
 halves (suc (suc (suc (suc (suc q))))) l = absurd (let z : ⊥ = omega arith in z)
 
--- A / (E-as-F) and B / (E-as-F) are at most 1 apart where X / E and Y, which are K times them, are at most K apart
+-- A / (E·F) and B / (E·F) are at most 1 apart where X / E and Y, which are K times them, are at most K apart
 within_one : (A B X Y E F K : ℕ) → A * K ≡ X * F → B * K ≡ Y * E * F → X ≤ Y * E + K * E → Y * E ≤ X + K * E → 0 < K → (A ≤ B + E * F) × (B ≤ A + E * F)
 within_one A B X Y E F K p q h g k =
     let x : X * F ≤ (Y * E + K * E) * F = mul-le-mul_right F h in

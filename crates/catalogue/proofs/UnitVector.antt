@@ -19,7 +19,7 @@ use Rattle.solar_roll.specs.Cell.{UNIT_TOLERANCE}
 
 -- ---- whole numbers only
 
--- x is D-as-C and y D-as-S, rounded
+-- x is D·C and y D·S, rounded
 two_sums : (u k S C D x y : ℕ) → Near (2 * (k * u * (u * u))) (x * u * (x * u)) (D * C * (D * C)) → Near (2 * (k * u * (u * u))) (y * u * (y * u)) (D * S * (D * S))
     → Near (D * D * (2 * (u * u))) (D * D * (1000000000000 * (S * S + C * C))) (D * D * (1000000000000 * (u * u))) → D * D * (2 * (u * u)) ≤ u * u * (2 * (u * u))
     → 1000000000000000 * k * (u * (u * u)) ≤ u * (u * (u * u))

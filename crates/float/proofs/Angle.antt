@@ -59,9 +59,9 @@ pi_within : Within 2 PI
 unfolding of_bits
 pi_within = record { s = _; m = _; e = _; is = refl; size_le = lit≤ tt }
 
-half_PI_within : Within 1 (div binary64 PI two)
+half_pi_within : Within 1 (div binary64 PI two)
 unfolding of_bits div round
-half_PI_within = record { s = _; m = _; e = _; is = refl; size_le = lit≤ tt }
+half_pi_within = record { s = _; m = _; e = _; is = refl; size_le = lit≤ tt }
 
 same_zero : (n : ℕ) (d : ℤ) → eqb (n * up d * 1) (0 * down d) ≡ false → eqb n 0 ≡ false
 same_zero zero d h =
@@ -103,7 +103,7 @@ within_quadrant m n e d = go (ltb (n * up d * down e) (m * up e * down d)) refl
     angle x = cond (eq (cond x a b) zero·0) zero·0 (series_angle (halved (halved (halved (div binary64 (cond x b a) (cond x a b))))))
 
     go : (x : Bool) → ltb (n * up d * down e) (m * up e * down d) ≡ x → Within 12 (cond x (sub binary64 (div binary64 PI two) (angle x)) (angle x))
-    go true z = within_sub 11 (lit< tt) (weaken 1 11 (lit≤ tt) half_PI_within) (within_octant n m d e (le_of_lt (ltb-true _ _ z)))
+    go true z = within_sub 11 (lit< tt) (weaken 1 11 (lit≤ tt) half_pi_within) (within_octant n m d e (le_of_lt (ltb-true _ _ z)))
     go false z = weaken 11 12 (lit≤ tt) (within_octant m n e d (ltb-false _ _ z))
 
 -- the arctangent of finite numbers is finite

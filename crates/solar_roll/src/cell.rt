@@ -202,7 +202,8 @@ pub fn cell_roll(
     observer: [f64; 3],
     panel_normal: [f64; 3],
 ) -> CellRoll
-    ensures result_value { cell_reply result ≡ reply (numbers_refusal target sun observer panel_normal) (optimal_roll target (sun_unit sun observer) panel_normal) }
+    ensures result_value { cell_reply result ≡ reply (numbers_refusal target sun observer panel_normal)
+        (optimal_roll target (sun_unit sun observer) panel_normal) }
     ensures in_turn { (roll : Float) → result ≡ At roll → InTurn roll }
 {
     let refusal = numbers_refusal(&target, &sun, &observer, &panel_normal);

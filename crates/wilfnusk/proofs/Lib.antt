@@ -1,4 +1,3 @@
--- What C reads (Accepted; by computation Examples), and what the walks by hand share (AnswerNumber).
+-- What C reads (Accepted; by computation Examples).
 pub mod Accepted
-pub mod AnswerNumber
 pub mod Examples
