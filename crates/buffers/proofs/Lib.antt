@@ -3,5 +3,5 @@ pub mod Tests
 pub mod Ranges
 pub mod Distinct
 pub mod Lent
-pub mod Refusal
+pub mod Refusals
 pub mod Rows

@@ -15,7 +15,7 @@ use Rattle.buffers.specs.Ranges.{any, any_below, tab}
 use Rattle.buffers.specs.Lent.{filled}
 use Rattle.buffers.proofs.Ranges.{any_get_or, any_tab, length_tab, get_or_tab}
 use Rattle.buffers.proofs.Lent.{take_filled}
-use Rattle.buffers.proofs.Refusal.{written_none}
+use Rattle.buffers.proofs.Refusals.{written_none}
 use Rattle.buffers.proofs.Tests.{and_left, and_right}
 use Rattle.float.specs.Arithmetic.{zero·0, one, full_turn}
 use Rattle.float.specs.Trigonometry.{sine_of, cosine_of, to_radians}

@@ -7,7 +7,7 @@ use borrow.Author.Tests.{ltb-false, eqb-true, not-false}
 use lib.ListN.{length}
 use lib.Ieee.{Float}
 use Rattle.buffers.specs.Ranges.{any}
-use Rattle.buffers.proofs.Refusal.{first_clears}
+use Rattle.buffers.proofs.Refusals.{first_clears}
 use Rattle.buffers.proofs.Tests.{or_left, or_right}
 use Rattle.catalogue.specs.Catalogue.{bad_ra, bad_dec, catalogue_refusal}
 

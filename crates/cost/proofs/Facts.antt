@@ -4,7 +4,7 @@ use mathlib.Core.Bool.{Bool, false, ◌||◌}
 use Prim.Native.Nat.{ℕ, ◌*◌, ◌≤◌}
 use borrow.Author.Tests.{ltb-false}
 use lib.Dec.{ltb, lit<}
-use Rattle.buffers.proofs.Refusal.{first_clear, carried_clear}
+use Rattle.buffers.proofs.Refusals.{first_clear, carried_clear}
 use Rattle.buffers.proofs.Tests.{or_left, or_right}
 use Rattle.solar_roll.specs.Plan.{most_samples, samples_refusal}
 use Rattle.solar_roll.proofs.PlanFacts.{Few, few}

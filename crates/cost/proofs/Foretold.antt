@@ -15,7 +15,7 @@ use Rattle.buffers.specs.Ranges.{sum, any}
 use Rattle.buffers.specs.Lent.{over}
 use Rattle.buffers.specs.Refusal.{first, carried}
 use Rattle.buffers.proofs.Ranges.{sum_ext, sum_same, all_iff, all_zero}
-use Rattle.buffers.proofs.Refusal.{first_none, first_skip, carried_skip, written_none}
+use Rattle.buffers.proofs.Refusals.{first_none, first_skip, carried_skip, written_none}
 use Rattle.buffers.proofs.Rows.{some_time}
 use Rattle.buffers.proofs.Lent.{take_over}
 use Rattle.float.specs.Arithmetic.{zero·0, one, abs_of}

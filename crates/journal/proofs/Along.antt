@@ -13,7 +13,7 @@ use Rattle.buffers.specs.Ranges.{flag}
 use Rattle.buffers.specs.Refusal.{reply_of}
 use Rattle.buffers.specs.declared.Answer.{Answer}
 use Rattle.buffers.proofs.Lent.{length_put}
-use Rattle.buffers.proofs.Refusal.{written_none, written_some}
+use Rattle.buffers.proofs.Refusals.{written_none, written_some}
 use Rattle.buffers.proofs.Tests.{or_left, or_right}
 use Rattle.roll_sweep.specs.Sweep.{Sweep, cells, chunks}
 use Rattle.journal.specs.Lines.{line_length, line_of, has_chunk}

@@ -11,7 +11,7 @@ use Rattle.buffers.specs.Lent.{filled, put}
 use Rattle.buffers.specs.Refusal.{Conditions, first, carried, reply_of}
 use Rattle.buffers.specs.declared.Answer.{Answer}
 use Rattle.buffers.specs.declared.Answer.TheVariants.{Accepted, Refused}
-use Rattle.buffers.proofs.Refusal.{first_here, first_skip, first_clear, first_clears, carried_here, carried_skip, carried_clear, carried_last, written_none, accepted_with, refused_leaves, accepted_leaves}
+use Rattle.buffers.proofs.Refusals.{first_here, first_skip, first_clear, first_clears, carried_here, carried_skip, carried_clear, carried_last, written_none, accepted_with, refused_leaves, accepted_leaves}
 use Rattle.roll_sweep.specs.Sweep.{Sweep, cells, chunks}
 use Rattle.journal.specs.Lines.{header_length, line_length, line_of, has_chunk, has_chunks, held_probes}
 use Rattle.journal.specs.Right.{whole_lines, torn, right}

@@ -11,7 +11,7 @@ use borrow.Author.Tests.{le-ltb, ltb-false}
 use Rattle.buffers.specs.Ranges.{tab}
 use Rattle.buffers.specs.Refusal.{accepted}
 use Rattle.buffers.specs.declared.Answer.{Answer}
-use Rattle.buffers.proofs.Refusal.{reply_none}
+use Rattle.buffers.proofs.Refusals.{reply_none}
 use Rattle.buffers.specs.Lent.{over, put}
 use Rattle.buffers.proofs.Lent.{put_first, over_all}
 use Rattle.solar_roll.specs.Vectors.{Vector, x, y, z}

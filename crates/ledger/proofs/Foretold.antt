@@ -12,7 +12,7 @@ use lib.Ieee.{Float}
 use borrow.Author.Tests.{not-false}
 use Rattle.buffers.specs.Refusal.{accepted}
 use Rattle.buffers.proofs.Ranges.{sum_same}
-use Rattle.buffers.proofs.Refusal.{first_clears, reply_accepted}
+use Rattle.buffers.proofs.Refusals.{first_clears, reply_accepted}
 use Rattle.solar_roll.specs.Plan.{Plan, rows_of, times_of, samples_refusal, plan_refusal}
 use Rattle.roll_sweep.specs.Sweep.{Sweep, cells, chunks, sweep_probes}
 use Rattle.roll_sweep.specs.Rolls.{even_rolls}

@@ -11,7 +11,7 @@ use borrow.Author.Tests.{le-leb}
 use Rattle.buffers.specs.Lent.{put}
 use Rattle.buffers.specs.Refusal.{accepted, reply, unless_refused}
 use Rattle.buffers.proofs.Lent.{length_put}
-use Rattle.buffers.proofs.Refusal.{reply_none, written_none}
+use Rattle.buffers.proofs.Refusals.{reply_none, written_none}
 use Rattle.roll_sweep.specs.Sweep.{Sweep}
 use Rattle.journal.specs.Lines.{line_length, line_of}
 use Rattle.journal.specs.Calls.{work_refusal}

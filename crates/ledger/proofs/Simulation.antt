@@ -10,7 +10,7 @@ use lib.Dec.{leb, ltb}
 use borrow.Author.Tests.{le-leb, ltb-true, ltb-false, leb-true, leb-false, not-false}
 use Rattle.buffers.specs.Refusal.{Reply, accepted, reply, unless_refused}
 use Rattle.buffers.specs.Lent.{put, filled}
-use Rattle.buffers.proofs.Refusal.{first_clears}
+use Rattle.buffers.proofs.Refusals.{first_clears}
 use Rattle.buffers.proofs.Lent.{take_filled}
 use Rattle.roll_sweep.specs.Sweep.{Sweep, cells, chunks, sweep_mask, sweep_probes}
 use Rattle.journal.specs.Lines.{line_length, header_length, line_of, held_probes}

@@ -8,7 +8,7 @@ use native.Mathlib.Omega.{arith}
 use lib.ListN.{length, take, drop, take-append-drop}
 use lib.Seq.{length-take-le}
 use Rattle.buffers.specs.Refusal.{first, accepted, reply}
-use Rattle.buffers.proofs.Refusal.{reply_accepted}
+use Rattle.buffers.proofs.Refusals.{reply_accepted}
 use Rattle.roll_sweep.specs.Sweep.{Sweep, cells, sweep_mask, sweep_probes, chunks}
 use Rattle.journal.specs.Calls.{work_refusal, collect_short}
 use Rattle.journal.specs.Range.{Ran, ran_to, ran, range_refusal, range_stopped}

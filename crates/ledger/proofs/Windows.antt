@@ -12,7 +12,7 @@ use borrow.Author.Tests.{le-ltb, eq-eqb}
 use Rattle.buffers.specs.Ranges.{any}
 use Rattle.buffers.specs.Lent.{over}
 use Rattle.buffers.specs.Refusal.{first, accepted, reply, unless_refused}
-use Rattle.buffers.proofs.Refusal.{reply_none, reply_accepted, written_none}
+use Rattle.buffers.proofs.Refusals.{reply_none, reply_accepted, written_none}
 use Rattle.solar_roll.specs.Plan.{most_times}
 use Rattle.windows.specs.Runs.{Run, violation_runs, visibility_runs}
 use Rattle.windows.specs.Maximal.{sample_is, Maximal, Visible, Exactly}

@@ -6,7 +6,7 @@ use native.Mathlib.Omega.{arith}
 use lib.Dec.{eqb, leb, lit<}
 use borrow.Author.Tests.{eqb-false, leb-true, leb-false, ne_eqb, lt-leb, le-leb}
 use Rattle.buffers.specs.Refusal.{accepted}
-use Rattle.buffers.proofs.Refusal.{first_none, first_skip, first_clear, carried_skip, carried_clear}
+use Rattle.buffers.proofs.Refusals.{first_none, first_skip, first_clear, carried_skip, carried_clear}
 use Rattle.buffers.proofs.Tests.{and_left, and_right}
 use Rattle.buffers.proofs.Rows.{some_time}
 use Rattle.solar_roll.specs.Plan.{Plan, rows_of, times_of, most_rows, most_times, most_cells, most_samples, too_many, samples_refusal, PlanFacts}

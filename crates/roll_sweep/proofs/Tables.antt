@@ -14,7 +14,7 @@ use borrow.Author.Tests.{eqb-false, ltb-false, not-false, eq-eqb, ne_eqb, lt-ltb
 use Rattle.buffers.specs.Ranges.{any_below}
 use Rattle.buffers.specs.Refusal.{Conditions}
 use Rattle.buffers.proofs.Ranges.{below_suc, any_none, any_found, any_clear}
-use Rattle.buffers.proofs.Refusal.{first_none, first_here, first_skip, first_clear}
+use Rattle.buffers.proofs.Refusals.{first_none, first_here, first_skip, first_clear}
 use Rattle.buffers.proofs.Tests.{and_left, and_right, or_here, or_skip, or_none, or_left, or_right}
 use Rattle.float.specs.Arithmetic.{zero·0, full_turn}
 use Rattle.float.proofs.Order.{lt_trans}

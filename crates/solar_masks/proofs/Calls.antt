@@ -6,7 +6,7 @@ use native.Mathlib.Omega.{arith}
 use lib.Dec.{leb, ltb, lit<}
 use borrow.Author.Tests.{ltb-false, leb-true}
 use Rattle.buffers.specs.Refusal.{carried}
-use Rattle.buffers.proofs.Refusal.{first_clear, carried_clear, given_below}
+use Rattle.buffers.proofs.Refusals.{first_clear, carried_clear, given_below}
 use Rattle.buffers.proofs.Tests.{or_left, or_right}
 use Rattle.solar_roll.specs.Plan.{Plan, rows_of, times_of, cells_of, most_samples, samples_or_none_refusal, plan_refusal, PlanFacts}
 use Rattle.solar_masks.specs.Mask.{cells_short, cells_refusal}

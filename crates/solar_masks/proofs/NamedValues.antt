@@ -6,7 +6,7 @@ use native.Mathlib.Nat.{mod-lt, div-lt_iff_lt-mul}
 use lib.ListN.{length, get_or}
 use lib.Ieee.{Float, nan}
 use Rattle.buffers.proofs.Lent.{get_or_filled}
-use Rattle.buffers.proofs.Refusal.{written_none}
+use Rattle.buffers.proofs.Refusals.{written_none}
 use Rattle.buffers.proofs.Rows.{some_time}
 use Rattle.solar_roll.specs.Roll.{InTurn}
 use Rattle.solar_roll.specs.Plan.{Plan, times_of, cells_of}

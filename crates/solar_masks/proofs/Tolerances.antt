@@ -6,7 +6,7 @@ use lib.ListN.{get_or}
 use Rattle.buffers.specs.Lent.{filled}
 use Rattle.buffers.specs.Refusal.{unless_refused}
 use Rattle.buffers.proofs.Lent.{get_or_filled}
-use Rattle.buffers.proofs.Refusal.{written_none}
+use Rattle.buffers.proofs.Refusals.{written_none}
 use Rattle.buffers.proofs.Rows.{cell_row, cell_time, cell_below}
 use Rattle.solar_roll.specs.Plan.{Plan, rows_of, times_of, cells_of, optimal_at, triple, row_direction, row_panel, row_config, sun_at, cell_of}
 use Rattle.solar_masks.specs.Mask.{mark_at, cell_mark, cell_value, mask_after, values_after}

@@ -13,7 +13,7 @@ use Rattle.buffers.proofs.Ranges.{any_none, any_clear}
 use borrow.Author.Tests.{not-false, eqb-true, ltb-false, le-ltb}
 use Rattle.buffers.specs.Ranges.{any_below}
 use Rattle.buffers.specs.Refusal.{first, carried}
-use Rattle.buffers.proofs.Refusal.{first_none, first_skip, first_clear, carried_clear, given_below}
+use Rattle.buffers.proofs.Refusals.{first_none, first_skip, first_clear, carried_clear, given_below}
 use Rattle.buffers.proofs.Tests.{or_left, or_right}
 use Rattle.solar_roll.specs.Vectors.{vector, count, triple}
 use Rattle.solar_roll.specs.Cell.{bad_position, bad_direction, not_unit, any_not_unit, direction_refusal, numbers_refusal}

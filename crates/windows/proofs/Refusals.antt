@@ -6,7 +6,7 @@ use Rattle.buffers.specs.Ranges.{any}
 use Rattle.buffers.specs.Refusal.{first, Reply, reply}
 use Rattle.buffers.proofs.Tests.{or_left, or_right}
 use Rattle.buffers.proofs.Ranges.{any_get_or}
-use Rattle.buffers.proofs.Refusal.{first_clears}
+use Rattle.buffers.proofs.Refusals.{first_clears}
 use Rattle.windows.specs.Refusal.{most_lent, beyond, bad_mark, bad_severity, differ, windows_conditions, windows_refusal}
 use Rattle.windows.specs.Expand.{expand_conditions, expand_refusal}
 use Rattle.windows.specs.Seconds.{duration_conditions, duration_refusal}

@@ -11,7 +11,7 @@ use Rattle.buffers.specs.Lent.{over}
 use Rattle.buffers.specs.Refusal.{Reply, reply, unless_refused}
 use Rattle.buffers.proofs.Tests.{flag_le, or_left, or_right}
 use Rattle.buffers.proofs.Lent.{over_nil, over_next, length_over, over_more}
-use Rattle.buffers.proofs.Refusal.{written_none, written_some}
+use Rattle.buffers.proofs.Refusals.{written_none, written_some}
 use Rattle.windows.specs.Runs.{Run, run, violation_runs, visibility_runs}
 use Rattle.windows.specs.Windows.{window_of, violation_windows, visibility_windows, Columns, written}
 use Rattle.windows.specs.Refusal.{differ, lengths, no_room, windows_refusal, violation_refusal, visibility_refusal}

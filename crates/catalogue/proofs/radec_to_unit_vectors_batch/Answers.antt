@@ -1,6 +1,6 @@
 -- `catalogue::radec_to_unit_vectors_batch` meets its contract. Assumes nothing.
 use mathlib.Core.Path.{refl, sym, ◌∙◌}
-use Rattle.buffers.proofs.Refusal.{refused_leaves, accepted_leaves}
+use Rattle.buffers.proofs.Refusals.{refused_leaves, accepted_leaves}
 use Rattle.catalogue.specs.Catalogue.{catalogue_reply, catalogue_after}
 use Rattle.catalogue.proofs.Facts.{catalogue_facts}
 use Rattle.catalogue.proofs.radec_to_unit_vectors_batch.Goals as goal

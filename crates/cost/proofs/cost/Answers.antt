@@ -9,7 +9,7 @@ use lib.ListN.{length, set, length-set}
 use borrow.Author.Tests.{ltb-false}
 use Rattle.buffers.specs.Lent.{over}
 use Rattle.buffers.proofs.Lent.{over_nil, over_more}
-use Rattle.buffers.proofs.Refusal.{refused_leaves, accepted_leaves}
+use Rattle.buffers.proofs.Refusals.{refused_leaves, accepted_leaves}
 use Rattle.roll_sweep.specs.Sweep.{chunks}
 use Rattle.cost.specs.Cost.{journal_length, cost_refusal, cost_reply, cost_after}
 use Rattle.cost.proofs.Facts.{size_facts}

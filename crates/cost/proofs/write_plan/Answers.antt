@@ -1,6 +1,6 @@
 -- `cost::write_plan` meets its contract: every list is left as it was, or has the plan's written over it. Assumes nothing.
 use mathlib.Core.Path.{sym, ap, ◌∙◌}
-use Rattle.buffers.proofs.Refusal.{refused_leaves, accepted_leaves}
+use Rattle.buffers.proofs.Refusals.{refused_leaves, accepted_leaves}
 use Rattle.cost.specs.Cost.{size_refusal, writing_refusal, writing_reply, plan_written}
 use Rattle.cost.proofs.Facts.{size_facts}
 use Rattle.cost.proofs.write_plan.Goals as goal

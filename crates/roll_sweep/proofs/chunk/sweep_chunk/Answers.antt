@@ -4,7 +4,7 @@ use mathlib.Core.Path.{sym, ap, ◌∙◌}
 use native.Mathlib.Omega.{arith}
 use lib.ListN.{length}
 use Rattle.buffers.specs.Refusal.{accepted}
-use Rattle.buffers.proofs.Refusal.{reply_none, reply_some}
+use Rattle.buffers.proofs.Refusals.{reply_none, reply_some}
 use Rattle.solar_roll.specs.Plan.{count}
 use Rattle.roll_sweep.specs.Chunk.{violates_by, sample_roll, swept_by, chunk_reply}
 use Rattle.roll_sweep.proofs.ChunkFacts.{ChunkFacts, chunk_facts, Held, held, first_below}

@@ -1,4 +1,4 @@
-use Rattle.buffers.proofs.Refusal.{refused_leaves, accepted_leaves}
+use Rattle.buffers.proofs.Refusals.{refused_leaves, accepted_leaves}
 use Rattle.buffers.specs.Lent.{filled}
 use Rattle.solar_masks.proofs.Calls.{field_room}
 use Rattle.solar_masks.specs.Field.{field_refusal, field_reply, field_after}

@@ -1,4 +1,4 @@
-use Rattle.buffers.proofs.Refusal.{refused_leaves, accepted_leaves}
+use Rattle.buffers.proofs.Refusals.{refused_leaves, accepted_leaves}
 use Rattle.buffers.specs.Lent.{filled}
 use Rattle.solar_masks.proofs.Calls.{cells_facts, cells_room}
 use Rattle.solar_masks.specs.Mask.{cell_mark, cells_refusal, cells_reply, mask_after}

@@ -1,5 +1,5 @@
 use Prim.Native.Nat.{ℕ}
-use Rattle.buffers.proofs.Refusal.{refused_leaves, accepted_leaves}
+use Rattle.buffers.proofs.Refusals.{refused_leaves, accepted_leaves}
 use Rattle.buffers.specs.Lent.{filled}
 use Rattle.solar_masks.proofs.Calls.{few_samples, cells_facts, cells_room, cells_said}
 use Rattle.solar_masks.specs.Mask.{cell_mark, cells_refusal, cells_reply, mask_after}

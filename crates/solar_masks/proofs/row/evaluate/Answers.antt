@@ -1,4 +1,4 @@
-use Rattle.buffers.proofs.Refusal.{refused_leaves, accepted_leaves}
+use Rattle.buffers.proofs.Refusals.{refused_leaves, accepted_leaves}
 use Rattle.solar_masks.proofs.Calls.{row_room}
 use Rattle.solar_roll.specs.Plan.{Plan, plan_of}
 use Rattle.solar_masks.specs.Row.{row_reply, row_mask_after, severities_after}

@@ -1,4 +1,4 @@
-use Rattle.buffers.proofs.Refusal.{refused_leaves, accepted_leaves, reply_accepted}
+use Rattle.buffers.proofs.Refusals.{refused_leaves, accepted_leaves, reply_accepted}
 use Rattle.solar_masks.proofs.Calls.{cells_facts, cells_room}
 use Rattle.solar_masks.proofs.NamedValues.{values_in_turn}
 use Rattle.solar_masks.specs.Mask.{ValuesInTurn, cells_reply, values_after}

@@ -9,7 +9,7 @@ use native.Mathlib.Omega.{arith}
 use borrow.Author.Rules.{rules}
 use lib.ListN.{length}
 use mathlib.Core.Path.{◌≡◌}
-use Rattle.buffers.proofs.Refusal.{reply_some}
+use Rattle.buffers.proofs.Refusals.{reply_some}
 use Rattle.solar_roll.proofs.cell.cell_roll.Goals as goal
 
 pub returns-then-refusal-ne0 : goal.returns-then-refusal-ne0

@@ -2,7 +2,7 @@ use mathlib.Core.Path.{◌≡◌, sym, ap, ◌∙◌}
 use Prim.Native.Nat.{ℕ}
 use lib.Dec.{lit<, lit≤}
 use Rattle.buffers.specs.Refusal.{accepted}
-use Rattle.buffers.proofs.Refusal.{reply_none}
+use Rattle.buffers.proofs.Refusals.{reply_none}
 use Rattle.solar_roll.specs.Plan.{Plan}
 use Rattle.solar_masks.specs.Mask.{cells_reply}
 use Rattle.solar_masks.proofs.Calls.{cells_below}

@@ -1,7 +1,7 @@
 -- `windows::expansion::expand` meets its contract. Assumes nothing.
 use Rattle.std.proofs.Common.{Bool, cond, sym, refl, ap, ◌∙◌, arith}
 use Rattle.buffers.specs.Lent.{over}
-use Rattle.buffers.proofs.Refusal.{refused_with, accepted_with, refused_leaves, accepted_leaves}
+use Rattle.buffers.proofs.Refusals.{refused_with, accepted_with, refused_leaves, accepted_leaves}
 use Rattle.windows.specs.Expand.{spans, expanded_in_order, expanded_reordered, expanded}
 use Rattle.windows.proofs.Refusals.{expand_accepted}
 use Rattle.windows.proofs.expansion.expand.Goals as goal

@@ -1,7 +1,7 @@
 -- `windows::listings::answer_of` meets its contract: each return is the number of the first condition that holds. Assumes nothing.
 use Rattle.std.proofs.Common.{ℕ, ◌<◌, ◌≤◌, sym, ◌∙◌, subst, arith, le-ltb, lt-ltb}
 use Rattle.buffers.proofs.Tests.{or_here, or_skip, or_none}
-use Rattle.buffers.proofs.Refusal.{refused_with, accepted_with}
+use Rattle.buffers.proofs.Refusals.{refused_with, accepted_with}
 use Rattle.windows.proofs.Refusals.{refuses_1, refuses_2, refuses_8, refuses_14, refuses_7, accepts}
 use Rattle.windows.proofs.listings.answer_of.Goals as goal
 

@@ -2,7 +2,7 @@
 use Rattle.std.proofs.Common.{◌≡◌, ℕ, zero, suc, sym, refl, ap, ◌∙◌, arith}
 use lib.Ieee.{Float}
 use Rattle.buffers.specs.Refusal.{refused, accepted, reply}
-use Rattle.buffers.proofs.Refusal.{reply_none, reply_some}
+use Rattle.buffers.proofs.Refusals.{reply_none, reply_some}
 use Rattle.windows.specs.Seconds.{reply_of_duration}
 use Rattle.windows.specs.declared.Duration.TheVariants.{Seconds, Refused}
 use Rattle.windows.proofs.seconds.total_violation_duration.Goals as goal

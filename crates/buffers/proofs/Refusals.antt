@@ -6,7 +6,10 @@ use Prim.Native.Nat.{ℕ, zero, suc, ◌<◌}
 use native.Mathlib.Omega.{arith}
 use lib.Dec.{ltb}
 use borrow.Author.Tests.{ne_eqb, ltb-true}
-use Rattle.buffers.specs.Refusal.{Conditions, first, carried, refused, accepted, reply, unless_refused, reply_of}
+use Rattle.std.specs.Prelude.{Ok, Err}
+use Rattle.buffers.specs.Refusal.{Conditions, first, carried, refused, accepted, reply, unless_refused, reply_of, number_of, replied}
+use Rattle.buffers.specs.declared.reasons.Refusal.{Refusal}
+use Rattle.buffers.specs.declared.reasons.Refusal.TheVariants as why
 use Rattle.buffers.proofs.Tests.{and_left, and_right}
 use Rattle.buffers.specs.declared.Answer.TheVariants.{Accepted, Refused}
 
@@ -117,3 +120,56 @@ refused_leaves (suc k) why n w b e h = (refused_with (suc k) why n (sym e) (omeg
 
 pub accepted_leaves : {A : Type 0} (k why n : ℕ) (written before now : A) → k ≡ why → k ≡ 0 → now ≡ written → (reply_of (Accepted n) ≡ reply why n) × (now ≡ unless_refused why written before)
 accepted_leaves k why n w b now e z q = (accepted_with n why n (sym e ∙ z) refl, q ∙ sym (written_none why w b (sym e ∙ z)))
+
+-- ---- the same of a result
+
+-- no refusal has the number 0
+pub number_positive : (e : Refusal) → 0 < number_of e
+number_positive (why.LengthsDoNotFit) = omega arith
+number_positive (why.TooLarge) = omega arith
+number_positive (why.RollCountOutOfRange) = omega arith
+number_positive (why.PositionOutOfRange) = omega arith
+number_positive (why.TargetOutOfRange) = omega arith
+number_positive (why.PanelOutOfRange) = omega arith
+number_positive (why.OutputTooShort) = omega arith
+number_positive (why.TimeOutOfRange) = omega arith
+number_positive (why.NoSuchIndex) = omega arith
+number_positive (why.ChunkHasLine) = omega arith
+number_positive (why.JournalNotRight) = omega arith
+number_positive (why.JournalTorn) = omega arith
+number_positive (why.JournalNotEmpty) = omega arith
+number_positive (why.SampleInvalid) = omega arith
+number_positive (why.ChunkLacksLine) = omega arith
+number_positive (why.RadecOutOfRange) = omega arith
+number_positive (why.ToleranceCountDiffers) = omega arith
+number_positive (why.RollTableLength) = omega arith
+number_positive (why.RollTableEntry) = omega arith
+number_positive (why.TargetNotUnit) = omega arith
+
+-- a step of a chain of tests, each of which gives a refusal or none: the refusal that it found is the chain's, or it found none and the rest decides
+pub found_here : (e : Refusal) (k : ℕ) (cs : Conditions) → number_of e ≡ k → number_of e ≡ first (carried k ∷ cs)
+found_here e k cs h =
+    let p : 0 < k = omega (arith, number_positive e, h) in
+    h ∙ sym (carried_here k cs p)
+
+pub found_none : (k n : ℕ) (cs : Conditions) → 0 ≡ k → n ≡ first cs → n ≡ first (carried k ∷ cs)
+found_none k n cs h e = e ∙ sym (carried_skip k cs (sym h))
+
+module _ {A : Type 0} where
+  -- a call answers with the refusal that was found, or, where none was, with its own answer
+  pub err_replied : (e : Refusal) (k : ℕ) (a : A) → number_of e ≡ k → replied (Err e) ≡ reply k a
+  err_replied e k a h =
+      let p : 0 < k = omega (arith, number_positive e, h) in
+      ap refused h ∙ sym (reply_some k a p)
+
+  pub ok_replied : (k : ℕ) (a b : A) → 0 ≡ k → a ≡ b → replied (Ok a) ≡ reply k b
+  ok_replied k a b h e = ap accepted e ∙ sym (reply_none k b (sym h))
+
+  -- what a lent list holds: what it held before, or what was written
+  pub err_unless : (e : Refusal) (k : ℕ) (written before : A) → number_of e ≡ k → before ≡ unless_refused k written before
+  err_unless e k w b h =
+      let p : 0 < k = omega (arith, number_positive e, h) in
+      sym (written_some k w b p)
+
+  pub ok_unless : (k : ℕ) (written before now : A) → 0 ≡ k → now ≡ written → now ≡ unless_refused k written before
+  ok_unless k w b now h e = e ∙ sym (written_none k w b (sym h))
