@@ -1,6 +1,7 @@
 -- By computation. Document 02's request Three: folds at and beside the ends of a turn, document 01's cells, and cells whose roll is folded. Request
 -- Seven: squared lengths at and beside the ends of the band, and what directions are refused by. Sizes and numbers at and beside their limits, and the order in which a
 -- plan is refused. Assumes nothing.
+use Rattle.std.specs.Prelude.{None}
 use mathlib.Core.Path.{◌≡◌, refl}
 use mathlib.Core.Bool.{true, false}
 use mathlib.Core.List.{[], ◌∷◌, ◌++◌}
@@ -17,7 +18,6 @@ use Rattle.solar_roll.specs.Roll.{x_hat, sun_unit, sun_along_boresight, panel_is
 use Rattle.solar_roll.specs.Cell.{optimal_roll, cell_reply, too_large, bad_position, bad_direction, UNIT_TOLERANCE, not_unit, any_not_unit, direction_refusal, numbers_refusal}
 use Rattle.solar_roll.specs.Plan.{plan_of, unlike_lengths, too_many, samples_refusal, samples_or_none_refusal, sizes_refusal, plan_refusal}
 use Rattle.solar_roll.specs.declared.cell.CellRoll.TheVariants.{Free, At, Refused}
-use Rattle.solar_roll.specs.declared.cell.ConfiguredRoll.TheVariants.{None}
 
 -- the number of a bit pattern
 abbrev f64 : ℕ → Float

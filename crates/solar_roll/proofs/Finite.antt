@@ -22,7 +22,7 @@ use Rattle.solar_roll.specs.Vectors.{Vector, x, y, z, vector, NEAR_ZERO, dot3, n
 use Rattle.solar_roll.specs.Roll.{x_hat, y_hat, z_hat, nine_tenths, sun_unit, panel_angle, perpendicular, pole_fallback, north, y_axis, z_axis, InTurn, roll_between, solar_optimal_roll_deg}
 use Rattle.solar_roll.specs.Cell.{LIMIT, too_large, bad_position, bad_direction, optimal_roll}
 use Rattle.solar_roll.specs.Plan.{Plan, triple, rows_of, times_of, row_direction, direction_of, row_panel, row_config, sun_at, optimal_at, PlanFacts}
-use Rattle.solar_roll.specs.declared.vectors.Normalized.{Normalized}
+use Rattle.std.specs.Prelude.{None, Some}
 use Rattle.solar_roll.specs.declared.cell.CellRoll.TheVariants.{At}
 use Rattle.solar_roll.proofs.PlanFacts.{Numbers}
 use Rattle.solar_roll.proofs.Cells.{at_optimal}
@@ -98,13 +98,7 @@ unwrapped : (v other : Vector) → unwrap_or (normalize3 v) other ≡ cond (le (
 unfolding unwrap_or normalize3
 unwrapped v other = go (le (norm3 v) NEAR_ZERO)
   where
-    none : Normalized
-    none = record { found = false; vector = vector zero·0 zero·0 zero·0 }
-
-    some : Normalized
-    some = record { found = true; vector = over3 v (norm3 v) }
-
-    go : (b : Bool) → unwrap_or (cond b none some) other ≡ cond b other (over3 v (norm3 v))
+    go : (b : Bool) → unwrap_or (cond b None (Some (over3 v (norm3 v)))) other ≡ cond b other (over3 v (norm3 v))
     go true = refl
     go false = refl
 

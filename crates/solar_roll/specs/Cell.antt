@@ -1,6 +1,6 @@
 -- Section 2: the answer of one cell, when a roll violates it, and what is refused of numbers: of four triples, or of a plan's flat lists. 20 is document
 -- 02's (Seven). Definitions only. Assumes nothing.
-use Rattle.std.specs.Prelude.{Bool, false, cond, not, ◌||◌, List, [], ◌∷◌, ℕ, Float}
+use Rattle.std.specs.Prelude.{Bool, false, cond, not, ◌||◌, List, [], ◌∷◌, ℕ, Float, Option, None, Some}
 use Rattle.std.specs.Float.{binary64}
 use Rattle.std.specs.Float.Ieee.{lt, le, of_bits}
 use Rattle.buffers.specs.Ranges.{any, any_below}
@@ -11,8 +11,6 @@ use Rattle.solar_roll.specs.Roll.{Axes, axis, sun_along_boresight, roll_is_uncon
 use Rattle.solar_roll.specs.declared.roll.Panel.{Panel}
 use Rattle.solar_roll.specs.declared.cell.CellRoll.{CellRoll}
 use Rattle.solar_roll.specs.declared.cell.CellRoll.TheVariants.{Free, At, Refused}
-use Rattle.solar_roll.specs.declared.cell.ConfiguredRoll.{ConfiguredRoll}
-use Rattle.solar_roll.specs.declared.cell.ConfiguredRoll.TheVariants.{None, Some}
 use Rattle.solar_roll.specs.declared.cell.EvaluationRoll.{EvaluationRoll}
 use Rattle.solar_roll.specs.declared.cell.EvaluationRoll.TheVariants.{Sweep, Fixed}
 
@@ -37,7 +35,7 @@ violates (At optimal) roll tolerance = lt tolerance (circular_diff_deg roll opti
 violates (Refused k) roll tolerance = false
 
 -- the roll that counts, of the one that is asked for and the one that is configured: a configured roll overrides Sweep, never Fixed
-unfoldable pub in_force : EvaluationRoll → ConfiguredRoll → Float
+unfoldable pub in_force : EvaluationRoll → Option Float → Float
 in_force (Sweep roll) None = roll
 in_force (Sweep roll) (Some configured) = configured
 in_force (Fixed roll) configured = roll

@@ -2,7 +2,7 @@
 -- a cell, document 01's word, is a row at a time. Everything above these definitions speaks of rows: a row's direction and settings are
 -- `direction_of` and `config_of`. A row's tolerance and panel are chosen from the plan's lists by `row_config` alone, which has the panel of
 -- `row_panel`; the configured roll is the whole plan's. Definitions only. Assumes nothing.
-use Rattle.std.specs.Prelude.{◌≡◌, Bool, false, cond, not, ◌||◌, ◌&&◌, List, [], ◌∷◌, ℕ, ◌*◌, ◌/◌, ◌%◌, ◌≤◌, eqb, leb, ltb, length, get_or, Float}
+use Rattle.std.specs.Prelude.{◌≡◌, Bool, false, cond, not, ◌||◌, ◌&&◌, List, [], ◌∷◌, ℕ, ◌*◌, ◌/◌, ◌%◌, ◌≤◌, eqb, leb, ltb, length, get_or, Float, Option}
 use Rattle.std.specs.Float.{nan}
 use Rattle.buffers.specs.Refusal.{first, carried}
 use Rattle.float.specs.Arithmetic.{zero·0}
@@ -12,9 +12,9 @@ unfoldable pub use Rattle.solar_roll.specs.Vectors.{count, triple}
 use Rattle.solar_roll.specs.Roll.{sun_unit, solar_optimal_roll_deg}
 use Rattle.solar_roll.specs.Cell.{optimal_roll, violates, in_force, bad_position, bad_direction, any_not_unit, numbers_refusal}
 use Rattle.solar_roll.specs.declared.cell.CellRoll.{CellRoll}
-use Rattle.solar_roll.specs.declared.cell.ConfiguredRoll.{ConfiguredRoll}
 use Rattle.solar_roll.specs.declared.cell.EvaluationRoll.TheVariants.{Sweep}
 use Rattle.solar_roll.specs.declared.plan.SolarRollConfig.{SolarRollConfig}
+use Rattle.solar_roll.specs.declared.plan.Plan.{Plan as LentPlan}
 
 -- flat lists of triples: the targets' directions, and of each time the Sun's and the observer's position; the tolerances, one a target; the
 -- configured roll; and the panels' normals, a flat list of triples, of which the first is every row's
@@ -23,13 +23,17 @@ pub record Plan : Type 0 where
   pub suns : List Float
   pub observers : List Float
   pub tolerances : List Float
-  pub configured : ConfiguredRoll
+  pub configured : Option Float
   pub panels : List Float
 
 -- the plan of what a call is lent
-abbrev pub plan_of : List Float → List Float → List Float → List Float → ConfiguredRoll → List Float → Plan
+abbrev pub plan_of : List Float → List Float → List Float → List Float → Option Float → List Float → Plan
 plan_of targets suns observers tolerances configured panels =
     record { targets = targets; suns = suns; observers = observers; tolerances = tolerances; configured = configured; panels = panels }
+
+-- the same of the struct that the calls are lent
+abbrev pub lent : LentPlan → Plan
+lent p = plan_of p.targets.now p.suns.now p.observers.now p.tolerances.now p.configured p.panels.now
 
 -- ---- rows, times and cells: cell number = row · times + time
 
@@ -53,7 +57,7 @@ unfoldable pub row_panel : List Float → ℕ → Vector
 unfolding triple
 row_panel panels r = triple panels 0
 
-unfoldable pub row_config : List Float → ConfiguredRoll → List Float → ℕ → SolarRollConfig
+unfoldable pub row_config : List Float → Option Float → List Float → ℕ → SolarRollConfig
 unfolding row_panel
 row_config tolerances configured panels r =
     record { tolerance_deg = get_or tolerances r nan; roll_deg = configured; panel_normal = row_panel panels r }
@@ -131,6 +135,13 @@ unfoldable pub sizes_refusal : ℕ → ℕ → ℕ → Bool → ℕ
 sizes_refusal targets suns observers beyond =
     first ((unlike_lengths targets suns observers || beyond, 1)
     ∷ (too_many (targets / 3) (suns / 3), 2)
+    ∷ [])
+
+-- what comes after the place of 3: what the lists hold, and 17: not one tolerance a target
+unfoldable pub lists_refusal : Plan → ℕ
+lists_refusal p =
+    first (carried (numbers_refusal p.targets p.suns p.observers p.panels)
+    ∷ (not (eqb (length p.tolerances) (count p.targets)), 17)
     ∷ [])
 
 -- *Plan*, 0 for none: the sizes, the number said in the place of 3, the numbers, and 17: not one tolerance a target

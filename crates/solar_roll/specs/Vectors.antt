@@ -1,11 +1,10 @@
 -- Vectors of three f64, as `[f64; 3]` holds them: the list of their components. The operations of solar_roll.rs, each step rounded once, in its
 -- order; and flat lists of triples. Definitions only. Assumes nothing.
-use Rattle.std.specs.Prelude.{true, false, cond, List, [], ◌∷◌, ℕ, ◌+◌, ◌*◌, ◌/◌, length, get_or, Float}
+use Rattle.std.specs.Prelude.{cond, List, [], ◌∷◌, ℕ, ◌+◌, ◌*◌, ◌/◌, length, get_or, Float, Option, None, Some}
 use Rattle.std.specs.Float.{nan, binary64}
 use Rattle.std.specs.Float.Ieee.{le, of_bits}
 use Rattle.float.specs.Root.{sqrt_of}
-use Rattle.float.specs.Arithmetic.{◌⊕◌, ◌⊖◌, ◌⊗◌, ◌⊘◌, zero·0}
-use Rattle.solar_roll.specs.declared.vectors.Normalized.{Normalized}
+use Rattle.float.specs.Arithmetic.{◌⊕◌, ◌⊖◌, ◌⊗◌, ◌⊘◌}
 
 -- three components, by x, y and z; a list that is shorter reads as NaN past its end
 abbrev pub Vector : Type 0
@@ -46,15 +45,13 @@ unfoldable pub over3 : Vector → Float → Vector
 over3 v n = vector (x v ⊘ n) (y v ⊘ n) (z v ⊘ n)
 
 -- v over its norm, or nothing where the norm is at most 1e-12
-unfoldable pub normalize3 : Vector → Normalized
-normalize3 v =
-    cond (le (norm3 v) NEAR_ZERO)
-    (record { found = false; vector = vector zero·0 zero·0 zero·0 })
-    (record { found = true; vector = over3 v (norm3 v) })
+unfoldable pub normalize3 : Vector → Option Vector
+normalize3 v = cond (le (norm3 v) NEAR_ZERO) None (Some (over3 v (norm3 v)))
 
 -- what was normalized, or the other vector where there is nothing
-unfoldable pub unwrap_or : Normalized → Vector → Vector
-unwrap_or v other = cond v.found v.vector other
+unfoldable pub unwrap_or : Option Vector → Vector → Vector
+unwrap_or None other = other
+unwrap_or (Some v) other = v
 
 -- ---- flat lists of triples: x, y and z of each vector, one after the other
 

@@ -1,7 +1,7 @@
 // One cell: a target at a time.
 ghost use Rattle.std.specs.Prelude.{◌≡◌, not, Float};
 ghost use Rattle.buffers.specs.Ranges.{any};
-ghost use Rattle.buffers.specs.Refusal.{reply};
+ghost use Rattle.buffers.specs.Refusal.{found, reply};
 ghost use Rattle.solar_roll.specs.Roll.{sun_unit, InTurn};
 ghost use Rattle.solar_roll.specs.Cell.{optimal_roll, free_or_at, roll_in, cell_reply, violates, in_force};
 ghost use Rattle.solar_roll.specs.declared.cell.CellRoll.TheVariants.{At};
@@ -11,6 +11,7 @@ use crate::roll::{
     Panel, circular_diff_deg, roll_deg_in, roll_is_unconstrained, solar_optimal_roll_deg,
     sun_along_boresight, sun_unit,
 };
+use buffers::Refusal;
 use float::abs;
 
 // The largest size of a position's or a panel's number.
@@ -18,13 +19,6 @@ const LIMIT: f64 = 1.0e100;
 
 // How far a direction's squared length may be from 1.
 const UNIT_TOLERANCE: f64 = 1.0e-9;
-
-// A roll that may be configured: the Rust's Option<f64>.
-#[derive(Clone, Copy)]
-pub enum ConfiguredRoll {
-    None,
-    Some(f64),
-}
 
 // A roll to evaluate at: one candidate of a sweep, or the one that is asked for.
 #[derive(Clone, Copy)]
@@ -34,7 +28,7 @@ pub enum EvaluationRoll {
 }
 
 // A cell's answer: document 01's Free, where no roll is better than another; At, with the optimal roll;
-// or the number of a refusal.
+// or the number of a refusal. The last is a case and no Err around the type, since `violated` has an answer for it too.
 #[derive(Clone, Copy)]
 pub enum CellRoll {
     Free,
@@ -86,14 +80,12 @@ pub fn violated(cell: CellRoll, roll_deg: f64, tolerance_deg: f64) -> bool
 }
 
 // The roll to evaluate at: a configured roll overrides Sweep, never Fixed.
-pub fn in_force(roll: EvaluationRoll, configured: ConfiguredRoll) -> f64
+#[tactic(auto, unfolding(crate::specs::Cell::in_force))]
+pub fn in_force(roll: EvaluationRoll, configured: Option<f64>) -> f64
     ensures { result ≡ in_force roll configured }
 {
     match roll {
-        EvaluationRoll::Sweep(candidate) => match configured {
-            ConfiguredRoll::None => candidate,
-            ConfiguredRoll::Some(roll_deg) => roll_deg,
-        },
+        EvaluationRoll::Sweep(candidate) => configured.unwrap_or(candidate),
         EvaluationRoll::Fixed(roll_deg) => roll_deg,
     }
 }
@@ -154,44 +146,50 @@ fn all_unit(targets: &[f64]) -> bool
     true
 }
 
-// 5 and 20 of directions, a flat list of triples; 0 for none. 5 is tried of them all before 20 of any.
-fn directions_refusal(targets: &[f64]) -> u64
-    ensures { result ≡ direction_refusal targets.now }
+// Of directions, a flat list of triples. 5 is tried of them all before 20 of any.
+#[tactic(auto, unfolding(crate::specs::Cell::direction_refusal, buffers::specs::Refusal::first, buffers::specs::Refusal::carried))]
+fn directions_refusal(targets: &[f64]) -> Result<(), Refusal>
+    ensures { found result ≡ direction_refusal targets.now }
 {
     if bad_direction(targets) {
-        return 5;
+        return Err(Refusal::TargetOutOfRange);
     }
-    if all_unit(targets) { 0 } else { 20 }
+    if all_unit(targets) {
+        Ok(())
+    } else {
+        Err(Refusal::TargetNotUnit)
+    }
 }
 
-// The number of the refusal of one direction, 0 for none.
+// The refusal of one direction.
 // Refuses 5, 20 (specs/Cell, `direction_refusal`).
-pub fn direction_refusal(target: [f64; 3]) -> u64
-    ensures { result ≡ direction_refusal target }
+pub fn direction_refusal(target: [f64; 3]) -> Result<(), Refusal>
+    ensures { found result ≡ direction_refusal target }
 {
     directions_refusal(&target)
 }
 
-// 4, 5, 20 and 6, of flat lists of triples; 0 for none.
+// 4, 5, 20 and 6, of flat lists of triples.
+#[tactic(auto, unfolding(crate::specs::Cell::numbers_refusal, buffers::specs::Refusal::first, buffers::specs::Refusal::carried))]
 pub(crate) fn numbers_refusal(
     targets: &[f64],
     suns: &[f64],
     observers: &[f64],
     panels: &[f64],
-) -> u64
-    ensures { result ≡ numbers_refusal targets.now suns.now observers.now panels.now }
+) -> Result<(), Refusal>
+    ensures { found result ≡ numbers_refusal targets.now suns.now observers.now panels.now }
 {
     if bad_position(suns) {
-        return 4;
+        return Err(Refusal::PositionOutOfRange);
     }
     if bad_position(observers) {
-        return 4;
+        return Err(Refusal::PositionOutOfRange);
     }
-    let refusal = directions_refusal(targets);
-    if refusal != 0 {
-        return refusal;
+    directions_refusal(targets)?;
+    if bad_position(panels) {
+        return Err(Refusal::PanelOutOfRange);
     }
-    if bad_position(panels) { 6 } else { 0 }
+    Ok(())
 }
 
 // The answer of one cell, given by its four triples.
@@ -206,9 +204,8 @@ pub fn cell_roll(
         (optimal_roll target (sun_unit sun observer) panel_normal) }
     ensures in_turn { (roll : Float) → result ≡ At roll → InTurn roll }
 {
-    let refusal = numbers_refusal(&target, &sun, &observer, &panel_normal);
-    if refusal != 0 {
-        return CellRoll::Refused(refusal);
+    match numbers_refusal(&target, &sun, &observer, &panel_normal) {
+        Ok(()) => optimal_roll(target, sun_unit(sun, observer), panel_normal),
+        Err(refusal) => CellRoll::Refused(refusal.number()),
     }
-    optimal_roll(target, sun_unit(sun, observer), panel_normal)
 }

@@ -9,12 +9,11 @@ mod units;
 mod vectors;
 
 pub use cell::{
-    CellRoll, ConfiguredRoll, EvaluationRoll, cell_roll, direction_refusal, free_or_at, in_force,
-    roll_in, violated,
+    CellRoll, EvaluationRoll, cell_roll, direction_refusal, free_or_at, in_force, roll_in, violated,
 };
 pub use plan::{
-    MOST_CELLS, MOST_ROWS, MOST_SAMPLES, MOST_TIMES, SolarRollConfig, direction, panel_at,
-    plan_refusal, row_config, samples_or_none_refusal, samples_refusal, too_many, triple,
+    MOST_CELLS, MOST_ROWS, MOST_SAMPLES, MOST_TIMES, Plan, SolarRollConfig,
+    samples_or_none_refusal, samples_refusal, too_many, triple,
 };
 pub use roll::{
     Panel, body_axes, circular_diff_deg, panel_of, roll_is_unconstrained, rolls_deg_in,

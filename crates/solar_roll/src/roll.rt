@@ -7,7 +7,7 @@ ghost use Rattle.float.specs.Arithmetic.{full_turn, finite};
 ghost use Rattle.solar_roll.specs.Vectors.{dot3};
 ghost use Rattle.solar_roll.specs.Roll.{sun_unit, sun_along_boresight, panel_is_free, panel_of, roll_is_unconstrained, perpendicular, pole_fallback, north, body_axes, InTurn, roll_between, roll_deg_in, solar_optimal_roll_deg, arc, circular_diff_deg};
 
-use crate::vectors::{NEAR_ZERO, cross3, dot3, norm3, normalize3, over3, unwrap_or};
+use crate::vectors::{NEAR_ZERO, cross3, dot3, norm3, normalize3, over3};
 use buffers::smaller;
 use float::{abs, atan2, atan2_each, rem_euclid_turn, sqrt, to_degrees};
 
@@ -88,23 +88,24 @@ fn pole_fallback(x: [f64; 3]) -> [f64; 3]
 }
 
 // Celestial north, projected onto the plane perpendicular to x.
+#[tactic(auto, unfolding(crate::specs::Roll::north, crate::specs::Vectors::unwrap_or))]
 fn north(x: [f64; 3]) -> [f64; 3]
     ensures { result ≡ north x }
 {
-    let projected = normalize3(perpendicular(x, [0.0, 0.0, 1.0]));
-    if projected.found {
-        return projected.vector;
+    if let Some(projected) = normalize3(perpendicular(x, [0.0, 0.0, 1.0])) {
+        return projected;
     }
     let raw = perpendicular(x, pole_fallback(x));
-    unwrap_or(normalize3(raw), [0.0, 1.0, 0.0])
+    normalize3(raw).unwrap_or([0.0, 1.0, 0.0])
 }
 
 // The north-referenced body frame: x is the boresight, y = north × x, z recomputed from them.
+#[tactic(auto, unfolding(crate::specs::Roll::body_axes, crate::specs::Roll::y_axis, crate::specs::Vectors::unwrap_or, crate::specs::Vectors::cross3))]
 pub fn body_axes(target: [f64; 3]) -> [[f64; 3]; 3]
     ensures { result ≡ body_axes target }
 {
     let y_raw = cross3(north(target), target);
-    let y_axis = unwrap_or(normalize3(y_raw), [0.0, 1.0, 0.0]);
+    let y_axis = normalize3(y_raw).unwrap_or([0.0, 1.0, 0.0]);
     let z_axis = cross3(target, y_axis);
     [target, y_axis, z_axis]
 }

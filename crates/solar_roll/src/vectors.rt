@@ -1,6 +1,6 @@
 // Vectors of three f64, by value.
 ghost use Rattle.std.specs.Prelude.{◌≡◌};
-ghost use Rattle.solar_roll.specs.Vectors.{dot3, norm3, cross3, over3, normalize3, unwrap_or};
+ghost use Rattle.solar_roll.specs.Vectors.{dot3, norm3, cross3, over3, normalize3};
 
 use float::sqrt;
 
@@ -35,36 +35,15 @@ pub fn over3(v: [f64; 3], n: f64) -> [f64; 3]
     [v[0] / n, v[1] / n, v[2] / n]
 }
 
-// A vector that may be missing: the Rust's Option<[f64; 3]>, as an enum cannot hold an array.
-#[derive(Clone, Copy)]
-pub struct Normalized {
-    pub found: bool,
-    pub vector: [f64; 3],
-}
-
-pub fn normalize3(v: [f64; 3]) -> Normalized
+// v over its norm, if that is not too small.
+#[tactic(auto, unfolding(crate::specs::Vectors::normalize3))]
+pub fn normalize3(v: [f64; 3]) -> Option<[f64; 3]>
     ensures { result ≡ normalize3 v }
 {
     let n = norm3(v);
     if n <= NEAR_ZERO {
-        let none = [0.0, 0.0, 0.0];
-        Normalized {
-            found: false,
-            vector: none,
-        }
+        None
     } else {
-        let unit = over3(v, n);
-        Normalized {
-            found: true,
-            vector: unit,
-        }
+        Some(over3(v, n))
     }
-}
-
-pub fn unwrap_or(v: Normalized, other: [f64; 3]) -> [f64; 3]
-    ensures { result ≡ unwrap_or v other }
-{
-    let found = v.found;
-    let vector = v.vector;
-    if found { vector } else { other }
 }

@@ -1,32 +1,36 @@
+use Rattle.std.specs.Prelude.{◌≡◌}
 use Rattle.buffers.specs.Refusal.{reply}
+use Rattle.buffers.proofs.Refusals.{err_replied}
 use Rattle.solar_roll.proofs.Cells.{answered, refused_not_at}
 use Rattle.solar_roll.proofs.PlanFacts.{numbers}
 use Rattle.solar_roll.proofs.Finite.{answer_range}
 use Rattle.solar_roll.specs.Vectors.{Vector}
 use Rattle.solar_roll.specs.Cell.{optimal_roll, cell_reply}
 use mathlib.Core.Path.{sym, ap, ◌∙◌}
-use native.Mathlib.Omega.{arith}
 use borrow.Author.Rules.{rules}
 use lib.ListN.{length}
-use mathlib.Core.Path.{◌≡◌}
-use Rattle.buffers.proofs.Refusals.{reply_some}
 use Rattle.solar_roll.proofs.cell.cell_roll.Goals as goal
 
-pub returns-then-refusal-ne0 : goal.returns-then-refusal-ne0
-unfolding cell_reply
-returns-then-refusal-ne0 c = record {
-  result_value = rw (← c.numbers_refusal-refusal.ensures) (sym (reply_some _ _ (omega arith)));
-  in_turn = λ roll e. absurd (refused_not_at _ roll e);
-}
+pub returns-in-Ok-clause-result_value : goal.returns-in-Ok-clause-result_value
+unfolding reply
+returns-in-Ok-clause-result_value c = let a = c.args in
+    let accepted = sym c.in-Ok.ensures in
+    let answer = c.optimal_roll.ensures ∙ ap (λ (unit : Vector). optimal_roll a.target unit a.panel_normal) c.sun_unit.ensures in
+    simp (accepted, answer, answered)
 
-pub returns : goal.returns
-unfolding cell_reply reply
-returns c = let a = c.args in
-    let accepted = sym c.numbers_refusal-refusal.ensures ∙ c.if-refusal-ne0.false in
+pub returns-in-Ok-clause-in_turn : goal.returns-in-Ok-clause-in_turn
+returns-in-Ok-clause-in_turn c = let a = c.args in
+    let accepted = sym c.in-Ok.ensures in
     let answer = c.optimal_roll.ensures ∙ ap (λ (unit : Vector). optimal_roll a.target unit a.panel_normal) c.sun_unit.ensures in
     let target_length : length a.target ≡ 3 = search rules in
     let sun_length : length a.sun ≡ 3 = search rules in
     let observer_length : length a.observer ≡ 3 = search rules in
     let normal_length : length a.panel_normal ≡ 3 = search rules in
-    let range = answer_range _ _ _ _ (numbers _ _ _ _ accepted) target_length sun_length observer_length normal_length in
-    record { result_value = simp (accepted, answer, answered); in_turn = λ roll e. range roll (sym answer ∙ e) }
+    λ roll e. answer_range _ _ _ _ (numbers _ _ _ _ accepted) target_length sun_length observer_length normal_length roll (sym answer ∙ e)
+
+pub returns-in-Err-clause-result_value : goal.returns-in-Err-clause-result_value
+unfolding cell_reply
+returns-in-Err-clause-result_value c = rw c.number.ensures (err_replied c.in-Err.refusal _ _ c.in-Err.ensures)
+
+pub returns-in-Err-clause-in_turn : goal.returns-in-Err-clause-in_turn
+returns-in-Err-clause-in_turn c = λ roll e. absurd (refused_not_at _ roll e)
