@@ -2,6 +2,7 @@
 use mathlib.Core.Path.{◌≡◌, sym, ap, ap₂, ◌∙◌}
 use mathlib.Core.Bool.{Bool}
 use mathlib.Core.List.{List, []}
+use Rattle.std.specs.Prelude.{Option, None, Some}
 use Prim.Native.Nat.{ℕ, ◌+◌, ◌*◌, ◌/◌, ◌%◌, ◌≤◌, ◌<◌}
 use native.Mathlib.Nat.{mod-lt, div-add-mod'}
 use native.Mathlib.Omega.{arith}
@@ -16,8 +17,6 @@ use Rattle.solar_roll.specs.Roll.{body_axes, panel_of}
 use Rattle.solar_roll.specs.Cell.{roll_in, violates, in_force}
 use Rattle.solar_roll.specs.Plan.{Plan, times_of, row_direction, row_config, sun_at, cell_of, violates_at}
 use Rattle.solar_roll.specs.declared.plan.SolarRollConfig.{SolarRollConfig}
-use Rattle.solar_roll.specs.declared.cell.ConfiguredRoll.{ConfiguredRoll}
-use Rattle.solar_roll.specs.declared.cell.ConfiguredRoll.TheVariants.{None, Some}
 use Rattle.solar_roll.proofs.Cells.{roll_shared}
 use Rattle.roll_sweep.specs.Chunk.{violates_by, sample_roll, swept_by}
 use Rattle.roll_sweep.proofs.SweptCells.{swept_ext}
@@ -48,7 +47,7 @@ unit_of_cell p units c w k few size e h =
     ap (λ (n : ℕ). get_or units n []) place ∙ entry w (λ j. sun_at p ((64 * c + j) % times_of p)) units [] k e h
 
 -- m cells, from the k-th of those from number first on, that lie in one row, and their Sun's units one after the other in the table
-pub row_swept : (targets tolerances : List Float) (configured : ConfiguredRoll) (panels rolls : List Float) (units : List Vector) (times first k m w : ℕ) → w ≡ m
+pub row_swept : (targets tolerances : List Float) (configured : Option Float) (panels rolls : List Float) (units : List Vector) (times first k m w : ℕ) → w ≡ m
     → (first + k) % times + m ≤ times → (first + k) % length units + m ≤ length units
     → let r : ℕ = (first + k) / times in
     let config : SolarRollConfig = row_config tolerances configured panels r in
@@ -75,10 +74,10 @@ row_swept targets tolerances configured panels rolls units times first k m w e a
     ap₂ (λ (r : ℕ) (x : Vector). at r x s) (sym row) (unit ∙ ap (λ (n : ℕ). get_or units n []) (sym place)))
 
 -- a configured roll stands for every sample; without one a sample is in force itself
-pub configured_same : (configured : ConfiguredRoll) (c : Float) (rolls : List Float) (k : ℕ) → configured ≡ Some c → sample_roll rolls configured k ≡ c
+pub configured_same : (configured : Option Float) (c : Float) (rolls : List Float) (k : ℕ) → configured ≡ Some c → sample_roll rolls configured k ≡ c
 unfolding in_force
 configured_same configured c rolls k e = rw e
 
-pub unconfigured : (configured : ConfiguredRoll) (rolls : List Float) (k : ℕ) → configured ≡ None → sample_roll rolls configured k ≡ get_or rolls k nan
+pub unconfigured : (configured : Option Float) (rolls : List Float) (k : ℕ) → configured ≡ None → sample_roll rolls configured k ≡ get_or rolls k nan
 unfolding in_force
 unconfigured configured rolls k e = rw e

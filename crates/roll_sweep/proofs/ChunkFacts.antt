@@ -1,21 +1,17 @@
 -- What is known of a chunk whose sweep is not refused, and that a chunk of an accepted plan is not. Assumes nothing.
-use mathlib.Core.Path.{◌≡◌, refl, sym, ap, ◌∙◌}
+use mathlib.Core.Path.{◌≡◌, refl, ◌∙◌}
 use mathlib.Core.Bool.{Bool, true, false, cond, ◌&&◌}
 use Prim.Native.Nat.{ℕ, zero, suc, ◌+◌, ◌*◌, ◌≤◌, ◌<◌}
 use native.Mathlib.Omega.{arith}
 use lib.Dec.{eqb, leb, lit<}
 use borrow.Author.Tests.{eqb-false, leb-true, leb-false, ne_eqb, lt-leb, le-leb}
-use Rattle.buffers.specs.Refusal.{accepted}
 use Rattle.buffers.proofs.Refusals.{first_none, first_skip, first_clear, carried_skip, carried_clear}
 use Rattle.buffers.proofs.Tests.{and_left, and_right}
 use Rattle.buffers.proofs.Rows.{some_time}
 use Rattle.solar_roll.specs.Plan.{Plan, rows_of, times_of, most_rows, most_times, most_cells, most_samples, too_many, samples_refusal, PlanFacts}
 use Rattle.solar_roll.proofs.PlanFacts.{few, not_too_many, few_of_plan}
 use Rattle.roll_sweep.specs.Sweep.{chunks, cells_in}
-use Rattle.roll_sweep.specs.Chunk.{chunk_refusal, chunk_reply}
-use Rattle.roll_sweep.specs.declared.chunk.Swept.{Swept}
-use Rattle.roll_sweep.specs.declared.chunk.ChunkAnswer.{ChunkAnswer}
-use Rattle.roll_sweep.specs.declared.chunk.ChunkAnswer.TheVariants.{Accepted, Refused}
+use Rattle.roll_sweep.specs.Chunk.{chunk_refusal}
 
 pub record ChunkFacts (rows times units samples c : ℕ) : Type 0 where
   pub some_unit : 0 < units
@@ -93,18 +89,3 @@ chunk_accepted p units samples c f u s h =
     ∙ carried_skip _ _ s
     ∙ first_skip _ _ _ (lt-leb _ _ h)
     ∙ first_none
-
--- ---- the answer of a chunk that is not refused
-
-pub answer_swept : (a : ChunkAnswer) (x s : Swept) → chunk_reply a ≡ accepted x → a ≡ Accepted s → s ≡ x
-unfolding chunk_reply
-answer_swept a x s h q =
-    let z : chunk_reply (Accepted s) ≡ accepted x = sym (ap chunk_reply q) ∙ h in
-    cc
-
-pub answer_never : (a : ChunkAnswer) (j : ℕ) (x : Swept) → chunk_reply a ≡ accepted x → a ≡ Refused j → ⊥
-unfolding chunk_reply
-answer_never a j x h q =
-    let z : chunk_reply (Refused j) ≡ accepted x = sym (ap chunk_reply q) ∙ h in
-    let o : ◌≡◌ {A = ℕ} 0 1 = cc in
-    omega arith

@@ -2,16 +2,16 @@
 ghost use Rattle.std.specs.Prelude.{◌≡◌, Bool, [], ℕ, ◌+◌, ◌-◌, ◌*◌, ◌≤◌, ◌<◌, length, get_or, Float};
 ghost use Rattle.std.specs.Int.Count.{ones};
 ghost use Rattle.std.specs.Float.{nan};
+ghost use Rattle.buffers.specs.Refusal.{found, replied};
 ghost use Rattle.solar_roll.specs.Cell.{roll_in, violates};
-ghost use Rattle.solar_roll.specs.Plan.{most_times, most_cells, most_samples};
+ghost use Rattle.solar_roll.specs.Plan.{Plan as PlanOf, lent, most_times, most_cells, most_samples};
 ghost use Rattle.solar_roll.specs.declared.cell.CellRoll.{CellRoll};
 ghost use Rattle.roll_sweep.specs.Sweep.{cells_in};
-ghost use Rattle.roll_sweep.specs.Chunk.{violates_by, sample_roll, swept_by, chunk_refusal, chunk_reply, swept_reply};
+ghost use Rattle.roll_sweep.specs.Chunk.{violates_by, sample_roll, swept_by, chunk_refusal, swept_reply};
 
-use buffers::smaller;
+use buffers::Refusal;
 use solar_roll::{
-    ConfiguredRoll, MOST_CELLS, MOST_ROWS, MOST_TIMES, Panel, body_axes, direction, free_or_at,
-    panel_at, rolls_deg_in, row_config, samples_refusal, violated,
+    Panel, Plan, body_axes, free_or_at, rolls_deg_in, samples_refusal, too_many, violated,
 };
 
 // What the sweep of cells gives: bit k of the mask is cell k, set where every sample violates it;
@@ -20,13 +20,6 @@ use solar_roll::{
 pub struct Swept {
     pub mask: u64,
     pub probes: u64,
-}
-
-// What the sweep of a chunk gives, or document 01's number of the refusal.
-#[derive(Clone, Copy)]
-pub enum ChunkAnswer {
-    Accepted(Swept),
-    Refused(u64),
 }
 
 // How many of the cells a chunk holds.
@@ -79,23 +72,20 @@ fn sweep_row(
 // out once, and the panel, which the rows share, once for all. The Sun's unit of cell i is entry i % L of a table of L
 // units: of all times, or of one chunk's 64 cells.
 fn sweep_cells(
-    targets: &[f64],
+    plan: &Plan,
     times: usize,
     units: &[[f64; 3]],
-    tolerances: &[f64],
-    configured: ConfiguredRoll,
-    panels: &[f64],
     rolls: &[f64],
     first: usize,
     cells: usize,
 ) -> Swept
     requires { (cells ≤ 64) × (length rolls.now ≤ most_samples) × (0 < times) × (times ≤ most_times) × (0 < length units.now)
         × (first + cells ≤ most_cells) }
-    ensures { let violated : ℕ → Float → Bool = violates_by targets.now times units.now
-        tolerances.now configured panels.now in
+    ensures { let p : PlanOf = lent plan.now in
+        let violated : ℕ → Float → Bool = violates_by p.targets times units.now p.tolerances p.configured p.panels in
         result ≡ swept_by cells (length rolls.now) (λ k s. violated (first + k) (get_or rolls.now s nan)) }
 {
-    let panel = panel_at(panels, first / times);
+    let panel = plan.panel_at(first / times);
     let mut mask: u64 = 0;
     let mut probes: u64 = 0;
     let mut k = 0;
@@ -103,9 +93,9 @@ fn sweep_cells(
         let row = (first + k) / times;
         let left = times - (first + k) % times;
         let start = (first + k) % units.len();
-        let count = smaller(smaller(left, cells - k), units.len() - start);
-        let axes = body_axes(direction(targets, row));
-        let settings = row_config(tolerances, configured, panels, row);
+        let count = left.min(cells - k).min(units.len() - start);
+        let axes = body_axes(plan.direction(row));
+        let settings = plan.row_config(row);
         let part = sweep_row(
             axes,
             &units[start..start + count],
@@ -135,87 +125,70 @@ fn repeated(one: Swept, n: usize) -> Swept
 
 // Sweeps cells as `sweep_cells` does, over samples. A configured roll stands for every sample, so it is tried once for all.
 fn sweep_samples(
-    targets: &[f64],
+    plan: &Plan,
     times: usize,
     units: &[[f64; 3]],
-    tolerances: &[f64],
-    configured: ConfiguredRoll,
-    panels: &[f64],
     rolls: &[f64],
     first: usize,
     cells: usize,
 ) -> Swept
     requires { (cells ≤ 64) × (length rolls.now ≤ most_samples) × (0 < times) × (times ≤ most_times) × (0 < length units.now)
         × (first + cells ≤ most_cells) × (1 ≤ length rolls.now) }
-    ensures { let violated : ℕ → Float → Bool = violates_by targets.now times units.now
-        tolerances.now configured panels.now in
-        result ≡ swept_by cells (length rolls.now) (λ k s. violated (first + k) (sample_roll rolls.now configured s)) }
+    ensures { let p : PlanOf = lent plan.now in
+        let violated : ℕ → Float → Bool = violates_by p.targets times units.now p.tolerances p.configured p.panels in
+        result ≡ swept_by cells (length rolls.now) (λ k s. violated (first + k) (sample_roll rolls.now p.configured s)) }
 {
-    match configured {
-        ConfiguredRoll::None => sweep_cells(
-            targets, times, units, tolerances, configured, panels, rolls, first, cells,
-        ),
-        ConfiguredRoll::Some(roll_deg) => {
-            let one = [roll_deg];
-            let tried = sweep_cells(
-                targets, times, units, tolerances, configured, panels, &one, first, cells,
-            );
+    match plan.configured {
+        None => sweep_cells(plan, times, units, rolls, first, cells),
+        Some(roll_deg) => {
+            let tried = sweep_cells(plan, times, units, &[roll_deg], first, cells);
             repeated(tried, rolls.len())
         }
     }
 }
 
-// The number of the first refusal of a chunk's sweep, 0 for none.
-fn chunk_refusal(rows: usize, times: usize, units: usize, samples: usize, chunk: u64) -> u64
-    ensures { result ≡ chunk_refusal rows times units samples chunk }
+// The first refusal of a chunk's sweep.
+#[tactic(auto, unfolding(crate::specs::Chunk::chunk_refusal, crate::specs::Sweep::chunks, buffers::specs::Refusal::first, buffers::specs::Refusal::carried))]
+fn chunk_refusal(
+    rows: usize,
+    times: usize,
+    units: usize,
+    samples: usize,
+    chunk: u64,
+) -> Result<(), Refusal>
+    ensures { found result ≡ chunk_refusal rows times units samples chunk }
 {
     if units == 0 {
-        return 1;
+        return Err(Refusal::LengthsDoNotFit);
     }
-    if MOST_ROWS < rows {
-        return 2;
+    if too_many(rows, times) {
+        return Err(Refusal::TooLarge);
     }
-    if MOST_TIMES < times {
-        return 2;
-    }
+    samples_refusal(samples as u64)?;
     let cells = rows * times;
-    if MOST_CELLS < cells {
-        return 2;
-    }
-    let said = samples_refusal(samples as u64);
-    if said != 0 {
-        return said;
-    }
     if (cells + 63) / 64 <= chunk as usize {
-        return 9;
+        return Err(Refusal::NoSuchIndex);
     }
-    0
+    Ok(())
 }
 
-// Sweeps a chunk: cells 64 · chunk to 64 · chunk + 63, the last chunk perhaps fewer. The Sun's unit of cell i is entry
-// i % L of the L units that are lent: those of all times, for chunk after chunk, or those of this chunk's cells.
+// Sweeps a chunk: cells 64 · chunk to 64 · chunk + 63, the last chunk perhaps fewer. The plan's positions are not looked
+// at: the Sun's unit of cell i is entry i % L of the L units that are lent, those of all times, for chunk after chunk, or
+// those of this chunk's cells.
 // Refuses 1, 2, 3, 9 (specs/Chunk, `chunk_refusal`).
 pub fn sweep_chunk(
-    targets: &[f64],
+    plan: &Plan,
     times: usize,
     units: &[[f64; 3]],
-    tolerances: &[f64],
-    configured: ConfiguredRoll,
-    panels: &[f64],
     rolls: &[f64],
     chunk: u64,
-) -> ChunkAnswer
-    ensures { chunk_reply result ≡ swept_reply targets.now times units.now tolerances.now configured panels.now
-        rolls.now chunk }
+) -> Result<Swept, Refusal>
+    ensures { let p : PlanOf = lent plan.now in
+        replied result ≡ swept_reply p.targets times units.now p.tolerances p.configured p.panels rolls.now chunk }
 {
-    let rows = targets.len() / 3;
-    let refusal = chunk_refusal(rows, times, units.len(), rolls.len(), chunk);
-    if refusal != 0 {
-        return ChunkAnswer::Refused(refusal);
-    }
+    let rows = plan.rows();
+    chunk_refusal(rows, times, units.len(), rolls.len(), chunk)?;
     let first = 64 * chunk as usize;
     let cells = cells_in((rows * times) as u64, chunk) as usize;
-    ChunkAnswer::Accepted(sweep_samples(
-        targets, times, units, tolerances, configured, panels, rolls, first, cells,
-    ))
+    Ok(sweep_samples(plan, times, units, rolls, first, cells))
 }

@@ -4,5 +4,5 @@
 mod chunk;
 mod rolls;
 
-pub use chunk::{ChunkAnswer, Swept, cells_in, sweep_chunk};
+pub use chunk::{Swept, cells_in, sweep_chunk};
 pub use rolls::{even_rolls, table_refusal};

@@ -1,8 +1,10 @@
 // The samples of a sweep: even ones, and a lent table.
 ghost use Rattle.std.specs.Prelude.{◌≡◌, min, ◌<◌, length};
 ghost use Rattle.buffers.specs.Lent.{filled};
+ghost use Rattle.buffers.specs.Refusal.{found};
 ghost use Rattle.roll_sweep.specs.Rolls.{even_roll, bad_roll, table_refusal};
 
+use buffers::Refusal;
 use solar_roll::MOST_SAMPLES;
 
 // How many of n samples a table of this length holds.
@@ -44,23 +46,21 @@ fn bad_roll(rolls: &[f64], k: usize) -> bool
     true
 }
 
-// The number said of a table of rolls in the place of 3, 0 for none.
+// What is said of a table of rolls in the place of 3.
 // Refuses 18, 19 (specs/Rolls, `table_refusal`).
-pub fn table_refusal(rolls: &[f64]) -> u64
-    ensures { result ≡ table_refusal rolls.now }
+pub fn table_refusal(rolls: &[f64]) -> Result<(), Refusal>
+    ensures { found result ≡ table_refusal rolls.now }
 {
-    if rolls.len() == 0 {
-        return 18;
+    if rolls.is_empty() {
+        return Err(Refusal::RollTableLength);
     }
     if MOST_SAMPLES < rolls.len() {
-        return 18;
+        return Err(Refusal::RollTableLength);
     }
-    let mut k = 0;
-    while k < rolls.len() {
+    for k in 0..rolls.len() {
         if bad_roll(rolls, k) {
-            return 19;
+            return Err(Refusal::RollTableEntry);
         }
-        k += 1;
     }
-    0
+    Ok(())
 }

@@ -1,45 +1,45 @@
 -- `sweep_chunk`: a chunk that is not refused has its cells among those of the rows and times. Assumes nothing.
-use Prim.Native.Nat.{ℕ, ◌+◌, ◌*◌, ◌^◌, ◌<◌}
-use mathlib.Core.Path.{sym, ap, ◌∙◌}
+use Prim.Native.Nat.{ℕ, ◌+◌, ◌*◌}
+use mathlib.Core.Path.{◌≡◌, sym, ap, ◌∙◌}
 use native.Mathlib.Omega.{arith}
+use borrow.Author.Rules.{rules}
 use lib.ListN.{length}
-use Rattle.buffers.specs.Refusal.{accepted}
-use Rattle.buffers.proofs.Refusals.{reply_none, reply_some}
-use Rattle.solar_roll.specs.Plan.{count}
-use Rattle.roll_sweep.specs.Chunk.{violates_by, sample_roll, swept_by, chunk_reply}
-use Rattle.roll_sweep.proofs.ChunkFacts.{ChunkFacts, chunk_facts, Held, held, first_below}
+use Rattle.std.specs.Prelude.{Err}
+use Rattle.buffers.proofs.Refusals.{err_replied, ok_replied}
+use Rattle.solar_roll.specs.Plan.{Plan, lent}
+use Rattle.roll_sweep.specs.Chunk.{violates_by, sample_roll, swept_by}
+use Rattle.roll_sweep.proofs.ChunkFacts.{ChunkFacts, chunk_facts, held, first_below}
 use Rattle.roll_sweep.proofs.chunk.sweep_chunk.Goals as goal
-use Rattle.roll_sweep.proofs.chunk.sweep_chunk.Goals.{After-cells_in-cells, Else-refusal-ne0}
+use Rattle.roll_sweep.proofs.chunk.sweep_chunk.Goals.{In_ok-chunk_refusal}
 
-facts : (c : Else-refusal-ne0) →
+facts : (c : In_ok-chunk_refusal) →
     let a = c.args in
-    ChunkFacts (count a.targets.now) a.times (length a.units.now) (length a.rolls.now) a.chunk
-facts c = chunk_facts _ _ _ _ _ (sym c.chunk_refusal-refusal.ensures ∙ c.if-refusal-ne0.false)
+    ChunkFacts c.rows-rows.result a.times (length a.units.now) (length a.rolls.now) a.chunk
+facts c = chunk_facts _ _ _ _ _ (sym c.in_ok-chunk_refusal.ensures)
 
-cells_held : (c : After-cells_in-cells) →
-    let a = c.args in
-    Held (count a.targets.now) a.times a.chunk c.cells_in-cells.result
-cells_held c = held _ _ _ _ _ _ ((let facts : let a = c.args in ChunkFacts (count a.targets.now) a.times (length a.units.now) (length a.rolls.now) a.chunk = chunk_facts _ _ _ _ _ (sym c.chunk_refusal-refusal.ensures ∙ c.if-refusal-ne0.false) in facts)) c.cells_in-cells.ensures
-
-pub returns-then-refusal-ne0 : goal.returns-then-refusal-ne0
-unfolding chunk_reply
-returns-then-refusal-ne0 c = rw (← c.chunk_refusal-refusal.ensures) (sym (reply_some _ _ (omega arith)))
+pub returns-in_err-chunk_refusal : goal.returns-in_err-chunk_refusal
+returns-in_err-chunk_refusal c =
+    let e : c.from_residual.result ≡ Err c.in_err-chunk_refusal.field-0.0 = search rules in
+    rw (e, ← c.rows-rows.ensures) (err_replied _ _ _ c.in_err-chunk_refusal.ensures)
 
 pub overflow_mul-first : goal.overflow_mul-first
-overflow_mul-first c = let l : 64 * c.args.chunk < 2 ^ 64 = omega (arith, first_below (facts (goal.at.overflow_mul-first c).Else-refusal-ne0), (facts (goal.at.overflow_mul-first c).Else-refusal-ne0).few_cells) in
-    record { fits = l }
+overflow_mul-first c =
+    let f = facts c in
+    record { fits = omega (arith, first_below f, f.few_cells) }
 
 pub overflow_mul-rows : goal.overflow_mul-rows
-overflow_mul-rows c = record { fits = omega (arith, (facts (goal.at.overflow_mul-rows c).Else-refusal-ne0).few_cells) }
+overflow_mul-rows c = record { fits = omega (arith, (facts c).few_cells) }
 
 pub sweep_samples-requires : goal.sweep_samples-requires
-sweep_samples-requires c = let f = facts (goal.at.sweep_samples-requires c).Else-refusal-ne0 in
-    let h = cells_held (goal.at.sweep_samples-requires c).After-cells_in-cells in
+sweep_samples-requires c =
+    let f = facts (goal.at.sweep_samples-requires c).In_ok-chunk_refusal in
+    let h = held _ _ _ _ _ _ f c.cells_in-cells.ensures in
     (h.few, f.most, h.positive, f.few_times, f.some_unit, h.within, f.one)
 
 pub returns : goal.returns
-unfolding chunk_reply
-returns c = let a = c.args in
-    sym (reply_none _ _ (sym c.chunk_refusal-refusal.ensures ∙ c.if-refusal-ne0.false)
-    ∙ ap accepted (sym (c.sweep_samples.ensures
-    ∙ ap (λ (w : ℕ). swept_by w (length a.rolls.now) (λ k s. violates_by a.targets.now a.times a.units.now a.tolerances.now a.configured a.panels.now (64 * a.chunk + k) (sample_roll a.rolls.now a.configured s))) (cells_held (goal.at.returns c).After-cells_in-cells).whole)))
+returns c =
+    let a = c.args in
+    let p : Plan = lent a.plan.now in
+    rw (← c.rows-rows.ensures)
+    (ok_replied _ _ _ c.in_ok-chunk_refusal.ensures (c.sweep_samples.ensures
+    ∙ ap (λ (w : ℕ). swept_by w (length a.rolls.now) (λ k s. violates_by p.targets a.times a.units.now p.tolerances p.configured p.panels (64 * a.chunk + k) (sample_roll a.rolls.now p.configured s))) c.cells_in-cells.ensures))

@@ -5,7 +5,7 @@ use mathlib.Core.Bool.{Bool}
 use mathlib.Core.List.{[], ◌∷◌}
 use lib.ListN.{length, get_or}
 use lib.Ieee.{Float, nan}
-use Rattle.solar_roll.specs.Plan.{row_config}
+use Rattle.solar_roll.specs.Plan.{Plan, lent, row_config}
 use Rattle.roll_sweep.specs.Chunk.{violates_by, sample_roll}
 use Rattle.roll_sweep.proofs.SweptCells.{swept_ext, swept_same, one_each}
 use Rattle.roll_sweep.proofs.Cells.{configured_same, unconfigured}
@@ -16,7 +16,8 @@ use Rattle.roll_sweep.proofs.chunk.sweep_samples.Goals.{Start}
 abbrev nth_violated : Start → ℕ → Float → Bool
 nth_violated x k =
     let a = x.args in
-    violates_by a.targets.now a.times a.units.now a.tolerances.now a.configured a.panels.now (a.first + k)
+    let p : Plan = lent a.plan.now in
+    violates_by p.targets a.times a.units.now p.tolerances p.configured p.panels (a.first + k)
 
 pub repeated-requires : goal.repeated-requires
 repeated-requires c = (c.requires.6, c.requires.1, one_each c.args.cells _ c.sweep_cells-tried.result c.requires.0 c.sweep_cells-tried.ensures)
@@ -24,15 +25,15 @@ repeated-requires c = (c.requires.6, c.requires.1, one_each c.args.cells _ c.swe
 pub returns-in-None : goal.returns-in-None
 returns-in-None c = let rolls = c.args.rolls.now in
     c.sweep_cells.ensures
-    ∙ swept_ext c.args.cells (length rolls) (λ k s. nth_violated (goal.at.returns-in-None c).Start k (get_or rolls s nan)) (λ k s. nth_violated (goal.at.returns-in-None c).Start k (sample_roll rolls c.args.configured s))
-    (λ k s h g. ap (nth_violated (goal.at.returns-in-None c).Start k) (sym (unconfigured c.args.configured rolls s c.in-None.is)))
+    ∙ swept_ext c.args.cells (length rolls) (λ k s. nth_violated (goal.at.returns-in-None c).Start k (get_or rolls s nan)) (λ k s. nth_violated (goal.at.returns-in-None c).Start k (sample_roll rolls c.args.plan.now.configured s))
+    (λ k s h g. ap (nth_violated (goal.at.returns-in-None c).Start k) (sym (unconfigured c.args.plan.now.configured rolls s c.in-None.is)))
 
 pub returns-in-Some : goal.returns-in-Some
 unfolding violates_by row_config
 returns-in-Some c = let rolls = c.args.rolls.now in
     let roll = c.in-Some.roll_deg in
     swept_same c.args.cells (length rolls)
-    (λ k s. nth_violated (goal.at.returns-in-Some c).Start k (sample_roll rolls c.args.configured s)) (λ k s. nth_violated (goal.at.returns-in-Some c).Start k (get_or (roll ∷ []) s nan))
+    (λ k s. nth_violated (goal.at.returns-in-Some c).Start k (sample_roll rolls c.args.plan.now.configured s)) (λ k s. nth_violated (goal.at.returns-in-Some c).Start k (get_or (roll ∷ []) s nan))
     c.sweep_cells-tried.result c.repeated.result c.requires.6
-    (λ k s. ap (nth_violated (goal.at.returns-in-Some c).Start k) (configured_same c.args.configured roll rolls s c.in-Some.is))
+    (λ k s. ap (nth_violated (goal.at.returns-in-Some c).Start k) (configured_same c.args.plan.now.configured roll rolls s c.in-Some.is))
     c.sweep_cells-tried.ensures c.repeated.ensures.0 c.repeated.ensures.1
