@@ -1,9 +1,8 @@
 -- A guess that is tried: q is what rounding makes of the root of m * 2 ^ 54 exactly where m * 2 ^ 52 lies between the squares half a unit below and above it.
 -- The code compares by d = q - 1: m * 2 ^ 52 is d's square and t + d + 1. Assumes nothing.
-use Rattle.std.proofs.Common.{◌≡◌, ℕ, zero, suc, ◌+◌, ◌-◌, ◌*◌, ◌/◌, ◌%◌, ◌^◌, ◌<◌, ◌≤◌, Bool, true, false, eqb, ◌⊎◌, sym, refl, ap, ◌∙◌, subst, inl, inr, le_trans, lt_of_lt_of_le, mul-le-mul, eq-or-lt_of_le, arith, eq-eqb, ne_eqb, eqb-true}
+use Rattle.std.proofs.Common.{Some, ◌≡◌, ℕ, zero, suc, ◌+◌, ◌-◌, ◌*◌, ◌/◌, ◌%◌, ◌^◌, ◌<◌, ◌≤◌, Bool, true, false, eqb, ◌⊎◌, sym, refl, ap, ◌∙◌, subst, inl, inr, le_trans, lt_of_lt_of_le, mul-le-mul, eq-or-lt_of_le, arith, eq-eqb, ne_eqb, eqb-true}
 use Rattle.float.specs.RootSteps.{LargestRoot, rounded_of, Tried}
 use Rattle.float.specs.declared.root.Floor.{Floor}
-use Rattle.float.specs.declared.root.Trial.TheVariants.{Found}
 use Rattle.float.proofs.Isqrt.{sq_mono, sq_suc, sq_odd}
 use Rattle.float.proofs.Steps.{no_tie}
 
@@ -25,7 +24,7 @@ rounds_up m f e = no_tie f.root (f.root % 2) f.exact refl (λ (t : f.exact ≡ t
 
 -- the trial of q that finds r and b
 abbrev pub Finds : ℕ → ℕ → ℕ → Bool → Type 0
-Finds m q r b = Tried (m * 2 ^ 54) q (Found (record { root = r; exact = b }))
+Finds m q r b = Tried (m * 2 ^ 54) q (Some (record { root = r; exact = b }))
 
 finds : (m q r : ℕ) (b : Bool) → r * r ≤ m * 2 ^ 54 → m * 2 ^ 54 < (r + 1) * (r + 1) → b ≡ eqb (r * r) (m * 2 ^ 54) → (r + 1) / 2 ≡ q → Finds m q r b
 finds m q r b lo hi e h = ((lo, hi, e), rounds_up m (record { root = r; exact = b }) e ∙ h)

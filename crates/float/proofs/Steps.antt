@@ -1,12 +1,11 @@
 -- The three steps of the root: what step 1 leaves, that what step 2 promises fixes its answer, and that the three give `sqrt_of`. Assumes nothing.
-use Rattle.std.proofs.Common.{◌≡◌, ℕ, zero, suc, ◌+◌, ◌*◌, ◌/◌, ◌%◌, ◌^◌, ◌<◌, ◌≤◌, Bool, true, false, not, T, sym, refl, subst, lt_of_le_of_lt, arith, ltb-true}
+use Rattle.std.proofs.Common.{None, ◌≡◌, ℕ, zero, suc, ◌+◌, ◌*◌, ◌/◌, ◌%◌, ◌^◌, ◌<◌, ◌≤◌, Bool, true, false, not, T, sym, refl, subst, lt_of_le_of_lt, arith, ltb-true}
 use mathlib.Core.Bool.{false≢true}
 use lib.Ieee.{Float, nan, inf, fin, binary64, fits, is_nan, to_bits, of_bits, up, down, lt, nearest}
 use lib.Ieee.Fits.{down_pos}
 use Rattle.float.specs.Arithmetic.{zero·0}
 use Rattle.float.specs.Root.{isqrt, sqrt_of}
 use Rattle.float.specs.RootSteps.{operand_of, magnitude, scaled_of, LargestRoot, halfway, FromSteps}
-use Rattle.float.specs.declared.root.Operand.TheVariants.{Answer, Positive}
 use Rattle.float.specs.declared.root.Scaled.{Scaled}
 use Rattle.float.specs.declared.root.Floor.{Floor}
 use Rattle.float.proofs.Isqrt.{Root, sq_cancel, isqrt_root, isqrt_is}
@@ -16,22 +15,19 @@ use Rattle.float.proofs.Scaling.{Scales, scaled_facts}
 
 -- ---- step 1
 
-no-mix {ℓ} : {A : Type ℓ} {r : Float} → Answer r ≡ Positive → A
-no-mix e = let z : ◌≡◌ {A = ℕ} 0 1 = cc in absurd (omega arith)
-
 -- an operand that it leaves
-pub left_over : (x : Float) → operand_of x ≡ Positive → T (fits binary64 x) → T (not (is_nan x)) × (0 < to_bits binary64 x) × (to_bits binary64 x < 2047 * 2 ^ 52)
+pub left_over : (x : Float) → operand_of x ≡ None → T (fits binary64 x) → T (not (is_nan x)) × (0 < to_bits binary64 x) × (to_bits binary64 x < 2047 * 2 ^ 52)
 unfolding operand_of is_nan
-left_over nan e h = no-mix e
-left_over (inf true) e h = no-mix e
-left_over (inf false) e h = no-mix e
-left_over (fin true zero d) e h = no-mix e
-left_over (fin false zero d) e h = no-mix e
-left_over (fin true (suc m) d) e h = no-mix e
+left_over nan e h = cc
+left_over (inf true) e h = cc
+left_over (inf false) e h = cc
+left_over (fin true zero d) e h = cc
+left_over (fin false zero d) e h = cc
+left_over (fin true (suc m) d) e h = cc
 left_over (fin false (suc m) d) e h = (tt, pattern_pos m d h, pattern_lt m d h)
 
 -- it leaves a number above 0 other than infinity
-pub above_zero_left : (x : Float) → lt zero·0 x ≡ true → (x ≡ inf false → ⊥) → operand_of x ≡ Positive
+pub above_zero_left : (x : Float) → lt zero·0 x ≡ true → (x ≡ inf false → ⊥) → operand_of x ≡ None
 unfolding operand_of lt of_bits
 above_zero_left nan e n = absurd (false≢true e)
 above_zero_left (inf true) e n = absurd (false≢true e)

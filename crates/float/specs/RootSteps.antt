@@ -1,28 +1,24 @@
 -- The three steps of squareRoot, in the order in which IEEE 754's text has it worked out: special operands (5.4.1); the intermediate result (5.1), as the floor of
 -- the root of a scaled significand and whether it is exact; rounding (4.3.1). The functions of src/root.rt cite them; `sqrt_of` (Root) does not rest on them. That
 -- they give it is the theorem `root_from_steps` (statement: `FromSteps`). Definitions only. Assumes nothing.
-use Rattle.std.specs.Prelude.{◌≡◌, ℕ, zero, suc, ◌+◌, ◌-◌, ◌*◌, ◌/◌, ◌%◌, ◌^◌, ◌<◌, ◌≤◌, Bool, true, false, cond, ◌==◌, ◌≢◌, to_bits, Float}
+use Rattle.std.specs.Prelude.{◌≡◌, Option, Some, None, ℕ, zero, suc, ◌+◌, ◌-◌, ◌*◌, ◌/◌, ◌%◌, ◌^◌, ◌<◌, ◌≤◌, Bool, true, false, cond, ◌==◌, ◌≢◌, to_bits, Float}
 use Prim.Native.Nat.{Ordering}
 use Rattle.std.specs.Float.{nan, inf, fin, binary64}
 use Rattle.std.specs.Float.Ieee.{size, nearest, units}
-use Rattle.float.specs.declared.root.Operand.{Operand}
-use Rattle.float.specs.declared.root.Operand.TheVariants.{Answer, Positive}
 use Rattle.float.specs.declared.root.Scaled.{Scaled}
 use Rattle.float.specs.declared.root.Floor.{Floor}
-use Rattle.float.specs.declared.root.Trial.{Trial}
-use Rattle.float.specs.declared.root.Trial.TheVariants.{Found, Missed}
 
 -- ---- step 1
 
 -- The special operands with their answers: of a NaN, of a negative number and of -infinity NaN; of -0, +0 and +infinity itself. What is left is finite and
 -- above 0.
-unfoldable pub operand_of : Float → Operand
-operand_of nan = Answer nan
-operand_of (inf true) = Answer nan
-operand_of (inf false) = Answer (inf false)
-operand_of (fin s zero e) = Answer (fin s zero e)
-operand_of (fin true (suc m) e) = Answer nan
-operand_of (fin false (suc m) e) = Positive
+unfoldable pub operand_of : Float → Option Float
+operand_of nan = Some nan
+operand_of (inf true) = Some nan
+operand_of (inf false) = Some (inf false)
+operand_of (fin s zero e) = Some (fin s zero e)
+operand_of (fin true (suc m) e) = Some nan
+operand_of (fin false (suc m) e) = None
 
 -- ---- scaling
 
@@ -64,9 +60,9 @@ rounded_of f = nearest (f.root / 2) (halfway (f.root % 2) f.exact)
 
 -- r is what the steps give after step 1's o: what it answered, or step 3's number of what step 2 finds of the scaled significand, that is of `significand * 2 ^ 54`.
 -- Step 2's number is in units of 2 ^ (half - 27) smallest values, step 3's in units of 2 ^ (half - 26); half is at least 511.
-abbrev pub FromOperand : Operand → Scaled → Float → Type 0
-FromOperand (Answer a) s r = r ≡ a
-FromOperand Positive s r = (f : Floor) → LargestRoot (s.significand * 2 ^ 54) f → r ≡ units binary64 false (rounded_of f) (s.half - 26)
+abbrev pub FromOperand : Option Float → Scaled → Float → Type 0
+FromOperand (Some a) s r = r ≡ a
+FromOperand None s r = (f : Floor) → LargestRoot (s.significand * 2 ^ 54) f → r ≡ units binary64 false (rounded_of f) (s.half - 26)
 
 -- r is what the steps give for x.
 abbrev pub FromSteps : Float → Float → Type 0
@@ -74,7 +70,7 @@ FromSteps x r = FromOperand (operand_of x) (scaled_of (to_bits binary64 x)) r
 
 -- ---- a guess
 
--- What trying q, a guess of step 3's number, gives: what step 2 finds of n where step 3 makes q of it, else `Missed`.
-abbrev pub Tried : ℕ → ℕ → Trial → Type 0
-Tried n q (Found f) = LargestRoot n f × (rounded_of f ≡ q)
-Tried n q Missed = (f : Floor) → LargestRoot n f → rounded_of f ≢ q
+-- What trying q, a guess of step 3's number, gives: what step 2 finds of n where step 3 makes q of it, else none.
+abbrev pub Tried : ℕ → ℕ → Option Floor → Type 0
+Tried n q (Some f) = LargestRoot n f × (rounded_of f ≡ q)
+Tried n q None = (f : Floor) → LargestRoot n f → rounded_of f ≢ q

@@ -10,13 +10,6 @@ ghost use Rattle.float.specs.RootSteps.{operand_of, paired_of, scaled_of, Larges
 
 use std::num::wrapping_sub_u64;
 
-// What step 1 gives: the answer, or that the operand is finite and above 0.
-#[derive(Clone, Copy)]
-enum Operand {
-    Answer(f64),
-    Positive,
-}
-
 // A number as significand * 4^half.
 #[derive(Clone, Copy)]
 struct Scaled {
@@ -24,41 +17,27 @@ struct Scaled {
     half: u64,
 }
 
-// The floor of a square root, and whether it is the root.
+// The floor of a square root, and whether it is the root. No Option: `root` is read either way.
 #[derive(Clone, Copy)]
 struct Floor {
     root: u64,
     exact: bool,
 }
 
-// What trying a guess gives.
-#[derive(Clone, Copy)]
-enum Trial {
-    Found(Floor),
-    Missed,
-}
-
-// Step 1 (5.4.1, squareRoot): the special operands and their answers.
-fn special(x: f64) -> Operand
+// Step 1 (5.4.1, squareRoot): the answer of a special operand; none where the operand is finite and above 0.
+fn special(x: f64) -> Option<f64>
     ensures { result ≡ operand_of x }
 {
     if x > 0.0 {
-        if x < f64::from_bits(0x7ff0_0000_0000_0000) {
-            return Operand::Positive;
-        }
         // 6.1: +infinity is its own root.
-        return Operand::Answer(x);
-    }
-    if x == 0.0 {
-        // 6.3: the root of -0 is -0, and that of +0 is +0.
-        return Operand::Answer(x);
+        return if x < f64::INFINITY { None } else { Some(x) };
     }
     if x < 0.0 {
         // 7.2, invalid operation: below 0, -infinity among them, there is no root.
-        return Operand::Answer(0.0 / 0.0);
+        return Some(f64::NAN);
     }
-    // 6.2: the root of a NaN is NaN.
-    Operand::Answer(x)
+    // 6.3: the root of -0 is -0, and that of +0 is +0. 6.2: the root of a NaN is NaN.
+    Some(x)
 }
 
 // m * 2^e as a number times a power of four.
@@ -94,8 +73,7 @@ fn floor_by_digits(m: u64) -> Floor
     let mut bits = m << 10;
     let mut root: u64 = 0;
     let mut rest: u64 = 0;
-    let mut i: u64 = 0;
-    while i < 54 {
+    for _ in 0..54u64 {
         rest = rest * 4 + (bits >> 62);
         bits = bits << 2;
         let trial = root * 4 + 1;
@@ -104,7 +82,6 @@ fn floor_by_digits(m: u64) -> Floor
             rest -= trial;
             root += 1;
         }
-        i += 1;
     }
     Floor {
         root,
@@ -116,7 +93,7 @@ fn floor_by_digits(m: u64) -> Floor
 // With d = q - 1, squared by its upper and its lower digits, `rest` is m * 2^52 - d * d, and t is `rest` - q: it is d where m * 2^52 is the square of q. A
 // difference below 0 wraps, and is too large for the next test; the tests of `over` and `part` also keep the products within 64 bits. What is found is
 // written so that the compiler sees that step 3 makes q of it.
-fn near(m: u64, q: u64) -> Trial
+fn near(m: u64, q: u64) -> Option<Floor>
     requires { (m < 2 ^ 54) × (2 ^ 52 ≤ q) × (q < 2 ^ 53) }
     ensures { Tried (m * 2 ^ 54) q result }
 {
@@ -131,20 +108,20 @@ fn near(m: u64, q: u64) -> Trial
             let t = wrapping_sub_u64(rest, q);
             if t <= q * 2 - 1 {
                 if t == d {
-                    return Trial::Found(Floor {
+                    return Some(Floor {
                         root: q * 2,
                         exact: true,
                     });
                 }
-                let up: u64 = if t < d { 0 } else { 1 };
-                return Trial::Found(Floor {
+                let up = u64::from(t >= d);
+                return Some(Floor {
                     root: d * 2 + 1 + up,
                     exact: false,
                 });
             }
         }
     }
-    Trial::Missed
+    None
 }
 
 // Step 2 (5.1, the intermediate result): the largest whole number whose square does not pass m * 2^54, and whether it meets it. Of the guess g nothing is
@@ -153,9 +130,9 @@ fn floor_root(m: u64, g: f64) -> Floor
     requires { m < 2 ^ 54 }
     ensures { LargestRoot (m * 2 ^ 54) result }
 {
-    if g == g {
-        let q = 0x10_0000_0000_0000 + f64::to_bits(g) % 0x10_0000_0000_0000;
-        if let Trial::Found(f) = near(m, q) {
+    if !g.is_nan() {
+        let q = 0x10_0000_0000_0000 + g.to_bits() % 0x10_0000_0000_0000;
+        if let Some(f) = near(m, q) {
             return f;
         }
     }
@@ -216,15 +193,13 @@ fn guess(b: u64) -> f64 {
 pub fn sqrt(x: f64) -> f64
     ensures { result ≡ sqrt_of x }
 {
-    match special(x) {
-        Operand::Answer(r) => r,
-        Operand::Positive => {
-            let b = f64::to_bits(x);
-            let s = scale(b);
-            let f = floor_root(s.significand, guess(b));
-            rounded(f, s.half - 26)
-        }
+    if let Some(answer) = special(x) {
+        return answer;
     }
+    let b = x.to_bits();
+    let s = scale(b);
+    let f = floor_root(s.significand, guess(b));
+    rounded(f, s.half - 26)
 }
 
 // The square root of x, which is g if x lies from 1 to 2 and the guess is good. Nothing is asked of g. This is a shortcut with `sqrt`'s own promise: where
@@ -232,20 +207,14 @@ pub fn sqrt(x: f64) -> f64
 pub(crate) fn checked_to_two(x: f64, g: f64) -> f64
     ensures { result ≡ sqrt_of x }
 {
-    if x > 0.0 {
-        if g == g {
-            let b = f64::to_bits(x);
-            let c = f64::to_bits(g);
-            if b >> 52 == 1023 {
-                if c >> 52 == 1023 {
-                    let s = scale(b);
-                    if s.half == 1048 {
-                        let q = 0x10_0000_0000_0000 + c % 0x10_0000_0000_0000;
-                        if let Trial::Found(_) = near(s.significand, q) {
-                            return g;
-                        }
-                    }
-                }
+    if x > 0.0 && !g.is_nan() {
+        let b = x.to_bits();
+        let c = g.to_bits();
+        if b >> 52 == 1023 && c >> 52 == 1023 {
+            let s = scale(b);
+            let q = 0x10_0000_0000_0000 + c % 0x10_0000_0000_0000;
+            if s.half == 1048 && near(s.significand, q).is_some() {
+                return g;
             }
         }
     }

@@ -1,16 +1,17 @@
 -- `float::root::checked_to_two` meets its contract: where step 3 makes g's digits of what step 2 finds, g is the root. Assumes nothing.
-use Rattle.std.proofs.Common.{◌≡◌, ◌+◌, ◌-◌, ◌*◌, ◌%◌, ◌^◌, ◌<◌, ◌≤◌, false, T, sym, ap, ◌∙◌, subst, ap₂, subst₂, arith, lit<}
+use Rattle.std.proofs.Common.{ℕ, true, Option, Some, None, ◌≡◌, ◌+◌, ◌-◌, ◌*◌, ◌%◌, ◌^◌, ◌<◌, ◌≤◌, false, T, sym, ap, ◌∙◌, subst, ap₂, subst₂, arith, lit<}
 use lib.Ieee.{Float, inf, binary64, to_bits, of_bits, units, fits}
 use lib.Ieee.Bits.{of_bits-to_bits}
+use mathlib.Core.Bool.{false≢true}
+use Rattle.std.specs.Option.{is_some}
+use Rattle.std.proofs.lemmas.Float.{T_from_true}
 use Rattle.float.specs.Root.{sqrt_of}
-use Rattle.float.specs.RootSteps.{magnitude, FromOperand, Tried}
-use Rattle.float.specs.declared.root.Operand.{Operand}
-use Rattle.float.specs.declared.root.Operand.TheVariants.{Positive}
+use Rattle.float.specs.RootSteps.{magnitude, LargestRoot, rounded_of, FromOperand, Tried}
 use Rattle.float.specs.declared.root.Scaled.{Scaled}
-use Rattle.float.specs.declared.root.Trial.{Trial}
+use Rattle.float.specs.declared.root.Floor.{Floor}
 use Rattle.float.proofs.Patterns.{packed_is}
 use Rattle.float.proofs.Scaling.{Scales}
-use Rattle.float.proofs.Sign.{same_not_nan, above_not_nan}
+use Rattle.float.proofs.Sign.{above_not_nan}
 use Rattle.float.proofs.Steps.{above_zero_left, scaled_is, root_from_steps}
 use Rattle.float.proofs.root.checked_to_two.Goals as goal
 use Rattle.float.proofs.root.checked_to_two.Goals.{After-scale-s}
@@ -31,22 +32,24 @@ own_units g h lo hi =
     let e : 1022 * 2 ^ 52 + (2 ^ 52 + c % 2 ^ 52) ≡ c = omega arith in
     sym (packed_is (2 ^ 52 + c % 2 ^ 52) 1022 (omega arith) (omega arith) (lit< tt)) ∙ ap (of_bits binary64) e ∙ of_bits-to_bits binary64 g h
 
+-- a guess that is found is step 3's number of what step 2 finds
+found : (n q : ℕ) (o : Option Floor) → is_some o ≡ true → Tried n q o → (f : Floor) × LargestRoot n f × (rounded_of f ≡ q)
+found n q (Some f) e t = (f, t.0, t.1)
+found n q None e t = absurd (false≢true e)
+
 pub float_to_bits-b : goal.float_to_bits-b
 float_to_bits-b c = above_not_nan _ c.if-x.true
-
-pub float_to_bits-c : goal.float_to_bits-c
-float_to_bits-c c = same_not_nan _ c.if-g.true
 
 pub near-requires : goal.near-requires
 near-requires c = ((scaled_at (goal.at.near-requires c).After-scale-s).2, omega arith, omega arith)
 
-pub returns-in-Found : goal.returns-in-Found
-returns-in-Found c = let x = c.args.x in
+pub returns-then-is_some : goal.returns-then-is_some
+returns-then-is_some c = let x = c.args.x in
     let g = c.args.g in
     let r = c.scale-s.result in
     let q = 2 ^ 52 + to_bits binary64 g % 2 ^ 52 in
     let left = above_zero_left x c.if-x.true (finite_pattern x (omega arith)) in
-    let steps : FromOperand Positive r (sqrt_of x) = subst₂ (λ (o : Operand) (t : Scaled). FromOperand o t (sqrt_of x)) left (sym c.scale-s.ensures) (root_from_steps x (subst T (sym c.well_formed.0.1) tt)) in
-    let found = subst (λ (t : Trial). Tried (r.significand * 2 ^ 54) q t) c.in-Found.is c.near.ensures in
+    let steps : FromOperand None r (sqrt_of x) = subst₂ (λ (o : Option Float) (t : Scaled). FromOperand o t (sqrt_of x)) left (sym c.scale-s.ensures) (root_from_steps x (T_from_true _ c.well_formed.0.1)) in
+    let f = found (r.significand * 2 ^ 54) q c.near.result (sym c.is_some.ensures ∙ c.if-is_some.true) c.near.ensures in
     let e : 1022 ≡ r.half - 26 = omega (arith, c.if-s-eq1048.true) in
-    sym (own_units g (subst T (sym c.well_formed.1.0.1) tt) (omega arith) (omega arith)) ∙ ap₂ (units binary64 false) (sym found.1) e ∙ sym (steps _ found.0)
+    sym (own_units g (T_from_true _ c.well_formed.1.0.1) (omega arith) (omega arith)) ∙ ap₂ (units binary64 false) (sym f.2) e ∙ sym (steps f.0 f.1)

@@ -6,7 +6,7 @@ use Rattle.float.specs.RootSteps.{LargestRoot}
 use Rattle.float.proofs.Isqrt.{sq_suc}
 use Rattle.float.proofs.root.floor_by_digits.Goals as goal
 use Rattle.float.proofs.root.floor_by_digits.Invariants.{Digits}
-use Rattle.float.proofs.root.floor_by_digits.Goals.{then-trial-rest, else-trial-rest, In-loop-i}
+use Rattle.float.proofs.root.floor_by_digits.Goals.{then-trial-rest, else-trial-rest, In-loop}
 
 start : (m : ℕ) → m < 2 ^ 54 → Digits m ((m * 2 ^ 10) % 2 ^ 64) 0 0 0
 start m h = (omega arith, omega arith, omega arith, omega arith, omega arith)
@@ -51,38 +51,38 @@ finish m bits root rest i d h =
     (omega arith, omega (arith, sq_suc root, d.2), none_left (m * 2 ^ 54) (root * root) rest e)
 
 -- what a turn starts with
-root_small : (c : In-loop-i) → (let l = c.loop-i in (l.root < 2 ^ 53) × (l.rest ≤ 2 * l.root) × (l.bits < 2 ^ 64))
-root_small c = let l = c.loop-i in (small c.args.m l.bits l.root l.rest l.i l.invariant c.loop-i-test.true, l.invariant.2, l.invariant.4)
+root_small : (c : In-loop) → (let l = c.loop in (l.root < 2 ^ 53) × (l.rest ≤ 2 * l.root) × (l.bits < 2 ^ 64))
+root_small c = let l = c.loop in (small c.args.m l.bits l.root l.rest l.counter l.invariant c.loop-test.true, l.invariant.2, l.invariant.4)
 
-pub loop-i-init : goal.loop-i-init
-loop-i-init c = start c.args.m c.requires
+pub loop-init : goal.loop-init
+loop-init c = start c.args.m c.requires
 
 pub overflow_mul-rest : goal.overflow_mul-rest
-overflow_mul-rest c = let b = root_small (goal.at.overflow_mul-rest c).In-loop-i in omega (arith, b.1, b.2)
+overflow_mul-rest c = let b = root_small (goal.at.overflow_mul-rest c).In-loop in omega (arith, b.1, b.2)
 
 pub overflow_add-rest : goal.overflow_add-rest
-overflow_add-rest c = let b = root_small (goal.at.overflow_add-rest c).In-loop-i in omega (arith, b.1, b.2)
+overflow_add-rest c = let b = root_small (goal.at.overflow_add-rest c).In-loop in omega (arith, b.1, b.2)
 
 pub overflow_mul-trial : goal.overflow_mul-trial
-overflow_mul-trial c = let b = root_small (goal.at.overflow_mul-trial c).In-loop-i in omega (arith, b.1, b.2)
+overflow_mul-trial c = let b = root_small (goal.at.overflow_mul-trial c).In-loop in omega (arith, b.1, b.2)
 
 pub overflow_add-trial : goal.overflow_add-trial
-overflow_add-trial c = let b = root_small (goal.at.overflow_add-trial c).In-loop-i in omega (arith, b.1, b.2)
+overflow_add-trial c = let b = root_small (goal.at.overflow_add-trial c).In-loop in omega (arith, b.1, b.2)
 
 pub overflow_mul-root : goal.overflow_mul-root
-overflow_mul-root c = let b = root_small (goal.at.overflow_mul-root c).In-loop-i in omega (arith, b.1, b.2)
+overflow_mul-root c = let b = root_small (goal.at.overflow_mul-root c).In-loop in omega (arith, b.1, b.2)
 
 pub overflow_add-root : goal.overflow_add-root
-overflow_add-root c = let b = root_small (goal.at.overflow_add-root c).In-loop-i in omega (arith, b.0)
+overflow_add-root c = let b = root_small (goal.at.overflow_add-root c).In-loop in omega (arith, b.0)
 
-pub loop-i-preserved : goal.loop-i-preserved
-loop-i-preserved c = let m = c.args.m in
-    let l = c.loop-i in
+pub loop-preserved : goal.loop-preserved
+loop-preserved c = let m = c.args.m in
+    let l = c.loop in
     elim c.if-trial-rest.branch [
-      | then-trial-rest w ↦ move _ _ _ w.root-is w.rest-is (up m l.bits l.root l.rest l.i l.invariant c.loop-i-test.true (omega (arith, w.if-trial-rest.true)))
-      | else-trial-rest w ↦ move _ _ _ w.root-is w.rest-is (down m l.bits l.root l.rest l.i l.invariant c.loop-i-test.true w.if-trial-rest.false)
+      | then-trial-rest w ↦ move _ _ _ w.root-is w.rest-is (up m l.bits l.root l.rest l.counter l.invariant c.loop-test.true (omega (arith, w.if-trial-rest.true)))
+      | else-trial-rest w ↦ move _ _ _ w.root-is w.rest-is (down m l.bits l.root l.rest l.counter l.invariant c.loop-test.true w.if-trial-rest.false)
     ]
 
 pub returns : goal.returns
-returns c = let l = c.loop-i in
-    finish c.args.m l.bits l.root l.rest l.i l.invariant c.loop-i-test.false
+returns c = let l = c.loop in
+    finish c.args.m l.bits l.root l.rest l.counter l.invariant c.loop-test.false

@@ -1,11 +1,13 @@
 -- `float::root::near` meets its contract. Each difference that a test lets through did not wrap; and where q is the rounded root, none wraps and each test lets it
 -- through. Assumes nothing.
-use Rattle.std.proofs.Common.{◌≡◌, ℕ, ◌+◌, ◌-◌, ◌*◌, ◌/◌, ◌%◌, ◌^◌, ◌<◌, ◌≤◌, ◌⊎◌, sym, subst, inl, inr, ⊎_elim, arith}
+use Rattle.std.proofs.Common.{Bool, true, false, leb, refl, ◌≡◌, ℕ, ◌+◌, ◌-◌, ◌*◌, ◌/◌, ◌%◌, ◌^◌, ◌<◌, ◌≤◌, ◌⊎◌, sym, subst, inl, inr, arith}
+use mir.Val.{bool_byte}
+use Rattle.std.proofs.lemmas.Bool.{leb-true, leb-false}
 use Rattle.float.specs.RootSteps.{LargestRoot, rounded_of}
 use Rattle.float.specs.declared.root.Floor.{Floor}
 use Rattle.float.proofs.Guessed.{found_exact, found_between, square, digits, over_small, between}
 use Rattle.float.proofs.root.near.Goals as goal
-use Rattle.float.proofs.root.near.Goals.{then-t-d-2, else-t-d-2, After-row_known-1, Then-t-q}
+use Rattle.float.proofs.root.near.Goals.{Then-t-q}
 
 -- a difference that is small did not wrap
 small_unwrapped : (s b a : ℕ) → (s + b) % 2 ^ 64 ≡ a → s < 2 ^ 63 → b < 2 ^ 63 → s + b ≡ a
@@ -96,28 +98,16 @@ tests_passed c =
     c.wrapping_sub_u64-rest.ensures.value c.wrapping_sub_u64-t.ensures.value (omega (arith, c.if-t-q.true, c.requires.2))
 
 -- `up`, by its test
-up_by_test : (c : After-row_known-1) → (let d = c.args.q - 1 in
-    let t = c.wrapping_sub_u64-t.result in ((t < d) × (c.if-t-d-2.up ≡ 0)) ⊎ ((d ≤ t) × (c.if-t-d-2.up ≡ 1)))
-up_by_test c = elim c.if-t-d-2.branch [ then-t-d-2 w ↦ inl (w.if-t-d-2.true, w.up-is) | else-t-d-2 w ↦ inr (w.if-t-d-2.false, w.up-is) ]
-
-pub overflow_mul-a : goal.overflow_mul-a
-overflow_mul-a c = let p = digits (c.args.q - 1) (omega arith) in omega arith
-
-pub overflow_mul-a-then-over-lt268435456 : goal.overflow_mul-a-then-over-lt268435456
-overflow_mul-a-then-over-lt268435456 c = let p = digits (c.args.q - 1) (omega arith) in omega arith
-
-pub overflow_mul-c : goal.overflow_mul-c
-overflow_mul-c c = let p = digits (c.args.q - 1) (omega arith) in omega arith
+up_by_test : (d t up : ℕ) (b : Bool) → leb d t ≡ b → up ≡ bool_byte b → ((t < d) × (up ≡ 0)) ⊎ ((d ≤ t) × (up ≡ 1))
+up_by_test d t up true e h = inr (leb-true d t e, h)
+up_by_test d t up false e h = inl (leb-false d t e, h)
 
 pub returns-then-t-d : goal.returns-then-t-d
 returns-then-t-d c = found_exact c.args.m c.args.q (c.args.q - 1) c.wrapping_sub_u64-t.result (omega (arith, c.requires.1)) (tests_passed (goal.at.returns-then-t-d c).Then-t-q) c.if-t-d.true
 
-pub overflow_add-result-then-t-q : goal.overflow_add-result-then-t-q
-overflow_add-result-then-t-q c = ⊎_elim (λ w. omega (arith, w.1)) (λ w. omega (arith, w.1)) (up_by_test (goal.at.overflow_add-result-then-t-q c).After-row_known-1)
-
 pub returns-then-t-q : goal.returns-then-t-q
-returns-then-t-q c = found_between c.args.m c.args.q (c.args.q - 1) c.wrapping_sub_u64-t.result c.if-t-d-2.up (omega (arith, c.requires.1))
-    (tests_passed (goal.at.returns-then-t-q c).Then-t-q) (omega (arith, c.if-t-q.true)) c.if-t-d.false (up_by_test (goal.at.returns-then-t-q c).After-row_known-1)
+returns-then-t-q c = found_between c.args.m c.args.q (c.args.q - 1) c.wrapping_sub_u64-t.result c.from-up.result (omega (arith, c.requires.1))
+    (tests_passed (goal.at.returns-then-t-q c).Then-t-q) (omega (arith, c.if-t-q.true)) c.if-t-d.false (up_by_test (c.args.q - 1) c.wrapping_sub_u64-t.result c.from-up.result _ refl c.from-up.ensures)
 
 pub returns-else-t-q : goal.returns-else-t-q
 returns-else-t-q c f R h = let m = c.args.m in

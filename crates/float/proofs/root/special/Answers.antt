@@ -1,10 +1,9 @@
 -- `float::root::special` meets its contract. Assumes nothing.
-use Rattle.std.proofs.Common.{◌≡◌, ℕ, zero, suc, ◌+◌, ◌*◌, ◌<◌, true, false, ◌||◌, T, eqb, sym, refl, ◌∙◌, subst, zero-lt-suc, mul-pos, zero-mul, arith, eqb→eq, ltb-true, lt-ltb}
-use mathlib.Core.Bool.{beq, false≢true}
-use lib.Ieee.{Float, nan, inf, fin, binary64, up, down, eq, lt, div, of_bits, nan_bits}
-use lib.Ieee.Fits.{up_pos, and_l}
+use Rattle.std.proofs.Common.{Some, ◌≡◌, ℕ, zero, suc, ◌+◌, ◌*◌, ◌<◌, true, false, sym, refl, ◌∙◌, subst, zero-lt-suc, mul-pos, zero-mul, arith, ltb-true, lt-ltb}
+use mathlib.Core.Bool.{false≢true}
+use lib.Ieee.{Float, nan, inf, fin, binary64, up, down, lt, of_bits}
+use lib.Ieee.Fits.{up_pos}
 use Rattle.float.specs.RootSteps.{operand_of}
-use Rattle.float.specs.declared.root.Operand.TheVariants.{Answer}
 use Rattle.float.proofs.Steps.{above_zero_left}
 use Rattle.float.proofs.root.special.Goals as goal
 
@@ -13,7 +12,7 @@ below_infinity : (x : Float) → lt x (of_bits binary64 0x7ff0_0000_0000_0000) �
 unfolding lt of_bits
 below_infinity x p e = false≢true (subst (λ (y : Float). lt y (inf false) ≡ true) e p)
 
-infinity_answer : (x : Float) → lt (of_bits binary64 0) x ≡ true → lt x (of_bits binary64 0x7ff0_0000_0000_0000) ≡ false → Answer x ≡ operand_of x
+infinity_answer : (x : Float) → lt (of_bits binary64 0) x ≡ true → lt x (of_bits binary64 0x7ff0_0000_0000_0000) ≡ false → Some x ≡ operand_of x
 unfolding operand_of lt of_bits
 infinity_answer nan p q = absurd (false≢true p)
 infinity_answer (inf true) p q = absurd (false≢true p)
@@ -23,8 +22,8 @@ infinity_answer (fin false zero d) p q = absurd (omega (arith, ltb-true (0 * dow
 infinity_answer (fin true (suc m) d) p q = absurd (false≢true p)
 infinity_answer (fin false (suc m) d) p q = absurd (false≢true (sym q))
 
-negative_answer : (x : Float) → lt x (of_bits binary64 0) ≡ true → Answer (div binary64 (of_bits binary64 0) (of_bits binary64 0)) ≡ operand_of x
-unfolding operand_of lt div of_bits
+negative_answer : (x : Float) → lt x (of_bits binary64 0) ≡ true → Some (of_bits binary64 0x7ff8_0000_0000_0000) ≡ operand_of x
+unfolding operand_of lt of_bits
 negative_answer nan e = absurd (false≢true e)
 negative_answer (inf true) e = refl
 negative_answer (inf false) e = absurd (false≢true e)
@@ -36,19 +35,8 @@ negative_answer (fin true (suc m) d) e = refl
 no_zero : (m u : ℕ) → 0 < u → 0 < suc m * u * 1
 no_zero m u h = let p : 0 < suc m * u = mul-pos (zero-lt-suc m) h in omega arith
 
-zero_answer : (x : Float) → eq x (of_bits binary64 0) ≡ true → Answer x ≡ operand_of x
-unfolding operand_of eq of_bits
-zero_answer nan e = absurd (false≢true e)
-zero_answer (inf s) e = absurd (false≢true e)
-zero_answer (fin true zero d) e = refl
-zero_answer (fin false zero d) e = refl
-zero_answer (fin s (suc m) d) e =
-    let p : suc m * up d * 1 ≡ 0 * 1 * down d = eqb→eq (suc m * up d * 1) (0 * 1 * down d) (and_l (eqb (suc m * up d * 1) (0 * 1 * down d)) (beq s false || eqb (suc m * up d * 1) 0) (subst T (sym e) tt)) in
-    let q : 0 < suc m * up d * 1 = no_zero m (up d) (up_pos d) in
-    absurd (omega (arith, zero-mul (down d)))
-
 -- what no test takes
-nan_answer : (x : Float) → lt (of_bits binary64 0) x ≡ false → lt x (of_bits binary64 0) ≡ false → Answer x ≡ operand_of x
+nan_answer : (x : Float) → lt (of_bits binary64 0) x ≡ false → lt x (of_bits binary64 0) ≡ false → Some x ≡ operand_of x
 unfolding operand_of lt of_bits
 nan_answer nan p q = refl
 nan_answer (inf true) p q = absurd (false≢true (sym q))
@@ -58,21 +46,14 @@ nan_answer (fin false zero d) p q = refl
 nan_answer (fin true (suc m) d) p q = let h = no_zero m (up d) (up_pos d) in absurd (false≢true (sym q ∙ lt-ltb 0 (suc m * up d * 1 + 0 * 1 * down d) (omega arith)))
 nan_answer (fin false (suc m) d) p q = let h = no_zero m (up d) (up_pos d) in absurd (false≢true (sym p ∙ lt-ltb (0 * down d) (suc m * up d * 1) (omega (arith, zero-mul (down d)))))
 
-pub float_from_bits-t-3 : goal.float_from_bits-t-3
-unfolding nan_bits
-float_from_bits-t-3 c = tt
-
 pub returns-then-x-2 : goal.returns-then-x-2
 returns-then-x-2 c = sym (above_zero_left c.args.x c.if-x.true (below_infinity c.args.x c.if-x-2.true))
 
-pub returns-then-x : goal.returns-then-x
-returns-then-x c = infinity_answer c.args.x c.if-x.true c.if-x-2.false
+pub returns-else-x-2 : goal.returns-else-x-2
+returns-else-x-2 c = infinity_answer c.args.x c.if-x.true c.if-x-2.false
 
 pub returns-then-x-3 : goal.returns-then-x-3
-returns-then-x-3 c = zero_answer c.args.x c.if-x-3.true
-
-pub returns-then-x-4 : goal.returns-then-x-4
-returns-then-x-4 c = negative_answer c.args.x c.if-x-4.true
+returns-then-x-3 c = negative_answer c.args.x c.if-x-3.true
 
 pub returns : goal.returns
-returns c = nan_answer c.args.x c.if-x.false c.if-x-4.false
+returns c = nan_answer c.args.x c.if-x.false c.if-x-3.false
