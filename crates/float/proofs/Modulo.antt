@@ -25,7 +25,7 @@ mod_scale x y c Y C =
     ap (λ (z : ℕ). z % (y * c)) f ∙ add-mul-mod_self_right (r * c) (x / y) (y * c) ∙ mod-eq_of_lt (mul-lt-mul_of_pos_right l C)
 
 -- eleven more digits brought down
-pub brought_down : (r k m : ℕ) → 11 < k → r < 2 ^ 53 → (((r * 2 ^ 11) % 2 ^ 64) % m * 2 ^ (k - 11)) % m ≡ (r * 2 ^ k) % m
+pub brought_down : (r k m : ℕ) → 11 ≤ k → r < 2 ^ 53 → (((r * 2 ^ 11) % 2 ^ 64) % m * 2 ^ (k - 11)) % m ≡ (r * 2 ^ k) % m
 brought_down r k m h l =
     let w : (r * 2 ^ 11) % 2 ^ 64 ≡ r * 2 ^ 11 = omega arith in
     let e : 11 + (k - 11) ≡ k = omega arith in

@@ -1,11 +1,23 @@
 // The arctangent of (y, z), by section 1's rule.
 ghost use Rattle.std.specs.Prelude.{◌≡◌};
-ghost use Rattle.float.specs.Series.{horner};
-ghost use Rattle.float.specs.Arctangent.{odd_number, halved, ratio, series_angle, quadrant_angle, turned_angle, arctangent};
+ghost use Rattle.float.specs.Arctangent.{halved, ratio, series_angle, quadrant_angle, turned_angle, arctangent};
 
-use crate::arithmetic::{is_finite, is_sign_negative};
 use crate::root::sqrt_by_inverse;
+use crate::series::series;
 use crate::{PI, abs};
+
+// The coefficients of the arctangent's series, divided by q, in q * q: 1 / (2k + 1), negated for odd k.
+const ODD_NUMBERS: [f64; 9] = [
+    1.0,
+    -0.3333333333333333,
+    0.2,
+    -0.14285714285714285,
+    0.1111111111111111,
+    -0.09090909090909091,
+    0.07692307692307693,
+    -0.06666666666666667,
+    0.058823529411764705,
+];
 
 // About the cosines of an angle, of its half and of its quarter, from u, the square of its tangent, from 0 to 1: to 5e-7,
 // by the polynomials of the least error. 1 / root(1 + q * q) is the cosine of the angle whose tangent is q, so these are
@@ -51,30 +63,11 @@ fn halved_thrice(q: f64) -> f64
     halved(halved(halved(q, cosine(u)), half), quarter)
 }
 
-// The series of the arctangent of q, divided by q, at s = q * q. Its literals are c(0) to c(8).
-fn series(s: f64) -> f64
-    ensures { result ≡ horner odd_number s 8 }
-{
-    let p7 = -0.06666666666666667 + s * 0.058823529411764705;
-    let p6 = 0.07692307692307693 + s * p7;
-    let p5 = -0.09090909090909091 + s * p6;
-    let p4 = 0.1111111111111111 + s * p5;
-    let p3 = -0.14285714285714285 + s * p4;
-    let p2 = 0.2 + s * p3;
-    let p1 = -0.3333333333333333 + s * p2;
-    1.0 + s * p1
-}
-
 // The smaller of two sizes divided by the larger.
 pub(crate) fn ratio(a: f64, b: f64) -> f64
     ensures { result ≡ ratio a b }
 {
-    let mut m = a;
-    let mut l = b;
-    if a > b {
-        m = b;
-        l = a;
-    }
+    let (m, l) = if a > b { (b, a) } else { (a, b) };
     m / l
 }
 
@@ -82,21 +75,15 @@ pub(crate) fn ratio(a: f64, b: f64) -> f64
 fn series_angle(q: f64) -> f64
     ensures { result ≡ series_angle q }
 {
-    8.0 * (q * series(q * q))
+    8.0 * (q * series(&ODD_NUMBERS, q * q))
 }
 
 // The angle of (a, b), neither negative, from q, their ratio halved three times.
 fn quadrant_angle(a: f64, b: f64, q: f64) -> f64
     ensures { result ≡ quadrant_angle a b q }
 {
-    let mut l = b;
-    if a > b {
-        l = a;
-    }
-    let mut r = series_angle(q);
-    if l == 0.0 {
-        r = 0.0;
-    }
+    let l = if a > b { a } else { b };
+    let r = if l == 0.0 { 0.0 } else { series_angle(q) };
     if a > b { PI / 2.0 - r } else { r }
 }
 
@@ -104,20 +91,16 @@ fn quadrant_angle(a: f64, b: f64, q: f64) -> f64
 pub(crate) fn turned_angle(y: f64, z: f64, q: f64) -> f64
     ensures { result ≡ turned_angle y z q }
 {
-    if !is_finite(y) {
-        return 0.0 / 0.0;
+    if !y.is_finite() || !z.is_finite() {
+        return f64::NAN;
     }
-    if !is_finite(z) {
-        return 0.0 / 0.0;
+    let r = quadrant_angle(abs(y), abs(z), q);
+    let turned = if z.is_sign_negative() { PI - r } else { r };
+    if y.is_sign_negative() {
+        -turned
+    } else {
+        turned
     }
-    let mut r = quadrant_angle(abs(y), abs(z), q);
-    if is_sign_negative(z) {
-        r = PI - r;
-    }
-    if is_sign_negative(y) {
-        r = -r;
-    }
-    r
 }
 
 // The angle of the point (z, y), from -PI to PI; NaN unless both are finite.

@@ -9,6 +9,7 @@ mod angles;
 mod arctangent;
 mod arithmetic;
 mod root;
+mod series;
 mod trigonometry;
 
 pub use angles::atan2_each;

@@ -2,9 +2,9 @@
 ghost use Rattle.std.specs.Prelude.{◌≡◌, ◌≤◌};
 ghost use Rattle.std.specs.Float.Ieee.{lt};
 ghost use Rattle.buffers.specs.Ranges.{flag};
-ghost use Rattle.float.specs.Series.{horner};
-ghost use Rattle.float.specs.Trigonometry.{sine_divisor, cosine_divisor, quadrant_of, sine_at, sin_cos_of, sine_of, cosine_of, to_radians};
+ghost use Rattle.float.specs.Trigonometry.{quadrant_of, sine_at, sin_cos_of, sine_of, cosine_of, to_radians};
 
+use crate::series::series;
 use crate::{PI, abs};
 
 // The sine and the cosine of an angle.
@@ -14,42 +14,40 @@ pub struct SinCos {
     pub cos: f64,
 }
 
-// The sine's series at t, divided by s. Its literals are 1 / (2k + 1)!, negated for odd k.
-fn sine_series(t: f64) -> f64
-    ensures { result ≡ horner sine_divisor t 8 }
-{
-    let p7 = -7.647163731819816e-13 + t * 2.8114572543455206e-15;
-    let p6 = 1.6059043836821613e-10 + t * p7;
-    let p5 = -2.505210838544172e-8 + t * p6;
-    let p4 = 2.7557319223985893e-6 + t * p5;
-    let p3 = -0.0001984126984126984 + t * p4;
-    let p2 = 0.008333333333333333 + t * p3;
-    let p1 = -0.16666666666666666 + t * p2;
-    1.0 + t * p1
-}
+// The coefficients of the sine's series, divided by s, in s * s: 1 / (2k + 1)!, negated for odd k.
+const SINE: [f64; 9] = [
+    1.0,
+    -0.16666666666666666,
+    0.008333333333333333,
+    -0.0001984126984126984,
+    2.7557319223985893e-6,
+    -2.505210838544172e-8,
+    1.6059043836821613e-10,
+    -7.647163731819816e-13,
+    2.8114572543455206e-15,
+];
 
-// The cosine's series at t. Its literals are 1 / (2k)!, negated for odd k.
-fn cosine_series(t: f64) -> f64
-    ensures { result ≡ horner cosine_divisor t 8 }
-{
-    let p7 = -1.1470745597729725e-11 + t * 4.779477332387385e-14;
-    let p6 = 2.08767569878681e-9 + t * p7;
-    let p5 = -2.755731922398589e-7 + t * p6;
-    let p4 = 0.0000248015873015873 + t * p5;
-    let p3 = -0.001388888888888889 + t * p4;
-    let p2 = 0.041666666666666664 + t * p3;
-    let p1 = -0.5 + t * p2;
-    1.0 + t * p1
-}
+// The coefficients of the cosine's series in s * s: 1 / (2k)!, negated for odd k.
+const COSINE: [f64; 9] = [
+    1.0,
+    -0.5,
+    0.041666666666666664,
+    -0.001388888888888889,
+    0.0000248015873015873,
+    -2.755731922398589e-7,
+    2.08767569878681e-9,
+    -1.1470745597729725e-11,
+    4.779477332387385e-14,
+];
 
 // 1 if the threshold is below a, else 0.
 fn past(threshold: f64, a: f64) -> u64
     ensures { (result ≡ flag (lt threshold a)) × (result ≤ 1) }
 {
-    if threshold < a { 1 } else { 0 }
+    u64::from(threshold < a)
 }
 
-// How many of P/4, 3P/4, 5P/4, 7P/4 are below a.
+// How many of P/4, 3P/4, 5P/4, 7P/4 are below a. Four terms and no iterator: they become one comparison of four, and a filter and its count a loop with branches.
 fn quadrant(a: f64) -> u64
     ensures { (result ≡ quadrant_of a) × (result ≤ 4) }
 {
@@ -62,13 +60,12 @@ fn turned(q: u64, s: f64, c: f64) -> f64
     requires { q ≤ 4 }
     ensures { result ≡ sine_at q s c }
 {
-    if q == 1 {
-        return c;
+    match q {
+        1 => c,
+        2 => -s,
+        3 => -c,
+        _ => s,
     }
-    if q == 2 {
-        return -s;
-    }
-    if q == 3 { -c } else { s }
 }
 
 // The sine and the cosine of r radians.
@@ -79,18 +76,12 @@ pub fn sin_cos(r: f64) -> SinCos
     let q = quadrant(a);
     let s = a - q as f64 * (PI / 2.0);
     let t = s * s;
-    let sin_s = sine_series(t) * s;
-    let cos_s = cosine_series(t);
+    let sin_s = series(&SINE, t) * s;
+    let cos_s = series(&COSINE, t);
     let sine = turned(q, sin_s, cos_s);
     let cosine = turned(q, cos_s, -sin_s);
-    if r < 0.0 {
-        return SinCos {
-            sin: -sine,
-            cos: cosine,
-        };
-    }
     SinCos {
-        sin: sine,
+        sin: if r < 0.0 { -sine } else { sine },
         cos: cosine,
     }
 }
@@ -99,16 +90,14 @@ pub fn sin_cos(r: f64) -> SinCos
 pub fn sin(r: f64) -> f64
     ensures { result ≡ sine_of r }
 {
-    let both = sin_cos(r);
-    both.sin
+    sin_cos(r).sin
 }
 
 // The cosine of r radians.
 pub fn cos(r: f64) -> f64
     ensures { result ≡ cosine_of r }
 {
-    let both = sin_cos(r);
-    both.cos
+    sin_cos(r).cos
 }
 
 // The angle a, given in degrees, in radians.

@@ -3,7 +3,8 @@ use Rattle.std.proofs.Common.{◌≡◌, ℕ, ◌*◌, ◌^◌, ◌<◌, false, 
 use lib.Ieee.{binary64, of_bits}
 use lib.Ieee.Exact.{HasValue}
 use Rattle.float.specs.RootSteps.{magnitude}
-use Rattle.float.proofs.Patterns.{value_of, low_pattern}
+use Rattle.float.proofs.Patterns.{value_of}
+use Rattle.std.proofs.lemmas.Float.{not_nan_f64_bits}
 use Rattle.float.proofs.Modulo.{low_power, high_power}
 use Rattle.float.proofs.arithmetic.power.Goals as goal
 use Rattle.float.proofs.arithmetic.power.Goals.{Joined-k-lt52, then-k-lt52, else-k-lt52}
@@ -17,7 +18,7 @@ pattern c =
     ]
 
 pub float_from_bits-result : goal.float_from_bits-result
-float_from_bits-result c = let l = (pattern c).0 in low_pattern c.if-k-lt52.result (omega arith)
+float_from_bits-result c = let l = (pattern c).0 in not_nan_f64_bits c.if-k-lt52.result (omega arith)
 
 pub returns : goal.returns
 returns c = subst (λ (a : ℕ). HasValue (of_bits binary64 c.if-k-lt52.result) false a (2 ^ 1074)) (pattern c).1 (value_of c.if-k-lt52.result (pattern c).0)

@@ -1,13 +1,30 @@
 -- `float::arithmetic::reduced` meets its contract. Assumes nothing.
-use Rattle.std.proofs.Common.{ℕ, ◌*◌, ◌%◌, ◌^◌, ◌<◌, ap, ◌∙◌, arith}
+use Rattle.std.proofs.Common.{◌≡◌, ℕ, ◌+◌, ◌-◌, ◌*◌, ◌/◌, ◌%◌, ◌^◌, ◌<◌, ◌≤◌, ap, ◌∙◌, subst, arith}
 use Rattle.float.proofs.Modulo.{brought_down, last_down}
 use Rattle.float.proofs.arithmetic.reduced.Goals as goal
 
-pub loop-k-preserved : goal.loop-k-preserved
-loop-k-preserved c = let l = c.loop-k in
+-- before a turn eleven digits are left, and after it eleven fewer
+eleven : (n i : ℕ) → i < n / 11 → (11 ≤ n - 11 * i) × (n - 11 * i - 11 ≡ n - 11 * (i + 1))
+eleven n i h = (omega arith, omega arith)
+
+-- after the turns fewer than eleven
+last : (n i : ℕ) → n / 11 ≤ i → i ≤ n / 11 → n - 11 * i ≡ n % 11
+last n i h l = omega arith
+
+pub loop-init : goal.loop-init
+loop-init c = (c.requires.0, ap (λ (k : ℕ). (c.args.d * 2 ^ k) % c.args.m) (omega arith))
+
+pub loop-preserved : goal.loop-preserved
+loop-preserved c = let l = c.loop in
     let m : ((l.r * 2 ^ 11) % 2 ^ 64) % c.args.m < c.args.m = omega (arith, c.requires.1) in
-    (omega (arith, c.requires.2), brought_down l.r l.k c.args.m c.loop-k-test.true l.invariant.0 ∙ l.invariant.1)
+    let e = eleven c.args.n l.counter c.loop-test.true in (
+      omega (arith, c.requires.2),
+      subst (λ (k : ℕ). ((((l.r * 2 ^ 11) % 2 ^ 64) % c.args.m) * 2 ^ k) % c.args.m ≡ (c.args.d * 2 ^ c.args.n) % c.args.m) e.1
+          (brought_down l.r (c.args.n - 11 * l.counter) c.args.m e.0 l.invariant.0 ∙ l.invariant.1),
+    )
 
 pub returns : goal.returns
-returns c = let l = c.loop-k in
-    ap (λ (x : ℕ). x % c.args.m) (last_down l.r l.k c.loop-k-test.false l.invariant.0) ∙ l.invariant.1
+returns c = let l = c.loop in
+    let k = c.args.n % 11 in
+    ap (λ (x : ℕ). x % c.args.m) (last_down l.r k (omega arith) l.invariant.0)
+    ∙ subst (λ (k : ℕ). (l.r * 2 ^ k) % c.args.m ≡ (c.args.d * 2 ^ c.args.n) % c.args.m) (last c.args.n l.counter c.loop-test.false l.auto.counter-end) l.invariant.1

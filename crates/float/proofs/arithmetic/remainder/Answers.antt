@@ -4,10 +4,11 @@ use lib.Ieee.{Float, binary64, fits, is_nan, to_bits, lt, round}
 use lib.Ieee.Positive.{first_pos}
 use Rattle.float.specs.Arithmetic.{zero·0, sign_bit_of, abs_of}
 use Rattle.float.specs.RootSteps.{magnitude}
-use Rattle.float.proofs.Patterns.{zero_by_zero}
+use Rattle.float.proofs.Patterns.{of_bits_nan}
+use Rattle.float.proofs.Sign.{std_finite, std_sign}
 use Rattle.float.proofs.Modulo.{Left, left_over, rem_infinite, rem_by_zero, rem_by_larger, no_less_shifted, mod_shifted}
 use Rattle.float.proofs.arithmetic.remainder.Goals as goal
-use Rattle.float.proofs.arithmetic.remainder.Goals.{Start, Else-p-q, After-digits_of-y, then-is_finite+else-q, else-is_finite}
+use Rattle.float.proofs.arithmetic.remainder.Goals.{Start, Else-p-q, After-digits_of-y}
 
 -- what owning an f64 tells
 held_a : (c : Start) → T (fits binary64 c.args.a)
@@ -19,7 +20,7 @@ held_b c = subst T (sym c.well_formed.1.0.1) tt
 -- what the tests left
 left : (c : Else-p-q) → Left c.args.a c.args.b
 left c =
-    left_over c.args.a c.args.b (held_a (goal.at.Else-p-q c).Start) (held_b (goal.at.Else-p-q c).Start) (sym c.is_finite.ensures ∙ c.if-is_finite.true)
+    left_over c.args.a c.args.b (held_a (goal.at.Else-p-q c).Start) (held_b (goal.at.Else-p-q c).Start) (sym (c.is_finite.ensures.value ∙ std_finite c.args.a) ∙ c.if-is_finite.true)
     (ap (lt zero·0) (sym c.abs-q.ensures) ∙ c.if-q.true)
     (ap (λ (x : Float). lt x (abs_of c.args.b)) (sym c.abs-p.ensures) ∙ ap (lt c.abs-p.result) (sym c.abs-q.ensures) ∙ c.if-p-q.false)
 
@@ -40,7 +41,7 @@ shifts c = let x = c.digits_of-x.result in
     (subst₂ (λ (m n : ℕ). m ≤ n) (sym (value_y c)) (sym (value_x c)) (left (goal.at.After-digits_of-y c).Else-p-q).no_larger)
 
 pub returns-then-p-q : goal.returns-then-p-q
-returns-then-p-q c = rem_by_larger c.args.a c.args.b (held_a (goal.at.returns-then-p-q c).Start) (sym c.is_finite.ensures ∙ c.if-is_finite.true)
+returns-then-p-q c = rem_by_larger c.args.a c.args.b (held_a (goal.at.returns-then-p-q c).Start) (sym (c.is_finite.ensures.value ∙ std_finite c.args.a) ∙ c.if-is_finite.true)
     (ap (λ (x : Float). lt x (abs_of c.args.b)) (sym c.abs-p.ensures) ∙ ap (lt c.abs-p.result) (sym c.abs-q.ensures) ∙ c.if-p-q.true)
 
 pub float_to_bits-p : goal.float_to_bits-p
@@ -70,13 +71,11 @@ returns-then-q c = let x = c.digits_of-x.result in
     let e : magnitude (to_bits binary64 (abs_of c.args.a)) % magnitude (to_bits binary64 (abs_of c.args.b)) ≡ c.reduced-r.result * 2 ^ y.shift =
     ap (λ (n : ℕ). n % magnitude (to_bits binary64 (abs_of c.args.b))) (sym (value_x at)) ∙ ap (λ (n : ℕ). (x.digits * 2 ^ x.shift) % n) (sym (value_y at))
     ∙ mod_shifted x.digits x.shift y.digits y.shift (digits_y at) (shifts at) ∙ ap (λ (n : ℕ). n * 2 ^ y.shift) (sym c.reduced-r.ensures) in
-    c.in_units.ensures ∙ ap (λ (s : Bool). round binary64 s (c.reduced-r.result * 2 ^ y.shift) (2 ^ 1074)) c.is_sign_negative.ensures
+    c.in_units.ensures ∙ ap (λ (s : Bool). round binary64 s (c.reduced-r.result * 2 ^ y.shift) (2 ^ 1074)) (c.is_sign_negative.ensures ∙ std_sign c.args.a)
     ∙ sym ((left (goal.at.returns-then-q c).Else-p-q).is ∙ ap (λ (n : ℕ). round binary64 (sign_bit_of c.args.a) n (2 ^ 1074)) e)
 
-pub returns : goal.returns
-returns c =
-    elim c.if-is_finite.branch [
-      | then-is_finite+else-q w ↦
-          zero_by_zero ∙ rem_by_zero c.args.a c.args.b (sym c.is_finite.ensures ∙ w.if-is_finite.true) (ap (lt zero·0) (sym w.abs-q.ensures) ∙ w.if-q.false)
-      | else-is_finite w ↦ zero_by_zero ∙ rem_infinite c.args.a c.args.b (sym c.is_finite.ensures ∙ w.if-is_finite.false)
-    ]
+pub returns-else-q : goal.returns-else-q
+returns-else-q c = of_bits_nan ∙ rem_by_zero c.args.a c.args.b (sym (c.is_finite.ensures.value ∙ std_finite c.args.a) ∙ c.if-is_finite.true) (ap (lt zero·0) (sym c.abs-q.ensures) ∙ c.if-q.false)
+
+pub returns-else-is_finite : goal.returns-else-is_finite
+returns-else-is_finite c = of_bits_nan ∙ rem_infinite c.args.a c.args.b (sym (c.is_finite.ensures.value ∙ std_finite c.args.a) ∙ c.if-is_finite.false)

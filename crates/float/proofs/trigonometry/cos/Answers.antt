@@ -6,4 +6,4 @@ use Rattle.float.proofs.trigonometry.cos.Goals as goal
 
 pub returns : goal.returns
 unfolding cosine_of
-returns c = ap (λ (x : SinCos). x.cos) c.sin_cos-both.ensures
+returns c = ap (λ (x : SinCos). x.cos) c.sin_cos.ensures

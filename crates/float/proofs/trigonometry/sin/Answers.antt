@@ -6,4 +6,4 @@ use Rattle.float.proofs.trigonometry.sin.Goals as goal
 
 pub returns : goal.returns
 unfolding sine_of
-returns c = ap (λ (x : SinCos). x.sin) c.sin_cos-both.ensures
+returns c = ap (λ (x : SinCos). x.sin) c.sin_cos.ensures

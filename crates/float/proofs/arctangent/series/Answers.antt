@@ -1,9 +1,0 @@
--- `float::arctangent::series` meets its contract: each literal is 1 / (2k + 1) rounded, negated for odd k. Assumes nothing.
-use Rattle.std.proofs.Common.{refl}
-use lib.Ieee.{of_bits, neg, div, round, of_int}
-use Rattle.float.specs.Series.{coefficient, horner}
-use Rattle.float.proofs.arctangent.series.Goals as goal
-
-pub returns : goal.returns
-unfolding horner coefficient of_bits neg div round of_int
-returns c = refl
