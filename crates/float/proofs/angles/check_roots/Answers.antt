@@ -1,16 +1,18 @@
 -- `float::angles::check_roots`: before guess k, the roots of those before it stand. Assumes nothing.
-use Rattle.std.proofs.Common.{◌≡◌, ◌<◌, length, refl, ◌∙◌, arith, length-set}
+use Rattle.std.proofs.Common.{◌≡◌, ◌<◌, length, ◌∙◌, arith}
 use Rattle.buffers.proofs.Lent.{filled_zero, filled_next}
+use Rattle.float.proofs.Blocks.{filled_whole}
 use Rattle.float.proofs.angles.check_roots.Goals as goal
 
 pub loop-k-init : goal.loop-k-init
-loop-k-init c = (omega arith, omega arith, refl, filled_zero _ _)
+loop-k-init c = filled_zero _ _
 
 pub loop-k-preserved : goal.loop-k-preserved
 loop-k-preserved c = let at = c.loop-k in
     let l : at.k < length c.args.roots.now = omega arith in
-    (omega arith, at.invariant.1, simp length-set at.invariant.2, rw at.invariant.3 (filled_next _ _ _ _ l c.checked_to_two.ensures))
+    rw at.invariant (filled_next _ _ _ _ l c.checked_to_two.ensures)
 
 pub returns : goal.returns
-returns c = let h : c.loop-k.k ≡ c.args.count = omega arith in
-    c.loop-k.invariant.3 ∙ rw h
+returns c = let at = c.loop-k in
+    let n : at.k ≡ length c.args.qs.now = omega arith in
+    at.invariant ∙ rw n (filled_whole _ _ _ (omega arith))

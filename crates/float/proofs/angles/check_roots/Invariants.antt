@@ -1,5 +1,5 @@
 -- `float::angles::check_roots`: before guess k, the roots of those before it stand. Assumes nothing.
-use Rattle.std.proofs.Common.{◌≡◌, ◌-◌, ◌≤◌, length, get_or}
+use Rattle.std.proofs.Common.{◌≡◌, get_or}
 use lib.Ieee.{binary64, nan, add, mul}
 use Rattle.buffers.specs.Lent.{filled}
 use Rattle.float.specs.Root.{sqrt_of}
@@ -7,7 +7,4 @@ use Rattle.float.specs.Arithmetic.{one}
 use Rattle.float.proofs.angles.check_roots.Given as goal
 
 abbrev pub invariant-loop-k : goal.invariant-loop-k
-invariant-loop-k l = (l.k ≤ l.count) × (l.count ≤ length l.initial.roots) × (length l.roots ≡ length l.initial.roots) × (l.roots ≡ filled l.k (λ t. sqrt_of (add binary64 one (mul binary64 (get_or l.qs t nan) (get_or l.qs t nan)))) l.initial.roots)
-
-abbrev pub decreases-loop-k : goal.decreases-loop-k
-decreases-loop-k l = l.count - l.k
+invariant-loop-k l = l.roots ≡ filled l.k (λ t. sqrt_of (add binary64 one (mul binary64 (get_or l.qs t nan) (get_or l.qs t nan)))) l.initial.roots

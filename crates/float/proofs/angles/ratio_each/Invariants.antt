@@ -1,5 +1,5 @@
 -- `float::angles::ratio_each`: before place k, the places before it are written. Assumes nothing.
-use Rattle.std.proofs.Common.{◌≡◌, ◌-◌, ◌≤◌, length, get_or}
+use Rattle.std.proofs.Common.{◌≡◌, get_or}
 use lib.Ieee.{nan}
 use Rattle.buffers.specs.Lent.{filled}
 use Rattle.float.specs.Arithmetic.{abs_of}
@@ -7,8 +7,4 @@ use Rattle.float.specs.Arctangent.{ratio}
 use Rattle.float.proofs.angles.ratio_each.Given as goal
 
 abbrev pub invariant-loop-k : goal.invariant-loop-k
-invariant-loop-k l = (l.k ≤ l.count) × (l.count ≤ length l.initial.qs) × (length l.qs ≡ length l.initial.qs)
-    × (l.qs ≡ filled l.k (λ t. ratio (abs_of (get_or l.ys t nan)) (abs_of (get_or l.zs t nan))) l.initial.qs)
-
-abbrev pub decreases-loop-k : goal.decreases-loop-k
-decreases-loop-k l = l.count - l.k
+invariant-loop-k l = l.qs ≡ filled l.k (λ t. ratio (abs_of (get_or l.ys t nan)) (abs_of (get_or l.zs t nan))) l.initial.qs

@@ -1,13 +1,9 @@
 -- `float::angles::turn_each`: before place k, the places before it are written. Assumes nothing.
-use Rattle.std.proofs.Common.{◌≡◌, ◌-◌, ◌≤◌, length, get_or}
+use Rattle.std.proofs.Common.{◌≡◌, get_or}
 use lib.Ieee.{nan}
 use Rattle.buffers.specs.Lent.{filled}
 use Rattle.float.specs.Arctangent.{turned_angle}
 use Rattle.float.proofs.angles.turn_each.Given as goal
 
 abbrev pub invariant-loop-k : goal.invariant-loop-k
-invariant-loop-k l = (l.k ≤ l.count) × (l.count ≤ length l.initial.qs) × (length l.qs ≡ length l.initial.qs)
-    × (l.qs ≡ filled l.k (λ t. turned_angle (get_or l.ys t nan) (get_or l.zs t nan) (get_or l.initial.qs t nan)) l.initial.qs)
-
-abbrev pub decreases-loop-k : goal.decreases-loop-k
-decreases-loop-k l = l.count - l.k
+invariant-loop-k l = l.qs ≡ filled l.k (λ t. turned_angle (get_or l.ys t nan) (get_or l.zs t nan) (get_or l.initial.qs t nan)) l.initial.qs
