@@ -9,7 +9,7 @@ ghost use Rattle.float.specs.Arithmetic.{◌⊕◌, ◌⊗◌, one, abs_of};
 ghost use Rattle.float.specs.Arctangent.{halved, ratio, turned_angle, arctangent};
 
 use crate::abs;
-use crate::arctangent::{cosine, ratio, turned_angle};
+use crate::arctangent::{COSINE_GUESS, polynomial, ratio, turned_angle};
 use crate::root::{checked_to_two, root_by_inverse};
 
 // How many points are worked side by side.
@@ -21,7 +21,7 @@ fn guess_roots(qs: &[f64], roots: &mut [f64])
 {
     for k in 0..qs.len() {
         let u = qs[k] * qs[k];
-        roots[k] = root_by_inverse(1.0 + u, cosine(u));
+        roots[k] = root_by_inverse(1.0 + u, polynomial(&COSINE_GUESS, u));
     }
 }
 

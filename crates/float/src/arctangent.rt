@@ -19,31 +19,48 @@ const ODD_NUMBERS: [f64; 9] = [
     0.058823529411764705,
 ];
 
-// About the cosines of an angle, of its half and of its quarter, from u, the square of its tangent, from 0 to 1: to 5e-7,
-// by the polynomials of the least error. 1 / root(1 + q * q) is the cosine of the angle whose tangent is q, so these are
-// what the roots of the three rounds are guessed from, and no round waits for its guess. Nothing is promised of them.
-pub(crate) fn cosine(u: f64) -> f64 {
-    let u2 = u * u;
-    let low = (0.9999997013770449 - 0.4999598797020895 * u)
-        + u2 * (0.37409963698964693 - 0.30459003728517675 * u);
-    let high = (0.23775463322930215 - 0.15149355243995094 * u)
-        + u2 * (0.06389531869721704 - 0.01259925083776282 * u);
-    low + u2 * u2 * high
-}
+// About the cosines of an angle, of its half and of its quarter, in u, the square of its tangent, from 0 to 1: to 5e-7, the polynomials of the least error.
+// 1 / root(1 + q * q) is the cosine of the angle whose tangent is q, so these are what the roots of the three rounds are guessed from, and no round waits for
+// its guess. Nothing is promised of them.
+pub(crate) const COSINE_GUESS: [f64; 8] = [
+    0.9999997013770449,
+    -0.4999598797020895,
+    0.37409963698964693,
+    -0.30459003728517675,
+    0.23775463322930215,
+    -0.15149355243995094,
+    0.06389531869721704,
+    -0.01259925083776282,
+];
 
-fn half_cosine(u: f64) -> f64 {
-    let u2 = u * u;
-    let low = (0.9999996748312763 - 0.12496506544966943 * u)
-        + u2 * (0.08531738395358424 - 0.0631294715875269 * u);
-    let high = (0.04148403036490608 - 0.018934927157913273 * u) + u2 * 0.00410820797335822;
-    low + u2 * u2 * high
-}
+const HALF_COSINE_GUESS: [f64; 8] = [
+    0.9999996748312763,
+    -0.12496506544966943,
+    0.08531738395358424,
+    -0.0631294715875269,
+    0.04148403036490608,
+    -0.018934927157913273,
+    0.00410820797335822,
+    0.0,
+];
 
-fn quarter_cosine(u: f64) -> f64 {
+const QUARTER_COSINE_GUESS: [f64; 8] = [
+    0.9999995187800327,
+    -0.03121113141406551,
+    0.020480293597422906,
+    -0.013573232511373788,
+    0.006700818351904314,
+    -0.0016114583741507341,
+    0.0,
+    0.0,
+];
+
+// The polynomial with the coefficients c(0) to c(7), at u, by products that need not wait for each other.
+pub(crate) fn polynomial(c: &[f64; 8], u: f64) -> f64 {
     let u2 = u * u;
-    let low = (0.9999995187800327 - 0.03121113141406551 * u)
-        + u2 * (0.020480293597422906 - 0.013573232511373788 * u);
-    low + u2 * u2 * (0.006700818351904314 - 0.0016114583741507341 * u)
+    let low = (c[0] + c[1] * u) + u2 * (c[2] + c[3] * u);
+    let high = (c[4] + c[5] * u) + u2 * (c[6] + c[7] * u);
+    low + u2 * u2 * high
 }
 
 // The tangent of half the angle whose tangent is q, and whose cosine is about c. Nothing is asked of c.
@@ -58,9 +75,12 @@ fn halved_thrice(q: f64) -> f64
     ensures { result ≡ halved (halved (halved q)) }
 {
     let u = q * q;
-    let half = half_cosine(u);
-    let quarter = quarter_cosine(u);
-    halved(halved(halved(q, cosine(u)), half), quarter)
+    let half = polynomial(&HALF_COSINE_GUESS, u);
+    let quarter = polynomial(&QUARTER_COSINE_GUESS, u);
+    halved(
+        halved(halved(q, polynomial(&COSINE_GUESS, u)), half),
+        quarter,
+    )
 }
 
 // The smaller of two sizes divided by the larger.
