@@ -8,8 +8,6 @@ ghost use Rattle.std.specs.Float.Ieee.{units};
 ghost use Rattle.float.specs.Root.{sqrt_of};
 ghost use Rattle.float.specs.RootSteps.{operand_of, paired_of, scaled_of, LargestRoot, rounded_of, Tried};
 
-use std::num::wrapping_sub_u64;
-
 // A number as significand * 4^half.
 #[derive(Clone, Copy)]
 struct Scaled {
@@ -58,7 +56,7 @@ fn scale(b: u64) -> Scaled
 {
     let field = b >> 52;
     if field == 0 {
-        let z = u64::leading_zeros(b) as u64 - 11;
+        let z = b.leading_zeros() as u64 - 11;
         paired(b << z, 1074 - z)
     } else {
         paired(0x10_0000_0000_0000 + b % 0x10_0000_0000_0000, field + 1073)
@@ -100,12 +98,12 @@ fn near(m: u64, q: u64) -> Option<Floor>
     let d = q - 1;
     let a = d / 0x400_0000;
     let c = d % 0x400_0000;
-    let over = wrapping_sub_u64(m, a * a);
+    let over = m.wrapping_sub(a * a);
     if over < 0x1000_0000 {
-        let part = wrapping_sub_u64(over * 0x200_0000, a * c);
+        let part = (over * 0x200_0000).wrapping_sub(a * c);
         if part < 0x4000_0000 {
-            let rest = wrapping_sub_u64(part * 0x800_0000, c * c);
-            let t = wrapping_sub_u64(rest, q);
+            let rest = (part * 0x800_0000).wrapping_sub(c * c);
+            let t = rest.wrapping_sub(q);
             if t <= q * 2 - 1 {
                 if t == d {
                     return Some(Floor {
