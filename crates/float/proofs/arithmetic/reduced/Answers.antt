@@ -11,9 +11,6 @@ eleven n i h = (omega arith, omega arith)
 last : (n i : ℕ) → n / 11 ≤ i → i ≤ n / 11 → n - 11 * i ≡ n % 11
 last n i h l = omega arith
 
-pub loop-init : goal.loop-init
-loop-init c = (c.requires.0, ap (λ (k : ℕ). (c.args.d * 2 ^ k) % c.args.m) (omega arith))
-
 pub loop-preserved : goal.loop-preserved
 loop-preserved c = let l = c.loop in
     let m : ((l.r * 2 ^ 11) % 2 ^ 64) % c.args.m < c.args.m = omega (arith, c.requires.1) in

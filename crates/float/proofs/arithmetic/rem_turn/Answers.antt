@@ -11,7 +11,3 @@ returns-then-x-2 c = sym (rem_turn_small c.args.x (subst T (sym c.well_formed.0.
 pub returns-then-x-3 : goal.returns-then-x-3
 unfolding of_bits neg
 returns-then-x-3 c = sym (rem_turn_once c.args.x c.if-x.true c.if-x-2.false c.if-x-3.true)
-
-pub returns : goal.returns
-unfolding of_bits
-returns c = c.remainder.ensures

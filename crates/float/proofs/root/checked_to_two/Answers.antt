@@ -6,19 +6,12 @@ use mathlib.Core.Bool.{false≢true}
 use Rattle.std.specs.Option.{is_some}
 use Rattle.std.proofs.lemmas.Float.{T_from_true}
 use Rattle.float.specs.Root.{sqrt_of}
-use Rattle.float.specs.RootSteps.{magnitude, LargestRoot, rounded_of, FromOperand, Tried}
+use Rattle.float.specs.RootSteps.{LargestRoot, rounded_of, FromOperand, Tried}
 use Rattle.float.specs.declared.root.Scaled.{Scaled}
 use Rattle.float.specs.declared.root.Floor.{Floor}
 use Rattle.float.proofs.Patterns.{packed_is}
-use Rattle.float.proofs.Scaling.{Scales}
-use Rattle.float.proofs.Sign.{above_not_nan}
-use Rattle.float.proofs.Steps.{above_zero_left, scaled_is, root_from_steps}
+use Rattle.float.proofs.Steps.{above_zero_left, root_from_steps}
 use Rattle.float.proofs.root.checked_to_two.Goals as goal
-use Rattle.float.proofs.root.checked_to_two.Goals.{After-scale-s}
-
--- what `scale` gives
-scaled_at : (c : After-scale-s) → Scales (magnitude (to_bits binary64 c.args.x) * 2 ^ 1074) c.scale-s.result
-scaled_at c = (scaled_is (to_bits binary64 c.args.x) c.scale-s.result c.scale-s.ensures (omega arith) (omega arith)).0
 
 -- infinity's pattern is larger
 finite_pattern : (x : Float) → to_bits binary64 x < 2047 * 2 ^ 52 → x ≡ inf false → ⊥
@@ -36,12 +29,6 @@ own_units g h lo hi =
 found : (n q : ℕ) (o : Option Floor) → is_some o ≡ true → Tried n q o → (f : Floor) × LargestRoot n f × (rounded_of f ≡ q)
 found n q (Some f) e t = (f, t.0, t.1)
 found n q None e t = absurd (false≢true e)
-
-pub float_to_bits-b : goal.float_to_bits-b
-float_to_bits-b c = above_not_nan _ c.if-x.true
-
-pub near-requires : goal.near-requires
-near-requires c = ((scaled_at (goal.at.near-requires c).After-scale-s).2, omega arith, omega arith)
 
 pub returns-then-is_some : goal.returns-then-is_some
 returns-then-is_some c = let x = c.args.x in

@@ -1,15 +1,11 @@
 -- `float::root::floor_by_digits` meets its contract. After i turns `root` is the floor of the root of the first 2 * i bits of m * 2 ^ 54, which has 108, `rest` is
 -- what its square leaves of them, and `bits` has the next 64. Assumes nothing.
-use Rattle.std.proofs.Common.{◌≡◌, ℕ, zero, suc, ◌+◌, ◌-◌, ◌*◌, ◌/◌, ◌%◌, ◌^◌, ◌<◌, ◌≤◌, eqb, sym, ap, ◌∙◌, subst, subst₂, lt_of_lt_of_le, mul_assoc, pow-suc, add-one, arith, pow_mono, eq-eqb, ne_eqb}
+use Rattle.std.proofs.Common.{◌≡◌, ℕ, ◌+◌, ◌-◌, ◌*◌, ◌/◌, ◌%◌, ◌^◌, ◌<◌, ◌≤◌, sym, ap, ◌∙◌, subst₂, lt_of_lt_of_le, mul_assoc, pow-suc, add-one, arith, pow_mono}
 use native.Mathlib.Nat.{mul-mul-mul_comm}
-use Rattle.float.specs.RootSteps.{LargestRoot}
 use Rattle.float.proofs.Isqrt.{sq_suc}
 use Rattle.float.proofs.root.floor_by_digits.Goals as goal
 use Rattle.float.proofs.root.floor_by_digits.Invariants.{Digits}
 use Rattle.float.proofs.root.floor_by_digits.Goals.{then-trial-rest, else-trial-rest, In-loop}
-
-start : (m : ℕ) → m < 2 ^ 54 → Digits m ((m * 2 ^ 10) % 2 ^ 64) 0 0 0
-start m h = (omega arith, omega arith, omega arith, omega arith, omega arith)
 
 small : (m bits root rest i : ℕ) → Digits m bits root rest i → i < 54 → root < 2 ^ 53
 small m bits root rest i d h = lt_of_lt_of_le d.3 (pow_mono {i = i} {j = 53} (omega arith))
@@ -34,28 +30,9 @@ down m bits root rest i d h t = (omega arith, omega (arith, next m i, sq2 root),
 move : (m bits i : ℕ) {r r' s s' : ℕ} → r ≡ r' → s ≡ s' → Digits m bits r' s' i → Digits m bits r s i
 move m bits i p q d = subst₂ (λ (x y : ℕ). Digits m bits x y i) (sym p) (sym q) d
 
--- all the bits are in
-all : (m bits root rest i : ℕ) → Digits m bits root rest i → 54 ≤ i → root * root + rest ≡ m * 2 ^ 54
-all m bits root rest i d h =
-    let e : i ≡ 54 = omega arith in
-    let f : (root * root + rest) * 2 ^ 64 + bits ≡ m * 2 ^ 10 * 4 ^ 54 = subst (λ (x : ℕ). (root * root + rest) * 2 ^ 64 + bits ≡ m * 2 ^ 10 * 4 ^ x) e d.1 in
-    omega (arith, d.4)
-
-none_left : (n s rest : ℕ) → s + rest ≡ n → eqb rest 0 ≡ eqb s n
-none_left n s zero e = sym (eq-eqb s n (omega arith))
-none_left n s (suc t) e = ne_eqb (suc t) 0 (omega arith) ∙ sym (ne_eqb s n (omega arith))
-
-finish : (m bits root rest i : ℕ) → Digits m bits root rest i → 54 ≤ i → LargestRoot (m * 2 ^ 54) (record { root = root; exact = eqb rest 0 })
-finish m bits root rest i d h =
-    let e = all m bits root rest i d h in
-    (omega arith, omega (arith, sq_suc root, d.2), none_left (m * 2 ^ 54) (root * root) rest e)
-
 -- what a turn starts with
 root_small : (c : In-loop) → (let l = c.loop in (l.root < 2 ^ 53) × (l.rest ≤ 2 * l.root) × (l.bits < 2 ^ 64))
 root_small c = let l = c.loop in (small c.args.m l.bits l.root l.rest l.counter l.invariant c.loop-test.true, l.invariant.2, l.invariant.4)
-
-pub loop-init : goal.loop-init
-loop-init c = start c.args.m c.requires
 
 pub overflow_mul-rest : goal.overflow_mul-rest
 overflow_mul-rest c = let b = root_small (goal.at.overflow_mul-rest c).In-loop in omega (arith, b.1, b.2)
@@ -69,12 +46,6 @@ overflow_mul-trial c = let b = root_small (goal.at.overflow_mul-trial c).In-loop
 pub overflow_add-trial : goal.overflow_add-trial
 overflow_add-trial c = let b = root_small (goal.at.overflow_add-trial c).In-loop in omega (arith, b.1, b.2)
 
-pub overflow_mul-root : goal.overflow_mul-root
-overflow_mul-root c = let b = root_small (goal.at.overflow_mul-root c).In-loop in omega (arith, b.1, b.2)
-
-pub overflow_add-root : goal.overflow_add-root
-overflow_add-root c = let b = root_small (goal.at.overflow_add-root c).In-loop in omega (arith, b.0)
-
 pub loop-preserved : goal.loop-preserved
 loop-preserved c = let m = c.args.m in
     let l = c.loop in
@@ -82,7 +53,3 @@ loop-preserved c = let m = c.args.m in
       | then-trial-rest w ↦ move _ _ _ w.root-is w.rest-is (up m l.bits l.root l.rest l.counter l.invariant c.loop-test.true (omega (arith, w.if-trial-rest.true)))
       | else-trial-rest w ↦ move _ _ _ w.root-is w.rest-is (down m l.bits l.root l.rest l.counter l.invariant c.loop-test.true w.if-trial-rest.false)
     ]
-
-pub returns : goal.returns
-returns c = let l = c.loop in
-    finish c.args.m l.bits l.root l.rest l.counter l.invariant c.loop-test.false

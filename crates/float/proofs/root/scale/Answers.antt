@@ -9,20 +9,8 @@ use Rattle.float.proofs.root.scale.Goals as goal
 low : (b : ℕ) → b / 2 ^ 52 ≡ 0 → b < 2 ^ 52
 low b h = omega arith
 
-pub overflow_cast-z : goal.overflow_cast-z
-overflow_cast-z c = let f = subnormal c.args.b c.requires.0 (low c.args.b c.if-field-eq0.true) in
-    omega arith
-
 pub overflow_sub-z : goal.overflow_sub-z
 overflow_sub-z c = let f = subnormal c.args.b c.requires.0 (low c.args.b c.if-field-eq0.true) in
-    omega arith
-
-pub overflow_shl-b : goal.overflow_shl-b
-overflow_shl-b c = let f = subnormal c.args.b c.requires.0 (low c.args.b c.if-field-eq0.true) in
-    omega arith
-
-pub overflow_sub-z-then-field-eq0 : goal.overflow_sub-z-then-field-eq0
-overflow_sub-z-then-field-eq0 c = let f = subnormal c.args.b c.requires.0 (low c.args.b c.if-field-eq0.true) in
     omega arith
 
 pub paired-requires : goal.paired-requires
