@@ -6,8 +6,6 @@ ghost use Rattle.std.specs.Float.Ieee.Exact.{HasValue};
 ghost use Rattle.float.specs.Arithmetic.{full_turn, abs_of, rem_euclid, to_degrees};
 ghost use Rattle.float.specs.RootSteps.{magnitude};
 
-use crate::PI;
-
 // A number as digits * 2^shift units of 2^-1074, the smallest value.
 #[derive(Clone, Copy)]
 struct Shifted {
@@ -133,7 +131,7 @@ pub fn rem_euclid_turn(x: f64) -> f64
 pub fn to_degrees(a: f64) -> f64
     ensures { result ≡ to_degrees a }
 {
-    a * (180.0 / PI)
+    a.to_degrees()
 }
 
 // The bit pattern of x; of every NaN 7ff8000000000000.

@@ -19,4 +19,4 @@ pub use root::sqrt;
 pub use trigonometry::{SinCos, cos, sin, sin_cos, to_radians};
 
 // The f64 nearest to pi.
-pub const PI: f64 = 3.141592653589793;
+pub const PI: f64 = std::f64::consts::PI;

@@ -2,6 +2,8 @@
 // intermediate result, as the floor of the root of a scaled significand and whether it is exact; rounding. Numbers such as 5.4.1 are its clauses.
 //
 // Step 2 first tries a guess of the root, made by float steps. Nothing is promised of it: it is checked exactly, with integers.
+//
+// Not by f64::sqrt, which is the processor's root: these steps, and what is promised of each, are asked for (docs/PROOF.md, request Six).
 ghost use Rattle.std.specs.Prelude.{◌≡◌, ◌*◌, ◌^◌, ◌<◌, ◌≤◌, false};
 ghost use Rattle.std.specs.Float.{binary64};
 ghost use Rattle.std.specs.Float.Ieee.{units};

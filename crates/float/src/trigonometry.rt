@@ -104,5 +104,5 @@ pub fn cos(r: f64) -> f64
 pub fn to_radians(a: f64) -> f64
     ensures { result ≡ to_radians a }
 {
-    a * (PI / 180.0)
+    a.to_radians()
 }

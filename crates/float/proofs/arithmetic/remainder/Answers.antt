@@ -1,5 +1,6 @@
 -- `float::arithmetic::remainder` meets its contract. Assumes nothing.
 use Rattle.std.proofs.Common.{◌≡◌, ℕ, ◌-◌, ◌*◌, ◌%◌, ◌^◌, ◌<◌, ◌≤◌, Bool, not, T, sym, ap, ◌∙◌, subst, subst₂, arith}
+use Rattle.std.proofs.lemmas.Float.{T_from_true}
 use lib.Ieee.{Float, binary64, fits, is_nan, to_bits, lt, round}
 use lib.Ieee.Positive.{first_pos}
 use Rattle.float.specs.Arithmetic.{zero·0, sign_bit_of, abs_of}
@@ -12,10 +13,10 @@ use Rattle.float.proofs.arithmetic.remainder.Goals.{Start, Else-p-q, After-digit
 
 -- what owning an f64 tells
 held_a : (c : Start) → T (fits binary64 c.args.a)
-held_a c = subst T (sym c.well_formed.0.1) tt
+held_a c = T_from_true _ c.well_formed.0.1
 
 held_b : (c : Start) → T (fits binary64 c.args.b)
-held_b c = subst T (sym c.well_formed.1.0.1) tt
+held_b c = T_from_true _ c.well_formed.1.0.1
 
 -- what the tests left
 left : (c : Else-p-q) → Left c.args.a c.args.b
