@@ -47,7 +47,8 @@ fn past(threshold: f64, a: f64) -> u64
     u64::from(threshold < a)
 }
 
-// How many of P/4, 3P/4, 5P/4, 7P/4 are below a. Four terms and no iterator: they become one comparison of four, and a filter and its count a loop with branches.
+// How many of P/4, 3P/4, 5P/4, 7P/4 are below a. Four terms, which become one comparison of four; a filter and its count
+// become a loop with branches, by which a sine takes half as long again.
 fn quadrant(a: f64) -> u64
     ensures { (result ≡ quadrant_of a) × (result ≤ 4) }
 {
