@@ -1,12 +1,16 @@
 -- Laws of one cell: the answer from what rows and panels share; an answer that is not refused, and the roll of one At a roll; a triple past the end. Assumes nothing.
-use mathlib.Core.Path.{◌≡◌, refl, sym, ap}
-use mathlib.Core.Bool.{Bool, true, false, cond, true≢false}
-use mathlib.Core.List.{List}
-use Prim.Native.Nat.{ℕ, ◌+◌, ◌*◌, ◌≤◌}
+use mathlib.Core.Path.{◌≡◌, refl, sym, ap, ◌∙◌}
+use mathlib.Core.Bool.{Bool, true, false, cond, not, ◌||◌, ◌&&◌, true≢false}
+use mathlib.Core.List.{List, [], ◌∷◌}
+use Prim.Native.Nat.{ℕ, zero, suc, ◌+◌, ◌*◌, ◌≤◌}
 use native.Mathlib.Omega.{arith}
+use Rattle.std.proofs.Math.Nat.{add-zero, zero-add}
 use lib.ListN.{length, get_or-eq_default}
-use lib.Ieee.{Float, nan}
+use lib.Ieee.{Float, nan, binary64, of_bits}
+use Rattle.std.specs.List.{list_any, list_all, range_with_len}
+use Rattle.buffers.specs.Ranges.{any, any_below}
 use Rattle.buffers.specs.Refusal.{accepted}
+use Rattle.buffers.proofs.Ranges.{any_step}
 use Rattle.solar_roll.specs.Vectors.{Vector, vector}
 use Rattle.solar_roll.specs.Roll.{Axes, body_axes, roll_deg_in, panel_angle, panel_of, roll_is_unconstrained, solar_optimal_roll_deg}
 use Rattle.solar_roll.specs.Cell.{optimal_roll, roll_in, cell_reply}
@@ -62,6 +66,40 @@ at_optimal target sun normal roll = go (roll_is_unconstrained target sun normal)
     go : (b : Bool) → cond b Free (At (solar_optimal_roll_deg target sun normal)) ≡ At roll → solar_optimal_roll_deg target sun normal ≡ roll
     go true e = absurd (free_not_at roll e)
     go false e = ap roll_of e
+
+-- ---- whether an element of a list has a property, as the library has it
+
+pub any_listed : {A : Type 0} (p : A → Bool) (xs : List A) → list_any p xs ≡ any p xs
+unfolding any
+any_listed p [] = refl
+any_listed p (x ∷ xs) = ap (λ b. p x || b) (any_listed p xs)
+
+or_false : (a : Bool) → (a || false) ≡ a
+or_false true = refl
+or_false false = refl
+
+or_step : (a b c : Bool) → (a || not (not b && c)) ≡ ((a || b) || not c)
+or_step true b c = refl
+or_step false true c = refl
+or_step false false c = refl
+
+-- no number of a range has the property exactly where each lacks it
+all_from : (q : ℕ → Bool) (a n : ℕ) → (any_below a q || not (list_all (λ i. not (q i)) (range_with_len a n))) ≡ any_below (a + n) q
+unfolding any_below
+all_from q a zero = or_false (any_below a q) ∙ ap (λ k. any_below k q) (sym (add-zero a))
+all_from q a (suc n) =
+    let e : a + 1 + n ≡ a + suc n = omega arith in
+    let rest = not (list_all (λ i. not (q i)) (range_with_len (a + 1) n)) in
+    or_step (any_below a q) (q a) _ ∙ ap (λ b. b || rest) (sym (any_step a q)) ∙ all_from q (a + 1) n ∙ ap (λ k. any_below k q) e
+
+pub all_lack : (q : ℕ → Bool) (n : ℕ) → not (list_all (λ i. not (q i)) (range_with_len 0 n)) ≡ any_below n q
+unfolding any_below
+all_lack q n = all_from q 0 n ∙ ap (λ k. any_below k q) (zero-add n)
+
+-- the code's NaN
+pub nan_bits : of_bits binary64 9221120237041090560 ≡ nan
+unfolding of_bits
+nan_bits = refl
 
 -- past the end a triple is NaN
 pub triple_past : (xs : List Float) (i : ℕ) → length xs ≤ i → vector nan nan nan ≡ triple xs i

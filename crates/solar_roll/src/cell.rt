@@ -7,6 +7,7 @@ ghost use Rattle.solar_roll.specs.Cell.{optimal_roll, free_or_at, roll_in, cell_
 ghost use Rattle.solar_roll.specs.declared.cell.CellRoll.TheVariants.{At};
 ghost use Rattle.solar_roll.specs.Cell.{too_large, bad_position, bad_direction, not_unit, any_not_unit, direction_refusal, numbers_refusal};
 
+use crate::plan::triple;
 use crate::roll::{
     Panel, circular_diff_deg, roll_deg_in, roll_is_unconstrained, solar_optimal_roll_deg,
     sun_along_boresight, sun_unit,
@@ -37,20 +38,20 @@ pub enum CellRoll {
 }
 
 // The cell's answer, from what its row and its panel share and its roll.
+#[tactic(auto, unfolding(crate::specs::Cell::free_or_at))]
 pub fn free_or_at(axes: [[f64; 3]; 3], sun_unit: [f64; 3], panel: Panel, roll_deg: f64) -> CellRoll
     ensures { result ≡ free_or_at axes sun_unit panel roll_deg }
 {
     let target = axes[0];
-    if sun_along_boresight(target, sun_unit) {
-        return CellRoll::Free;
+    if sun_along_boresight(target, sun_unit) || panel.free {
+        CellRoll::Free
+    } else {
+        CellRoll::At(roll_deg)
     }
-    if panel.free {
-        return CellRoll::Free;
-    }
-    CellRoll::At(roll_deg)
 }
 
 // The cell's answer, from what its row and its panel share.
+#[tactic(auto, unfolding(crate::specs::Cell::roll_in))]
 pub fn roll_in(axes: [[f64; 3]; 3], sun_unit: [f64; 3], panel: Panel) -> CellRoll
     ensures { result ≡ roll_in axes sun_unit panel }
 {
@@ -58,6 +59,7 @@ pub fn roll_in(axes: [[f64; 3]; 3], sun_unit: [f64; 3], panel: Panel) -> CellRol
     free_or_at(axes, sun_unit, panel, roll)
 }
 
+#[tactic(auto, unfolding(crate::specs::Cell::optimal_roll))]
 fn optimal_roll(target: [f64; 3], sun_unit: [f64; 3], panel_normal: [f64; 3]) -> CellRoll
     ensures { result ≡ optimal_roll target sun_unit panel_normal }
 {
@@ -69,6 +71,7 @@ fn optimal_roll(target: [f64; 3], sun_unit: [f64; 3], panel_normal: [f64; 3]) ->
 }
 
 // Whether the cell is violated at a roll: a tolerance met exactly is not.
+#[tactic(auto, unfolding(crate::specs::Cell::violates))]
 pub fn violated(cell: CellRoll, roll_deg: f64, tolerance_deg: f64) -> bool
     ensures { result ≡ violates cell roll_deg tolerance_deg }
 {
@@ -91,27 +94,21 @@ pub fn in_force(roll: EvaluationRoll, configured: Option<f64>) -> f64
 }
 
 // Whether a number is over the limit in size, or a NaN.
+#[tactic(auto, unfolding(crate::specs::Cell::too_large))]
 fn any_too_large(xs: &[f64], limit: f64) -> bool
     ensures { result ≡ any (too_large limit) xs.now }
 {
-    let mut i = 0;
-    while i < xs.len() {
-        let x = xs[i];
-        if abs(x) <= limit {
-            i += 1;
-        } else {
-            return true;
-        }
-    }
-    false
+    xs.iter().any(|x| !(abs(*x) <= limit))
 }
 
+#[tactic(auto, unfolding(crate::specs::Cell::bad_position))]
 fn bad_position(xs: &[f64]) -> bool
     ensures { result ≡ bad_position xs.now }
 {
     any_too_large(xs, LIMIT)
 }
 
+#[tactic(auto, unfolding(crate::specs::Cell::bad_direction))]
 fn bad_direction(xs: &[f64]) -> bool
     ensures { result ≡ bad_direction xs.now }
 {
@@ -119,6 +116,7 @@ fn bad_direction(xs: &[f64]) -> bool
 }
 
 // Whether the squared length of v is within 1e-9 of 1.
+#[tactic(auto, unfolding(crate::specs::Cell::not_unit, crate::specs::Vectors::dot3))]
 fn is_unit(v: [f64; 3]) -> bool
     ensures { not result ≡ not_unit v }
 {
@@ -127,23 +125,11 @@ fn is_unit(v: [f64; 3]) -> bool
 }
 
 // Whether each triple of a flat list is a unit vector.
+#[tactic(auto, unfolding(crate::specs::Cell::any_not_unit))]
 fn all_unit(targets: &[f64]) -> bool
     ensures { not result ≡ any_not_unit targets.now }
 {
-    let count = targets.len() / 3;
-    let mut i = 0;
-    while i < count {
-        let k = 3 * i;
-        let x = targets[k];
-        let y = targets[k + 1];
-        let z = targets[k + 2];
-        if is_unit([x, y, z]) {
-            i += 1;
-        } else {
-            return false;
-        }
-    }
-    true
+    (0..targets.len() / 3).all(|i| is_unit(triple(targets, i)))
 }
 
 // Of directions, a flat list of triples. 5 is tried of them all before 20 of any.
@@ -179,10 +165,7 @@ pub(crate) fn numbers_refusal(
 ) -> Result<(), Refusal>
     ensures { found result ≡ numbers_refusal targets.now suns.now observers.now panels.now }
 {
-    if bad_position(suns) {
-        return Err(Refusal::PositionOutOfRange);
-    }
-    if bad_position(observers) {
+    if bad_position(suns) || bad_position(observers) {
         return Err(Refusal::PositionOutOfRange);
     }
     directions_refusal(targets)?;

@@ -41,48 +41,39 @@ pub struct SolarRollConfig {
 }
 
 // The k-th number of xs, NaN past the end.
+#[tactic(auto, using(crate::proofs::Cells::nan_bits))]
 fn number(xs: &[f64], k: usize) -> f64
     ensures { result ≡ get_or xs.now k nan }
 {
-    if k < xs.len() { xs[k] } else { 0.0 / 0.0 }
+    xs.get(k).copied().unwrap_or(f64::NAN)
 }
 
 // The i-th triple of xs, NaN past the end.
+#[tactic(auto, using(crate::proofs::Cells::nan_bits, crate::proofs::Cells::triple_past), unfolding(crate::specs::Vectors::triple))]
 pub fn triple(xs: &[f64], i: usize) -> [f64; 3]
     ensures { result ≡ triple xs.now i }
 {
     if xs.len() <= i {
-        let nan = 0.0 / 0.0;
-        return [nan, nan, nan];
+        return [f64::NAN; 3];
     }
     let k = 3 * i;
     [number(xs, k), number(xs, k + 1), number(xs, k + 2)]
 }
 
 // 1, of the lists' lengths.
+#[tactic(auto, unfolding(crate::specs::Plan::unlike_lengths))]
 fn unlike_lengths(targets: usize, suns: usize, observers: usize) -> bool
     ensures { result ≡ unlike_lengths targets suns observers }
 {
-    if targets % 3 != 0 {
-        return true;
-    }
-    if suns % 3 != 0 {
-        return true;
-    }
-    suns != observers
+    targets % 3 != 0 || suns % 3 != 0 || suns != observers
 }
 
 // 2.
+#[tactic(auto, unfolding(crate::specs::Plan::too_many))]
 pub fn too_many(rows: usize, times: usize) -> bool
     ensures { result ≡ too_many rows times }
 {
-    if MOST_ROWS < rows {
-        return true;
-    }
-    if MOST_TIMES < times {
-        return true;
-    }
-    MOST_CELLS < rows * times
+    MOST_ROWS < rows || MOST_TIMES < times || MOST_CELLS < rows * times
 }
 
 // Refuses 3 unless there are 1 to 3,600 samples.
@@ -90,7 +81,7 @@ pub fn too_many(rows: usize, times: usize) -> bool
 pub fn samples_refusal(n: u64) -> Result<(), Refusal>
     ensures { found result ≡ samples_refusal n }
 {
-    if 1 <= n && n <= MOST_SAMPLES as u64 {
+    if (1..=MOST_SAMPLES as u64).contains(&n) {
         Ok(())
     } else {
         Err(Refusal::RollCountOutOfRange)
@@ -166,10 +157,7 @@ impl Plan<'_> {
         ensures { let p : PlanOf = lent self.now in
             found result ≡ sizes_refusal (length p.targets) (length p.suns) (length p.observers) beyond }
     {
-        if unlike_lengths(self.targets.len(), self.suns.len(), self.observers.len()) {
-            return Err(Refusal::LengthsDoNotFit);
-        }
-        if beyond {
+        if unlike_lengths(self.targets.len(), self.suns.len(), self.observers.len()) || beyond {
             return Err(Refusal::LengthsDoNotFit);
         }
         if too_many(self.rows(), self.times()) {

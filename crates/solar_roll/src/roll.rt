@@ -12,6 +12,7 @@ use buffers::smaller;
 use float::{abs, atan2, atan2_each, rem_euclid_turn, sqrt, to_degrees};
 
 // The unit vector from the observer to the Sun.
+#[tactic(auto, unfolding(crate::specs::Roll::sun_unit))]
 pub fn sun_unit(sun: [f64; 3], observer: [f64; 3]) -> [f64; 3]
     ensures { result ≡ sun_unit sun observer }
 {
@@ -29,6 +30,7 @@ pub fn sun_unit(sun: [f64; 3], observer: [f64; 3]) -> [f64; 3]
 }
 
 // With the Sun along the boresight the panel is edge-on to it at every roll.
+#[tactic(auto, unfolding(crate::specs::Roll::sun_along_boresight))]
 pub fn sun_along_boresight(target: [f64; 3], sun_unit: [f64; 3]) -> bool
     ensures { result ≡ sun_along_boresight target sun_unit }
 {
@@ -43,6 +45,7 @@ pub struct Panel {
     pub angle: f64,
 }
 
+#[tactic(auto, unfolding(crate::specs::Roll::panel_is_free))]
 pub fn panel_is_free(panel_normal: [f64; 3]) -> bool
     ensures { result ≡ panel_is_free panel_normal }
 {
@@ -50,6 +53,7 @@ pub fn panel_is_free(panel_normal: [f64; 3]) -> bool
     panel_proj <= NEAR_ZERO
 }
 
+#[tactic(auto, unfolding(crate::specs::Roll::panel_of, crate::specs::Roll::panel_angle))]
 pub fn panel_of(panel_normal: [f64; 3]) -> Panel
     ensures { result ≡ panel_of panel_normal }
 {
@@ -59,16 +63,15 @@ pub fn panel_of(panel_normal: [f64; 3]) -> Panel
     }
 }
 
+#[tactic(auto, unfolding(crate::specs::Roll::roll_is_unconstrained))]
 pub fn roll_is_unconstrained(target: [f64; 3], sun_unit: [f64; 3], panel_normal: [f64; 3]) -> bool
     ensures { result ≡ roll_is_unconstrained target sun_unit panel_normal }
 {
-    if sun_along_boresight(target, sun_unit) {
-        return true;
-    }
-    panel_is_free(panel_normal)
+    sun_along_boresight(target, sun_unit) || panel_is_free(panel_normal)
 }
 
 // The part of v perpendicular to x.
+#[tactic(auto, unfolding(crate::specs::Roll::perpendicular))]
 fn perpendicular(x: [f64; 3], v: [f64; 3]) -> [f64; 3]
     ensures { result ≡ perpendicular x v }
 {
@@ -77,6 +80,7 @@ fn perpendicular(x: [f64; 3], v: [f64; 3]) -> [f64; 3]
 }
 
 // A reference that is stable near the celestial pole.
+#[tactic(auto, unfolding(crate::specs::Roll::pole_fallback))]
 fn pole_fallback(x: [f64; 3]) -> [f64; 3]
     ensures { result ≡ pole_fallback x }
 {
@@ -92,11 +96,9 @@ fn pole_fallback(x: [f64; 3]) -> [f64; 3]
 fn north(x: [f64; 3]) -> [f64; 3]
     ensures { result ≡ north x }
 {
-    if let Some(projected) = normalize3(perpendicular(x, [0.0, 0.0, 1.0])) {
-        return projected;
-    }
-    let raw = perpendicular(x, pole_fallback(x));
-    normalize3(raw).unwrap_or([0.0, 1.0, 0.0])
+    normalize3(perpendicular(x, [0.0, 0.0, 1.0]))
+        .or_else(|| normalize3(perpendicular(x, pole_fallback(x))))
+        .unwrap_or([0.0, 1.0, 0.0])
 }
 
 // The north-referenced body frame: x is the boresight, y = north × x, z recomputed from them.
@@ -112,6 +114,7 @@ pub fn body_axes(target: [f64; 3]) -> [[f64; 3]; 3]
 
 // The optimal roll: the Sun's angle less the panel's, in degrees, as a remainder by 360. 360 more than a small negative
 // number rounds to 360, which becomes 0.
+#[tactic(auto, unfolding(crate::specs::Roll::roll_between, crate::specs::Roll::folded_roll))]
 fn roll_between(sun_angle: f64, panel_angle: f64) -> f64
     ensures { result ≡ roll_between sun_angle panel_angle }
 {

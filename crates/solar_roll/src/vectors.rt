@@ -6,18 +6,21 @@ use float::sqrt;
 
 pub const NEAR_ZERO: f64 = 1.0e-12;
 
+#[tactic(auto, unfolding(crate::specs::Vectors::dot3))]
 pub fn dot3(a: [f64; 3], b: [f64; 3]) -> f64
     ensures { result ≡ dot3 a b }
 {
     a[0] * b[0] + a[1] * b[1] + a[2] * b[2]
 }
 
+#[tactic(auto, unfolding(crate::specs::Vectors::norm3, crate::specs::Vectors::dot3))]
 pub fn norm3(v: [f64; 3]) -> f64
     ensures { result ≡ norm3 v }
 {
     sqrt(v[0] * v[0] + v[1] * v[1] + v[2] * v[2])
 }
 
+#[tactic(auto, unfolding(crate::specs::Vectors::cross3))]
 pub fn cross3(a: [f64; 3], b: [f64; 3]) -> [f64; 3]
     ensures { result ≡ cross3 a b }
 {
@@ -29,6 +32,7 @@ pub fn cross3(a: [f64; 3], b: [f64; 3]) -> [f64; 3]
 }
 
 // v / n, component by component.
+#[tactic(auto, unfolding(crate::specs::Vectors::over3))]
 pub fn over3(v: [f64; 3], n: f64) -> [f64; 3]
     ensures { result ≡ over3 v n }
 {
