@@ -1,14 +1,16 @@
 -- Laws of one cell: the answer from what rows and panels share; an answer that is not refused, and the roll of one At a roll; a triple past the end. Assumes nothing.
 use mathlib.Core.Path.{◌≡◌, refl, sym, ap, ◌∙◌}
 use mathlib.Core.Bool.{Bool, true, false, cond, not, ◌||◌, ◌&&◌, true≢false}
-use mathlib.Core.List.{List, [], ◌∷◌}
+use mathlib.Core.List.{List, [], ◌∷◌, ◌++◌, append-nil}
 use Prim.Native.Nat.{ℕ, zero, suc, ◌+◌, ◌*◌, ◌≤◌}
 use native.Mathlib.Omega.{arith}
 use Rattle.std.proofs.Math.Nat.{add-zero, zero-add}
-use lib.ListN.{length, get_or-eq_default}
+use lib.ListN.{length, take, drop, drop_of_length-le, get_or-eq_default}
+use lib.Seq.{length-take-le}
 use lib.Ieee.{Float, nan, binary64, of_bits}
 use Rattle.std.specs.List.{list_any, list_all, range_with_len}
-use Rattle.buffers.specs.Ranges.{any, any_below}
+use Rattle.buffers.specs.Ranges.{any, any_below, tab}
+use Rattle.buffers.specs.Lent.{filled}
 use Rattle.buffers.specs.Refusal.{accepted}
 use Rattle.buffers.proofs.Ranges.{any_step}
 use Rattle.solar_roll.specs.Vectors.{Vector, vector}
@@ -95,6 +97,19 @@ all_from q a (suc n) =
 pub all_lack : (q : ℕ → Bool) (n : ℕ) → not (list_all (λ i. not (q i)) (range_with_len 0 n)) ≡ any_below n q
 unfolding any_below
 all_lack q n = all_from q 0 n ∙ ap (λ k. any_below k q) (zero-add n)
+
+-- ---- a list of which the first places are lent, and filled
+
+module _ {A : Type 0} (f : ℕ → A) where
+  pub filled_whole : (n : ℕ) (l : List A) → length l ≡ n → filled n f l ≡ tab n f
+  unfolding filled
+  filled_whole n l e =
+      let h : length l ≤ n = omega arith in
+      ap (λ (t : List A). tab n f ++ t) (drop_of_length-le l h) ∙ append-nil (tab n f)
+
+  pub filled_front : (n : ℕ) (l : List A) → n ≤ length l → filled n f (take n l) ++ drop n l ≡ filled n f l
+  unfolding filled
+  filled_front n l h = ap (λ (t : List A). t ++ drop n l) (filled_whole n (take n l) (length-take-le n l h))
 
 -- the code's NaN
 pub nan_bits : of_bits binary64 9221120237041090560 ≡ nan

@@ -8,7 +8,6 @@ ghost use Rattle.solar_roll.specs.Vectors.{dot3};
 ghost use Rattle.solar_roll.specs.Roll.{sun_unit, sun_along_boresight, panel_is_free, panel_of, roll_is_unconstrained, perpendicular, pole_fallback, north, body_axes, InTurn, roll_between, roll_deg_in, solar_optimal_roll_deg, arc, circular_diff_deg};
 
 use crate::vectors::{NEAR_ZERO, cross3, dot3, norm3, normalize3, over3};
-use buffers::smaller;
 use float::{abs, atan2, atan2_each, rem_euclid_turn, sqrt, to_degrees};
 
 // The unit vector from the observer to the Sun.
@@ -134,32 +133,27 @@ pub(crate) fn roll_deg_in(axes: [[f64; 3]; 3], sun_unit: [f64; 3], panel_angle: 
     roll_between(atan2(sun_z, sun_y), panel_angle)
 }
 
-// The part of each of the Sun's units along an axis.
-fn parts_along(units: &[[f64; 3]], axis: [f64; 3], count: usize, parts: &mut [f64])
-    requires { (count ≤ length units.now) × (count ≤ length parts.old) }
-    ensures { parts.new ≡ filled count (λ k. dot3 (get_or units.now k []) axis) parts.old }
+// The parts of the Sun's units along an axis, as many as there are places for.
+fn parts_along(units: &[[f64; 3]], axis: [f64; 3], parts: &mut [f64])
+    requires { length parts.old ≤ length units.now }
+    ensures { parts.new ≡ filled (length parts.old) (λ k. dot3 (get_or units.now k []) axis) parts.old }
 {
-    let mut k = 0;
-    while k < count {
-        let unit = units[k];
-        parts[k] = dot3(unit, axis);
-        k += 1;
+    for (k, part) in parts.iter_mut().enumerate() {
+        *part = dot3(units[k], axis);
     }
 }
 
 // Makes of each of the Sun's angles the roll.
-fn to_rolls(panel_angle: f64, count: usize, rolls: &mut [f64])
-    requires { count ≤ length rolls.old }
-    ensures { rolls.new ≡ filled count (λ k. roll_between (get_or rolls.old k nan) panel_angle) rolls.old }
+fn to_rolls(panel_angle: f64, rolls: &mut [f64])
+    ensures { rolls.new ≡ filled (length rolls.old) (λ k. roll_between (get_or rolls.old k nan) panel_angle) rolls.old }
 {
-    let mut k = 0;
-    while k < count {
-        let angle = rolls[k];
-        let roll = roll_between(angle, panel_angle);
-        rolls[k] = roll;
-        k += 1;
+    for roll in rolls.iter_mut() {
+        *roll = roll_between(*roll, panel_angle);
     }
 }
+
+// The most cells whose rolls are worked out side by side.
+const MOST_AT_ONCE: usize = 64;
 
 // The optimal rolls of cells of one row, side by side, a cell for each of the Sun's units: as many as the shorter list
 // has, and at most 64.
@@ -167,15 +161,16 @@ pub fn rolls_deg_in(axes: [[f64; 3]; 3], units: &[[f64; 3]], panel_angle: f64, r
     ensures { let count : ℕ = min 64 (min (length rolls.old) (length units.now)) in
         rolls.new ≡ filled count (λ k. roll_deg_in axes (get_or units.now k []) panel_angle) rolls.old }
 {
-    let count = smaller(64, smaller(rolls.len(), units.len()));
-    let y_axis = axes[1];
-    let z_axis = axes[2];
-    let mut sun_y = [0.0; 64];
-    parts_along(units, y_axis, count, &mut sun_y);
-    let mut sun_z = [0.0; 64];
-    parts_along(units, z_axis, count, &mut sun_z);
-    atan2_each(&sun_z[..count], &sun_y[..count], rolls);
-    to_rolls(panel_angle, count, rolls);
+    let count = MOST_AT_ONCE.min(rolls.len().min(units.len()));
+    let rolls = &mut rolls[..count];
+    let mut ys = [0.0; MOST_AT_ONCE];
+    let sun_y = &mut ys[..count];
+    parts_along(units, axes[1], sun_y);
+    let mut zs = [0.0; MOST_AT_ONCE];
+    let sun_z = &mut zs[..count];
+    parts_along(units, axes[2], sun_z);
+    atan2_each(sun_z, sun_y, rolls);
+    to_rolls(panel_angle, rolls);
 }
 
 // The roll, in degrees from north, at which the panel gets the most light.
@@ -192,10 +187,7 @@ fn arc_within_turn(x: f64) -> f64
     requires { (lt (neg full_turn) x ≡ true) × (lt x full_turn ≡ true) }
     ensures { result ≡ arc x }
 {
-    let mut d = x;
-    if x < 0.0 {
-        d = x + 360.0;
-    }
+    let d = if x < 0.0 { x + 360.0 } else { x };
     let e = d - 180.0;
     180.0 - f64::from_bits(f64::to_bits(e) % 0x8000_0000_0000_0000)
 }
@@ -205,10 +197,8 @@ pub fn circular_diff_deg(a: f64, b: f64) -> f64
     ensures { result ≡ circular_diff_deg a b }
 {
     let x = a - b;
-    if x > -360.0 {
-        if x < 360.0 {
-            return arc_within_turn(x);
-        }
+    if x > -360.0 && x < 360.0 {
+        return arc_within_turn(x);
     }
     let d = rem_euclid_turn(x);
     180.0 - abs(d - 180.0)

@@ -7,7 +7,6 @@ ghost use Rattle.solar_roll.specs.Plan.{triple, count};
 
 use crate::plan::triple;
 use crate::roll::sun_unit;
-use buffers::smaller;
 
 // Writes the Sun's units of the times from `from` on, as many as the table has places for.
 pub fn sun_units(suns: &[f64], observers: &[f64], from: usize, units: &mut [[f64; 3]])
@@ -15,17 +14,8 @@ pub fn sun_units(suns: &[f64], observers: &[f64], from: usize, units: &mut [[f64
         let unit : ℕ → Vector = λ t. sun_unit (triple suns.now (from + t)) (triple observers.now (from + t)) in
         units.new ≡ filled places unit units.old }
 {
-    let times = suns.len() / 3;
-    if times < from {
-        return;
-    }
-    let end = smaller(units.len(), times - from);
-    let mut j = 0;
-    while j < end {
-        let sun = triple(suns, from + j);
-        let observer = triple(observers, from + j);
-        let unit = sun_unit(sun, observer);
-        units[j] = unit;
-        j += 1;
+    let end = units.len().min((suns.len() / 3).saturating_sub(from));
+    for (j, unit) in units[..end].iter_mut().enumerate() {
+        *unit = sun_unit(triple(suns, from + j), triple(observers, from + j));
     }
 }

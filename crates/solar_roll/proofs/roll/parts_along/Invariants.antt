@@ -1,6 +1,6 @@
--- `parts_along`: before unit k, the parts of those before it stand. Assumes nothing.
+-- `parts_along`: before place k, the parts before it stand. Assumes nothing.
 use mathlib.Core.List.{[]}
-use Prim.Native.Nat.{◌-◌, ◌≤◌}
+use Prim.Native.Nat.{◌≤◌}
 use mathlib.Core.Path.{◌≡◌}
 use lib.ListN.{length, get_or}
 use Rattle.buffers.specs.Lent.{filled}
@@ -8,7 +8,4 @@ use Rattle.solar_roll.specs.Vectors.{dot3}
 use Rattle.solar_roll.proofs.roll.parts_along.Given as goal
 
 abbrev pub invariant-loop-k : goal.invariant-loop-k
-invariant-loop-k l = (l.k ≤ l.count) × (l.count ≤ length l.initial.parts) × (length l.parts ≡ length l.initial.parts) × (l.parts ≡ filled l.k (λ t. dot3 (get_or l.units t []) l.axis) l.initial.parts)
-
-abbrev pub decreases-loop-k : goal.decreases-loop-k
-decreases-loop-k l = l.count - l.k
+invariant-loop-k l = (length l.parts ≤ length l.units) × (l.parts ≡ filled l.k (λ t. dot3 (get_or l.units t []) l.axis) l.initial.parts)

@@ -1,21 +1,23 @@
 -- `rolls_deg_in`: the Sun's parts along two axes, their arctangents, and the rolls between these and the panel's angle. Assumes nothing.
-use mathlib.Core.Path.{◌≡◌, sym, ap, ◌∙◌}
-use mathlib.Core.List.{[], List}
-use Prim.Native.Nat.{ℕ, ◌<◌, min}
+use mathlib.Core.Path.{◌≡◌, refl, ap, ◌∙◌}
+use mathlib.Core.List.{[], List, ◌++◌}
+use Prim.Native.Nat.{ℕ, ◌<◌, ◌≤◌, min}
 use native.Mathlib.Omega.{arith}
 use lib.Ieee.{Float, nan}
-use lib.ListN.{length, get_or, take}
+use lib.ListN.{length, get_or, take, drop}
+use lib.Seq.{length-take-le}
 use Rattle.buffers.specs.Ranges.{tab}
 use Rattle.buffers.specs.Lent.{filled}
 use Rattle.buffers.proofs.Ranges.{length_tab, get_or_tab}
-use Rattle.buffers.proofs.Lent.{filled_ext, filled_then, take_filled}
+use Rattle.buffers.proofs.Lent.{filled_ext, filled_then, length_filled}
 use Rattle.float.specs.Arctangent.{arctangent}
 use Rattle.solar_roll.specs.Roll.{roll_between, roll_deg_in}
+use Rattle.solar_roll.proofs.Cells.{filled_whole, filled_front}
 use Rattle.solar_roll.proofs.roll.rolls_deg_in.Goals as goal
 
--- the part of a filled list that is lent
-lent : (n : ℕ) (f : ℕ → Float) (old new : List Float) → new ≡ filled n f old → take n new ≡ tab n f
-lent n f old new e = ap (take n) e ∙ take_filled f n old
+-- a list that is filled as far as it goes
+whole : (n : ℕ) (f : ℕ → Float) (old new : List Float) → length old ≡ n → new ≡ filled (length old) f old → new ≡ tab n f
+whole n f old new e h = h ∙ filled_whole f (length old) old refl ∙ ap (λ (i : ℕ). tab i f) e
 
 -- the arctangents of such parts
 arctangents : (n m : ℕ) (f g : ℕ → Float) (zs ys old new : List Float) → zs ≡ tab n f → ys ≡ tab n g → m ≡ n
@@ -29,20 +31,22 @@ arctangents n m f g zs ys old new z y e h =
     ∙ ap (λ (i : ℕ). filled i (λ k. arctangent (get_or zs k nan) (get_or ys k nan)) old) e
     ∙ filled_ext (λ k. arctangent (get_or zs k nan) (get_or ys k nan)) (λ k. arctangent (f k) (g k)) n old v
 
-pub slice_bounds-atan2_each-end : goal.slice_bounds-atan2_each-end
-slice_bounds-atan2_each-end c = sym (ap length (lent _ _ _ _ c.parts_along-2.ensures) ∙ length_tab _ _)
-
-pub slice_bounds-atan2_each-end-2 : goal.slice_bounds-atan2_each-end-2
-slice_bounds-atan2_each-end-2 c = sym (ap length (lent _ _ _ _ c.parts_along.ensures) ∙ length_tab _ _)
-
 pub returns : goal.returns
 unfolding roll_deg_in
 returns c = let a = c.args in
-    let zs = lent _ _ _ _ c.parts_along-2.ensures in
-    let ys = lent _ _ _ _ c.parts_along.ensures in
-    let count : c.smaller-count.result ≡ min 64 (min (length a.rolls.now) (length a.units.now)) = c.smaller-count.ensures ∙ ap (min 64) c.smaller.ensures in
-    let zn = ap length zs ∙ length_tab _ _ in
-    let yn = ap length ys ∙ length_tab _ _ in
-    let angles = arctangents c.smaller-count.result _ _ _ _ _ _ _ zs ys (omega (arith, zn, yn, count)) c.atan2_each.ensures in
-    filled_then _ (λ k angle. roll_between angle a.panel_angle) _ nan _ _ _ angles c.to_rolls.ensures
-    ∙ ap (λ (i : ℕ). filled i (λ k. roll_deg_in a.axes (get_or a.units.now k []) a.panel_angle) a.rolls.now) count
+    let n = c.min-count.result in
+    let rolls = a.rolls.now in
+    let count : n ≡ min 64 (min (length rolls) (length a.units.now)) = c.min-count.ensures ∙ ap (min 64) c.min.ensures in
+    let places : n ≤ length rolls = omega arith in
+    let most : n ≤ 64 = omega arith in
+    let old : length (take n rolls) ≡ n = length-take-le n rolls places in
+    let ys = whole n _ _ _ (length-take-le n _ most) c.parts_along.ensures in
+    let zs = whole n _ _ _ (length-take-le n _ most) c.parts_along-2.ensures in
+    let yn = ap length ys ∙ length_tab n _ in
+    let zn = ap length zs ∙ length_tab n _ in
+    let angles = arctangents n _ _ _ _ _ (take n rolls) _ zs ys (omega (arith, old, yn, zn)) c.atan2_each.ensures in
+    let length_angles = ap length angles ∙ length_filled _ n (take n rolls) (omega arith) ∙ old in
+    let rolled = c.to_rolls.ensures ∙ ap (λ (i : ℕ). filled i (λ k. roll_between (get_or c.atan2_each.new.angles k nan) a.panel_angle) c.atan2_each.new.angles) length_angles in
+    ap (λ (t : List Float). t ++ drop n rolls) (filled_then _ (λ k angle. roll_between angle a.panel_angle) n nan _ _ _ angles rolled)
+    ∙ filled_front _ n rolls places
+    ∙ ap (λ (i : ℕ). filled i (λ k. roll_deg_in a.axes (get_or a.units.now k []) a.panel_angle) rolls) count

@@ -1,27 +1,31 @@
--- `sun_units`: before time j of the table, the units of those before it stand. Assumes nothing.
-use Prim.Native.Nat.{◌-◌, ◌<◌, min}
-use mathlib.Core.Path.{◌≡◌, refl, ◌∙◌}
+-- `sun_units`: before place j of the table, the units before it stand. Assumes nothing.
+use Prim.Native.Nat.{ℕ, ◌<◌, ◌≤◌, ◌+◌, ◌-◌, min}
+use mathlib.Core.Path.{◌≡◌, ap, ◌∙◌}
+use mathlib.Core.List.{List, ◌++◌}
 use native.Mathlib.Omega.{arith}
-use lib.ListN.{length, length-set}
+use lib.ListN.{length, take, drop}
+use lib.Seq.{length-take-le}
+use Rattle.buffers.specs.Lent.{filled}
 use Rattle.buffers.proofs.Lent.{filled_zero, filled_next}
-use Rattle.solar_roll.specs.Plan.{count}
+use Rattle.solar_roll.specs.Vectors.{Vector, count, triple}
+use Rattle.solar_roll.specs.Roll.{sun_unit}
+use Rattle.solar_roll.proofs.Cells.{filled_front}
 use Rattle.solar_roll.proofs.units.sun_units.Goals as goal
 
-pub returns-then-times-from : goal.returns-then-times-from
-returns-then-times-from c = let a = c.args in
-    let none : min (length a.units.now) (count a.suns.now - a.from) ≡ 0 = omega arith in
-    rw none (filled_zero _ _)
-
 pub loop-j-init : goal.loop-j-init
-loop-j-init c = (omega arith, omega arith, refl, filled_zero _ _)
+loop-j-init c = filled_zero _ _
 
 pub loop-j-preserved : goal.loop-j-preserved
 loop-j-preserved c = let at = c.loop-j in
-    let l : at.j < length c.args.units.now = omega arith in
-    (omega arith, at.invariant.1, simp length-set at.invariant.2, rw at.invariant.3 (filled_next _ _ _ _ l (simp (c.sun_unit-unit.ensures, c.triple-observer.ensures, c.triple-sun.ensures))))
+    let l : at.j < length (take c.min-end.result c.args.units.now) = omega arith in
+    rw at.invariant (filled_next _ _ _ _ l (simp (c.sun_unit.ensures, c.triple.ensures, c.triple-in-loop-j.ensures)))
 
 pub returns : goal.returns
 returns c = let at = c.loop-j in
-    let a = c.args in
-    let h : at.j ≡ min (length a.units.now) (count a.suns.now - a.from) = omega arith in
-    at.invariant.3 ∙ rw h
+    let us = c.args.units.now in
+    let n = c.min-end.result in
+    let l : n ≤ length us = omega arith in
+    let e : at.j ≡ n = omega (arith, length-take-le n us l) in
+    let places : n ≡ min (length us) (count c.args.suns.now - c.args.from) = c.min-end.ensures ∙ ap (min (length us)) c.saturating_sub.ensures in
+    let unit : ℕ → Vector = λ t. sun_unit (triple c.args.suns.now (c.args.from + t)) (triple c.args.observers.now (c.args.from + t)) in
+    ap (λ (x : List Vector). x ++ drop n us) (at.invariant ∙ ap (λ (i : ℕ). filled i unit (take n us)) e) ∙ filled_front unit n us l ∙ ap (λ (i : ℕ). filled i unit us) places
