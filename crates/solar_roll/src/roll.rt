@@ -122,6 +122,7 @@ fn roll_between(sun_angle: f64, panel_angle: f64) -> f64
 }
 
 // The optimal roll of a cell, from what its row and its panel share.
+#[tactic(auto, unfolding(crate::specs::Roll::roll_deg_in))]
 pub(crate) fn roll_deg_in(axes: [[f64; 3]; 3], sun_unit: [f64; 3], panel_angle: f64) -> f64
     ensures value { result ≡ roll_deg_in axes sun_unit panel_angle }
     ensures in_turn { finite result ≡ true → InTurn result }
@@ -134,6 +135,7 @@ pub(crate) fn roll_deg_in(axes: [[f64; 3]; 3], sun_unit: [f64; 3], panel_angle: 
 }
 
 // The parts of the Sun's units along an axis, as many as there are places for.
+#[tactic(auto, using(buffers::proofs::Lent::filled_zero, buffers::proofs::Lent::filled_next))]
 fn parts_along(units: &[[f64; 3]], axis: [f64; 3], parts: &mut [f64])
     requires { length parts.old ≤ length units.now }
     ensures { parts.new ≡ filled (length parts.old) (λ k. dot3 (get_or units.now k []) axis) parts.old }
@@ -144,6 +146,7 @@ fn parts_along(units: &[[f64; 3]], axis: [f64; 3], parts: &mut [f64])
 }
 
 // Makes of each of the Sun's angles the roll.
+#[tactic(auto, using(buffers::proofs::Lent::filled_zero, buffers::proofs::Lent::filled_next, buffers::proofs::Lent::get_or_filled_beyond))]
 fn to_rolls(panel_angle: f64, rolls: &mut [f64])
     ensures { rolls.new ≡ filled (length rolls.old) (λ k. roll_between (get_or rolls.old k nan) panel_angle) rolls.old }
 {
@@ -174,6 +177,7 @@ pub fn rolls_deg_in(axes: [[f64; 3]; 3], units: &[[f64; 3]], panel_angle: f64, r
 }
 
 // The roll, in degrees from north, at which the panel gets the most light.
+#[tactic(auto, using(crate::proofs::Cells::optimal_shared), unfolding(crate::specs::Roll::panel_angle))]
 pub fn solar_optimal_roll_deg(target: [f64; 3], sun_unit: [f64; 3], panel_normal: [f64; 3]) -> f64
     ensures value { result ≡ solar_optimal_roll_deg target sun_unit panel_normal }
     ensures in_turn { finite result ≡ true → InTurn result }
@@ -193,6 +197,7 @@ fn arc_within_turn(x: f64) -> f64
 }
 
 // The shorter arc between two rolls.
+#[tactic(auto, unfolding(crate::specs::Roll::circular_diff_deg, crate::specs::Roll::arc))]
 pub fn circular_diff_deg(a: f64, b: f64) -> f64
     ensures { result ≡ circular_diff_deg a b }
 {
