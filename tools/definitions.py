@@ -300,13 +300,16 @@ class Library:
 @dataclass
 class Function:
     name: str
+    # the type whose method it is, or ""
+    type: str
     line: int
     # the comment lines above it
     comment: str
     # from `pub` to the last clause
     head: str
     parameters: str
-    returns: bool
+    # what stands after `->`, or ""
+    returns: str
     # the clauses between the head and the body: `requires` or `ensures`, and what stands between its braces
     clauses: list
 
@@ -323,8 +326,10 @@ def functions(text):
         while c := re.compile(r"\s*(requires|ensures)\b[^{]*").match(plain, end):
             end = matching(plain, c.end(), "{", "}")
             clauses.append((c[1], " ".join(plain[c.end() + 1:end - 1].split())))
-        comment = "\n".join(above(text[:m.start()]))
-        yield Function(m[1], text.count("\n", 0, m.start()) + 1, comment, text[m.start():end].rstrip(), parameters, bool(returns), clauses)
+        # of a method, the lines above it begin further right
+        comment = "\n".join(above(re.sub(r"^ +", "", text[:m.start()], flags=re.M)))
+        block = re.findall(r"^impl(?:<[^>]*>)? (\w+)|^}$", plain[:m.start()], re.M)
+        yield Function(m[1], block[-1] if block else "", text.count("\n", 0, m.start()) + 1, comment, text[m.start():end].rstrip(), parameters, returns[1].strip() if returns else "", clauses)
 
 
 def above(text):
