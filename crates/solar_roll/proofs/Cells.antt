@@ -4,6 +4,7 @@ use mathlib.Core.Bool.{Bool, true, false, cond, not, ◌||◌, ◌&&◌, true≢
 use mathlib.Core.List.{List, [], ◌∷◌, ◌++◌, append-nil}
 use Prim.Native.Nat.{ℕ, zero, suc, ◌+◌, ◌*◌, ◌≤◌}
 use native.Mathlib.Omega.{arith}
+use Rattle.std.proofs.Math.Bool.{or-false}
 use Rattle.std.proofs.Math.Nat.{add-zero, zero-add}
 use lib.ListN.{length, take, drop, drop_of_length-le, get_or-eq_default}
 use lib.Seq.{length-take-le}
@@ -76,10 +77,6 @@ unfolding any
 any_listed p [] = refl
 any_listed p (x ∷ xs) = ap (λ b. p x || b) (any_listed p xs)
 
-or_false : (a : Bool) → (a || false) ≡ a
-or_false true = refl
-or_false false = refl
-
 or_step : (a b c : Bool) → (a || not (not b && c)) ≡ ((a || b) || not c)
 or_step true b c = refl
 or_step false true c = refl
@@ -88,7 +85,7 @@ or_step false false c = refl
 -- no number of a range has the property exactly where each lacks it
 all_from : (q : ℕ → Bool) (a n : ℕ) → (any_below a q || not (list_all (λ i. not (q i)) (range_with_len a n))) ≡ any_below (a + n) q
 unfolding any_below
-all_from q a zero = or_false (any_below a q) ∙ ap (λ k. any_below k q) (sym (add-zero a))
+all_from q a zero = or-false (any_below a q) ∙ ap (λ k. any_below k q) (sym (add-zero a))
 all_from q a (suc n) =
     let e : a + 1 + n ≡ a + suc n = omega arith in
     let rest = not (list_all (λ i. not (q i)) (range_with_len (a + 1) n)) in

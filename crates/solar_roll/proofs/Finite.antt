@@ -91,9 +91,6 @@ within_over : {v : Vector} {n : Float} (j : ℕ) → j + 40 < 1024 → Vec j v �
 unfolding over3
 within_over j k v w = record { at_x = within_div j 40 k v.at_x w; at_y = within_div j 40 k v.at_y w; at_z = within_div j 40 k v.at_z w }
 
-vec_weaken : {v : Vector} (i j : ℕ) → i ≤ j → Vec i v → Vec j v
-vec_weaken i j h v = record { at_x = weaken i j h v.at_x; at_y = weaken i j h v.at_y; at_z = weaken i j h v.at_z }
-
 unwrapped : (v other : Vector) → unwrap_or (normalize3 v) other ≡ cond (le (norm3 v) NEAR_ZERO) other (over3 v (norm3 v))
 unfolding unwrap_or normalize3
 unwrapped v other = go (le (norm3 v) NEAR_ZERO)

@@ -1,8 +1,8 @@
 -- What is known of a size and of a plan that is not refused, which directions pass, and how large the number of one that is refused can be. Assumes
 -- nothing.
-use mathlib.Core.Path.{◌≡◌, refl, ◌∙◌}
+use mathlib.Core.Path.{◌≡◌, refl, sym, ap, ◌∙◌}
 use mathlib.Core.Logic.{◌↔◌}
-use mathlib.Core.Bool.{Bool, false, not, ◌||◌}
+use mathlib.Core.Bool.{Bool, false, cond, not, ◌||◌}
 use mathlib.Core.List.{List, [], ◌∷◌}
 use Prim.Native.Nat.{ℕ, ◌*◌, ◌/◌, ◌%◌, ◌≤◌, ◌<◌}
 use native.Mathlib.Omega.{arith}
@@ -13,11 +13,12 @@ use Rattle.buffers.proofs.Ranges.{any_none, any_clear}
 use borrow.Author.Tests.{not-false, eqb-true, ltb-false, le-ltb}
 use Rattle.buffers.specs.Ranges.{any_below}
 use Rattle.buffers.specs.Refusal.{first, carried}
-use Rattle.buffers.proofs.Refusals.{first_none, first_skip, first_clear, carried_clear, given_below}
+use Rattle.buffers.proofs.Refusals.{first_none, first_skip, first_clear, carried_clear, carried_last, given_below}
 use Rattle.buffers.proofs.Tests.{or_left, or_right}
 use Rattle.solar_roll.specs.Vectors.{vector, count, triple}
 use Rattle.solar_roll.specs.Cell.{bad_position, bad_direction, not_unit, any_not_unit, direction_refusal, numbers_refusal}
-use Rattle.solar_roll.specs.Plan.{Plan, rows_of, times_of, unlike_lengths, most_rows, most_times, most_cells, too_many, sizes_refusal, plan_refusal, PlanFacts}
+use Rattle.solar_roll.specs.declared.plan.Plan.{Plan as LentPlan}
+use Rattle.solar_roll.specs.Plan.{Plan, plan_of, lent, rows_of, times_of, unlike_lengths, most_rows, most_times, most_cells, too_many, sizes_refusal, lists_refusal, plan_refusal, PlanFacts}
 
 -- ---- not too many rows, times and cells
 
@@ -144,6 +145,19 @@ unfolding plan_refusal carried
 plan_below p said beyond h = given_below 64 _ (lit< tt) (sizes_below _ _ _ beyond, (h, (numbers_below _ _ _ _, (lit< tt, tt))))
 
 -- ---- the plan
+
+-- the struct that the calls are lent is the plan of its lists, each as it is
+pub lent_lists : (p : LentPlan) → lent p ≡ plan_of p.targets.now p.suns.now p.observers.now p.tolerances.now p.configured p.panels.now
+lent_lists p = refl
+
+-- what comes before the place of 3, what is said there, and what comes after
+pub plan_parts : (p : Plan) (said : ℕ) (beyond : Bool)
+    → plan_refusal p said beyond
+    ≡ first (carried (sizes_refusal (length p.targets) (length p.suns) (length p.observers) beyond) ∷ carried said ∷ carried (lists_refusal p) ∷ [])
+unfolding plan_refusal lists_refusal first carried
+plan_parts p said beyond =
+    let sizes = sizes_refusal (length p.targets) (length p.suns) (length p.observers) beyond in
+    ap (λ (n : ℕ). cond (not (eqb sizes 0)) sizes (cond (not (eqb said 0)) said n)) (sym (carried_last (lists_refusal p)))
 
 pub plan_facts : (p : Plan) (said : ℕ) (beyond : Bool) → plan_refusal p said beyond ≡ 0 → PlanFacts p
 unfolding plan_refusal

@@ -177,6 +177,7 @@ pub(crate) fn numbers_refusal(
 
 // The answer of one cell, given by its four triples.
 // Refuses 4, 5, 20, 6 (specs/Cell, `numbers_refusal`).
+#[tactic(auto, using(crate::proofs::Cells::answered), unfolding(buffers::specs::Refusal::reply, crate::specs::Cell::cell_reply))]
 pub fn cell_roll(
     target: [f64; 3],
     sun: [f64; 3],

@@ -182,7 +182,7 @@ impl Plan<'_> {
 
     // The plan's first refusal. `said` is said in the place of 3.
     // Refuses 1, 2, `said`, 4, 5, 20, 6, 17 (specs/Plan, `plan_refusal`).
-    #[tactic(auto, unfolding(crate::specs::Plan::plan_refusal, crate::specs::Plan::lists_refusal, buffers::specs::Refusal::first, buffers::specs::Refusal::carried))]
+    #[tactic(auto, using(crate::proofs::PlanFacts::plan_parts), unfolding(buffers::specs::Refusal::first, buffers::specs::Refusal::carried))]
     pub fn refusal(&self, said: Result<(), Refusal>, beyond: bool) -> Result<(), Refusal>
         ensures { found result ≡ plan_refusal (lent self.now) (found said) beyond }
     {

@@ -37,7 +37,8 @@ pub fn sun_along_boresight(target: [f64; 3], sun_unit: [f64; 3]) -> bool
 }
 
 // What all cells share of a panel: whether its normal has no part in the body's y-z plane, so that
-// no roll changes its light; and the normal's angle there, which is worked out in either case.
+// no roll changes its light; and the normal's angle there. No Option of the angle: it is worked out in either case,
+// since a row's rolls are worked out side by side before the Free cells are picked.
 #[derive(Clone, Copy)]
 pub struct Panel {
     pub free: bool,

@@ -9,6 +9,7 @@ use crate::plan::triple;
 use crate::roll::sun_unit;
 
 // Writes the Sun's units of the times from `from` on, as many as the table has places for.
+#[tactic(auto, using(buffers::proofs::Lent::filled_zero, buffers::proofs::Lent::filled_next))]
 pub fn sun_units(suns: &[f64], observers: &[f64], from: usize, units: &mut [[f64; 3]])
     ensures { let places : ℕ = min (length units.old) (count suns.now - from) in
         let unit : ℕ → Vector = λ t. sun_unit (triple suns.now (from + t)) (triple observers.now (from + t)) in

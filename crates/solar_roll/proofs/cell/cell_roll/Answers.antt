@@ -11,13 +11,6 @@ use borrow.Author.Rules.{rules}
 use lib.ListN.{length}
 use Rattle.solar_roll.proofs.cell.cell_roll.Goals as goal
 
-pub returns-in-Ok-clause-result_value : goal.returns-in-Ok-clause-result_value
-unfolding reply
-returns-in-Ok-clause-result_value c = let a = c.args in
-    let accepted = sym c.in-Ok.ensures in
-    let answer = c.optimal_roll.ensures ∙ ap (λ (unit : Vector). optimal_roll a.target unit a.panel_normal) c.sun_unit.ensures in
-    simp (accepted, answer, answered)
-
 pub returns-in-Ok-clause-in_turn : goal.returns-in-Ok-clause-in_turn
 returns-in-Ok-clause-in_turn c = let a = c.args in
     let accepted = sym c.in-Ok.ensures in
@@ -27,10 +20,3 @@ returns-in-Ok-clause-in_turn c = let a = c.args in
     let observer_length : length a.observer ≡ 3 = search rules in
     let normal_length : length a.panel_normal ≡ 3 = search rules in
     λ roll e. answer_range _ _ _ _ (numbers _ _ _ _ accepted) target_length sun_length observer_length normal_length roll (sym answer ∙ e)
-
-pub returns-in-Err-clause-result_value : goal.returns-in-Err-clause-result_value
-unfolding cell_reply
-returns-in-Err-clause-result_value c = rw c.number.ensures (err_replied c.in-Err.refusal _ _ c.in-Err.ensures)
-
-pub returns-in-Err-clause-in_turn : goal.returns-in-Err-clause-in_turn
-returns-in-Err-clause-in_turn c = λ roll e. absurd (refused_not_at _ roll e)

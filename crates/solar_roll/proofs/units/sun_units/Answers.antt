@@ -1,4 +1,4 @@
--- `sun_units`: before place j of the table, the units before it stand. Assumes nothing.
+-- `sun_units`: the table's first places are lent, and filled. Assumes nothing.
 use Prim.Native.Nat.{ℕ, ◌<◌, ◌≤◌, ◌+◌, ◌-◌, min}
 use mathlib.Core.Path.{◌≡◌, ap, ◌∙◌}
 use mathlib.Core.List.{List, ◌++◌}
@@ -6,19 +6,10 @@ use native.Mathlib.Omega.{arith}
 use lib.ListN.{length, take, drop}
 use lib.Seq.{length-take-le}
 use Rattle.buffers.specs.Lent.{filled}
-use Rattle.buffers.proofs.Lent.{filled_zero, filled_next}
 use Rattle.solar_roll.specs.Vectors.{Vector, count, triple}
 use Rattle.solar_roll.specs.Roll.{sun_unit}
 use Rattle.solar_roll.proofs.Cells.{filled_front}
 use Rattle.solar_roll.proofs.units.sun_units.Goals as goal
-
-pub loop-j-init : goal.loop-j-init
-loop-j-init c = filled_zero _ _
-
-pub loop-j-preserved : goal.loop-j-preserved
-loop-j-preserved c = let at = c.loop-j in
-    let l : at.j < length (take c.min-end.result c.args.units.now) = omega arith in
-    rw at.invariant (filled_next _ _ _ _ l (simp (c.sun_unit.ensures, c.triple.ensures, c.triple-in-loop-j.ensures)))
 
 pub returns : goal.returns
 returns c = let at = c.loop-j in
