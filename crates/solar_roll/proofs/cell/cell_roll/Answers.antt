@@ -1,11 +1,8 @@
 use Rattle.std.specs.Prelude.{◌≡◌}
-use Rattle.buffers.specs.Refusal.{reply}
-use Rattle.buffers.proofs.Refusals.{err_replied}
-use Rattle.solar_roll.proofs.Cells.{answered, refused_not_at}
 use Rattle.solar_roll.proofs.PlanFacts.{numbers}
 use Rattle.solar_roll.proofs.Finite.{answer_range}
 use Rattle.solar_roll.specs.Vectors.{Vector}
-use Rattle.solar_roll.specs.Cell.{optimal_roll, cell_reply}
+use Rattle.solar_roll.specs.Cell.{optimal_roll}
 use mathlib.Core.Path.{sym, ap, ◌∙◌}
 use borrow.Author.Rules.{rules}
 use lib.ListN.{length}

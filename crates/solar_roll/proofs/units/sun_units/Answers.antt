@@ -1,5 +1,5 @@
 -- `sun_units`: the table's first places are lent, and filled. Assumes nothing.
-use Prim.Native.Nat.{ℕ, ◌<◌, ◌≤◌, ◌+◌, ◌-◌, min}
+use Prim.Native.Nat.{ℕ, ◌≤◌, ◌+◌, ◌-◌, min}
 use mathlib.Core.Path.{◌≡◌, ap, ◌∙◌}
 use mathlib.Core.List.{List, ◌++◌}
 use native.Mathlib.Omega.{arith}
