@@ -1,4 +1,5 @@
--- Laws of one cell: the answer from what rows and panels share; an answer that is not refused, and the roll of one At a roll; a triple past the end. Assumes nothing.
+-- Laws of one cell: the answer from what rows and panels share; an answer that is not refused, and the roll of one At a roll; tests of a list, as the library
+-- has them; a list of which the first places are filled; a triple past the end. Assumes nothing.
 use mathlib.Core.Path.{◌≡◌, refl, sym, ap, ◌∙◌}
 use mathlib.Core.Bool.{Bool, true, false, cond, not, ◌||◌, ◌&&◌, true≢false}
 use mathlib.Core.List.{List, [], ◌∷◌, ◌++◌, append-nil}
