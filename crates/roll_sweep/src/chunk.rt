@@ -30,8 +30,7 @@ pub fn cells_in(cells: u64, chunk: u64) -> u64
     if cells / 64 < chunk {
         return 0;
     }
-    let left = cells - 64 * chunk;
-    if left < 64 { left } else { 64 }
+    (cells - 64 * chunk).min(64)
 }
 
 // Sweeps cells of one row, a cell for each of the Sun's units: their optimal rolls are worked out side
@@ -52,14 +51,11 @@ fn sweep_row(
     rolls_deg_in(axes, units, panel.angle, &mut optimal);
     let mut mask: u64 = 0;
     let mut probes: u64 = 0;
-    'cells: for k in 0..units.len() {
-        let unit = units[k];
-        let best = optimal[k];
-        let cell = free_or_at(axes, unit, panel, best);
-        'rolls: for s in 0..rolls.len() {
+    'cells: for (k, unit) in units.iter().enumerate() {
+        let cell = free_or_at(axes, *unit, panel, optimal[k]);
+        'rolls: for roll in rolls {
             probes += 1;
-            let roll = rolls[s];
-            if !violated(cell, roll, tolerance_deg) {
+            if !violated(cell, *roll, tolerance_deg) {
                 continue 'cells;
             }
         }
@@ -70,7 +66,8 @@ fn sweep_row(
 
 // Sweeps `cells` cells from number `first` on over rolls that are in force, row by row, so that a row's axes are worked
 // out once, and the panel, which the rows share, once for all. The Sun's unit of cell i is entry i % L of a table of L
-// units: of all times, or of one chunk's 64 cells.
+// units: of all times, or of one chunk's 64 cells. A part ends with its row, the cells or the table, so parts have no
+// common length, and neither a range nor `chunks` gives them.
 fn sweep_cells(
     plan: &Plan,
     times: usize,
@@ -116,7 +113,7 @@ fn repeated(one: Swept, n: usize) -> Swept
     ensures { (result.mask ≡ one.mask) × (result.probes ≡ one.probes + (n - 1) * ones one.mask) }
 {
     let again = (n - 1) as u64;
-    let marked = u64::count_ones(one.mask) as u64;
+    let marked = one.mask.count_ones() as u64;
     Swept {
         mask: one.mask,
         probes: one.probes + again * marked,

@@ -1,5 +1,5 @@
 -- `sweep_row`: before cell k, mask and probes are those of the cells before it; before roll s of it, it is violated at all rolls before s. Assumes nothing.
-use Prim.Native.Nat.{ℕ, ◌+◌, ◌-◌, ◌≤◌}
+use Prim.Native.Nat.{ℕ, ◌+◌}
 use mathlib.Core.Path.{◌≡◌}
 use mathlib.Core.Bool.{Bool, true}
 use mathlib.Core.List.{List, []}
@@ -18,14 +18,7 @@ abbrev pub row_violated : Axes → List Vector → Panel → Float → List Floa
 row_violated axes units panel tolerance rolls k s = violates (roll_in axes (get_or units k []) panel) (get_or rolls s nan) tolerance
 
 abbrev pub invariant-rolls : goal.invariant-rolls
-invariant-rolls l = (l.k ≡ l.initial.k) × (l.s ≤ length l.rolls) × (l.s-end ≡ length l.rolls) × (l.probes ≡ l.initial.probes + l.s)
-    × (all_below l.s (row_violated l.axes l.units l.panel l.tolerance_deg l.rolls l.initial.k) ≡ true)
-
-abbrev pub decreases-rolls : goal.decreases-rolls
-decreases-rolls l = l.s-end - l.s
+invariant-rolls l = (l.probes ≡ l.initial.probes + l.roll-index) × (all_below l.roll-index (row_violated l.axes l.units l.panel l.tolerance_deg l.rolls l.k) ≡ true)
 
 abbrev pub invariant-cells : goal.invariant-cells
-invariant-cells l = (l.k ≤ length l.units) × (l.k-end ≡ length l.units) × Upto (length l.rolls) (row_violated l.axes l.units l.panel l.tolerance_deg l.rolls) l.k l.mask l.probes
-
-abbrev pub decreases-cells : goal.decreases-cells
-decreases-cells l = l.k-end - l.k
+invariant-cells l = Upto (length l.rolls) (row_violated l.axes l.units l.panel l.tolerance_deg l.rolls) l.k l.mask l.probes

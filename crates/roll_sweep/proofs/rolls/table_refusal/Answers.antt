@@ -1,30 +1,52 @@
--- `table_refusal`: before roll k, none before it is refused. Assumes nothing.
-use mathlib.Core.Path.{sym, ◌∙◌}
-use borrow.Author.Tests.{eqb-true, eqb-false}
+-- `table_refusal`: the scan of the rolls' numbers, from 0 on, is the definition's. Assumes nothing.
+use Prim.Native.Nat.{ℕ, zero, suc, ◌+◌, ◌-◌}
+use mathlib.Core.Path.{◌≡◌, refl, sym, ap, ◌∙◌}
+use mathlib.Core.List.{List}
+use mathlib.Core.Bool.{Bool, true, false, ◌||◌, or-false}
+use native.Mathlib.Nat.{add-zero}
 use native.Mathlib.Omega.{arith}
-use Rattle.buffers.proofs.Ranges.{any_zero, any_step, any_clear}
-use Rattle.buffers.proofs.Tests.{or_none}
-use Rattle.roll_sweep.proofs.Tables.{empty_table, long_table, bad_table, good_table}
+use borrow.Author.Tests.{le-ltb}
+use lib.ListN.{length}
+use Rattle.std.proofs.Common.{rules, tests}
+use Rattle.std.specs.List.{list_any, range_with_len}
+use Rattle.std.proofs.lemmas.Iterator.{YieldsList-from_range}
+use Rattle.std.proofs.lemmas.Iterator.Search.{any_from_yields_List}
+use Rattle.buffers.specs.Ranges.{any_below}
+use Rattle.buffers.specs.Refusal.{first}
+use Rattle.buffers.proofs.Ranges.{any_step}
+use Rattle.roll_sweep.specs.Rolls.{bad_roll, table_refusal}
 use Rattle.roll_sweep.proofs.rolls.table_refusal.Goals as goal
+use Rattle.roll_sweep.proofs.rolls.table_refusal.Goals.{After-any}
 
-pub returns-then-is_empty : goal.returns-then-is_empty
-returns-then-is_empty c = empty_table c.args.rolls.now (eqb-true _ 0 (sym c.is_empty.ensures ∙ c.if-is_empty.true))
+or_assoc : (a b c : Bool) → (a || (b || c)) ≡ ((a || b) || c)
+or_assoc true b c = refl
+or_assoc false b c = refl
 
-pub returns-then-rolls-gt-MOST_SAMPLES : goal.returns-then-rolls-gt-MOST_SAMPLES
-returns-then-rolls-gt-MOST_SAMPLES c =
-    long_table c.args.rolls.now (eqb-false _ 0 (sym c.is_empty.ensures ∙ c.if-is_empty.false)) c.if-rolls-gt-MOST_SAMPLES.true
+any_from : (p : ℕ → Bool) (n a : ℕ) → (any_below a p || list_any p (range_with_len a n)) ≡ any_below (a + n) p
+any_from p zero a = or-false _ ∙ ap (λ (k : ℕ). any_below k p) (sym (add-zero a))
+any_from p (suc n) a =
+    let rest : List ℕ = range_with_len (a + 1) n in
+    let e : a + 1 + n ≡ a + suc n = omega arith in
+    or_assoc (any_below a p) (p a) (list_any p rest)
+    ∙ ap (λ (b : Bool). b || list_any p rest) (sym (any_step a p))
+    ∙ any_from p n (a + 1)
+    ∙ ap (λ (k : ℕ). any_below k p) e
 
-pub returns-then-bad_roll : goal.returns-then-bad_roll
-returns-then-bad_roll c =
-    bad_table c.args.rolls.now (eqb-false _ 0 (sym c.is_empty.ensures ∙ c.if-is_empty.false)) (omega arith) c.loop-k.k (omega arith) (sym c.bad_roll.ensures ∙ c.if-bad_roll.true)
+scanned : (c : After-any) → c.any.result ≡ any_below (length c.args.rolls.now) (bad_roll c.args.rolls.now)
+unfolding any_below
+scanned c =
+    let rolls = c.args.rolls.now in
+    let n : ℕ = length rolls in
+    let counted : n - 0 ≡ n = omega arith in
+    let whole : 0 + n ≡ n = omega arith in
+    any_from_yields_List (bad_roll rolls) _ _ c.any.result c.any.ensures.ran (YieldsList-from_range 0 _ _ refl counted) (λ x b q k. search (rules, tests))
+    ∙ any_from (bad_roll rolls) n 0
+    ∙ ap (λ (k : ℕ). any_below k (bad_roll rolls)) whole
 
-pub loop-k-init : goal.loop-k-init
-loop-k-init c = any_zero _
-
-pub loop-k-preserved : goal.loop-k-preserved
-loop-k-preserved c = any_step c.loop-k.k _ ∙ or_none _ _ c.loop-k.invariant (sym c.bad_roll.ensures ∙ c.if-bad_roll.false)
+pub returns-then-any : goal.returns-then-any
+unfolding table_refusal first
+returns-then-any c = simp (← c.is_empty.ensures, c.if-is_empty.false, le-ltb _ _ c.if-rolls-gt-MOST_SAMPLES.false, ← scanned (goal.at.returns-then-any c).After-any, c.if-any.true)
 
 pub returns : goal.returns
-returns c =
-    good_table c.args.rolls.now (eqb-false _ 0 (sym c.is_empty.ensures ∙ c.if-is_empty.false)) (omega arith)
-    (λ k h. any_clear c.loop-k.k _ c.loop-k.invariant k (omega (arith, h)))
+unfolding table_refusal first
+returns c = simp (← c.is_empty.ensures, c.if-is_empty.false, le-ltb _ _ c.if-rolls-gt-MOST_SAMPLES.false, ← scanned (goal.at.returns c).After-any, c.if-any.false)
