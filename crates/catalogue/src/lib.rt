@@ -4,13 +4,14 @@
 ghost use Rattle.std.specs.Prelude.{◌≡◌, ◌*◌, ◌≤◌, length};
 ghost use Rattle.buffers.specs.Ranges.{any};
 ghost use Rattle.buffers.specs.Lent.{filled};
-ghost use Rattle.buffers.specs.Refusal.{reply_of};
+ghost use Rattle.buffers.specs.Refusal.{found, replied};
 ghost use Rattle.catalogue.specs.Catalogue.{radec_to_unit, outside, catalogue_number, catalogue_refusal, catalogue_reply, catalogue_after};
 
-use buffers::Answer;
+use buffers::Refusal;
 use float::{sin_cos, to_radians};
 
 // The unit vector of a position.
+#[tactic(auto, unfolding(crate::specs::Catalogue::radec_to_unit, float::specs::Trigonometry::sine_of, float::specs::Trigonometry::cosine_of))]
 pub fn radec_to_unit(ra_deg: f64, dec_deg: f64) -> [f64; 3]
     ensures { result ≡ radec_to_unit ra_deg dec_deg }
 {
@@ -20,67 +21,53 @@ pub fn radec_to_unit(ra_deg: f64, dec_deg: f64) -> [f64; 3]
 }
 
 // Whether a number is not within low to high.
+#[tactic(auto, unfolding(crate::specs::Catalogue::outside))]
 fn any_outside(xs: &[f64], low: f64, high: f64) -> bool
     ensures { result ≡ any (outside low high) xs.now }
 {
-    let mut i = 0;
-    while i < xs.len() {
-        let x = xs[i];
-        i += 1;
-        if low <= x {
-            if x <= high {
-                continue;
-            }
-        }
-        return true;
-    }
-    false
+    xs.iter().any(|x| !(low <= *x && *x <= high))
 }
 
-// The number of the first refusal, 0 for none; `room` is the length of the lent list.
-fn catalogue_refusal(ras: &[f64], decs: &[f64], room: usize) -> u64
-    ensures { result ≡ catalogue_refusal ras.now decs.now room }
+// The first refusal; `room` is the length of the lent list.
+#[tactic(auto, unfolding(crate::specs::Catalogue::catalogue_refusal, crate::specs::Catalogue::bad_ra, crate::specs::Catalogue::bad_dec, buffers::specs::Refusal::first))]
+fn catalogue_refusal(ras: &[f64], decs: &[f64], room: usize) -> Result<(), Refusal>
+    ensures { found result ≡ catalogue_refusal ras.now decs.now room }
 {
     if ras.len() != decs.len() {
-        return 1;
+        return Err(Refusal::LengthsDoNotFit);
     }
-    if any_outside(ras, 0.0, 360.0) {
-        return 16;
+    if any_outside(ras, 0.0, 360.0) || any_outside(decs, -90.0, 90.0) {
+        return Err(Refusal::RadecOutOfRange);
     }
-    if any_outside(decs, -90.0, 90.0) {
-        return 16;
+    if room / 3 < ras.len() {
+        return Err(Refusal::OutputTooShort);
     }
-    if room / 3 < ras.len() { 7 } else { 0 }
+    Ok(())
 }
 
-// Writes each position's vector.
+// Writes each position's vector. By the position's number: once `chunks_exact_mut` has lent its parts, a proof knows no
+// number of them.
 fn write_units(ras: &[f64], decs: &[f64], out: &mut [f64])
     requires { (length ras.now ≡ length decs.now) × (3 * length ras.now ≤ length out.old) }
     ensures { out.new ≡ filled (3 * length ras.now) (catalogue_number ras.now decs.now) out.old }
 {
-    let mut i = 0;
-    while i < ras.len() {
-        let ra = ras[i];
-        let dec = decs[i];
-        let unit = radec_to_unit(ra, dec);
-        let k = 3 * i;
-        out[k] = unit[0];
-        out[k + 1] = unit[1];
-        out[k + 2] = unit[2];
-        i += 1;
+    for (i, ra) in ras.iter().enumerate() {
+        let unit = radec_to_unit(*ra, decs[i]);
+        out[3 * i..3 * i + 3].copy_from_slice(&unit);
     }
 }
 
 // The unit vectors of all positions, one after the other: x, y, z a position.
 // Refuses 1, 16, 7 (specs/Catalogue, `catalogue_refusal`).
-pub fn radec_to_unit_vectors_batch(ras_deg: &[f64], decs_deg: &[f64], out: &mut [f64]) -> Answer
-    ensures result_value { reply_of result ≡ catalogue_reply ras_deg.now decs_deg.now (length out.old) }
+pub fn radec_to_unit_vectors_batch(
+    ras_deg: &[f64],
+    decs_deg: &[f64],
+    out: &mut [f64],
+) -> Result<u64, Refusal>
+    ensures result_value { replied result ≡ catalogue_reply ras_deg.now decs_deg.now (length out.old) }
     ensures out_after { out.new ≡ catalogue_after ras_deg.now decs_deg.now out.old }
 {
-    let refusal = catalogue_refusal(ras_deg, decs_deg, out.len());
-    if refusal != 0 {
-        return Answer::Refused(refusal);
-    }
+    catalogue_refusal(ras_deg, decs_deg, out.len())?;
     write_units(ras_deg, decs_deg, out);
-    Answer::Accepted(0)
+    Ok(0)
 }

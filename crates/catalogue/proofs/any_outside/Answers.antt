@@ -1,30 +1,22 @@
--- `catalogue::any_outside`: before place i, no number before it lies outside. Assumes nothing.
-use Rattle.buffers.proofs.Ranges.{scan_next, scan_stop, scan_end}
+-- `any_outside`: the library's test of a list is the definition's. Assumes nothing.
+use mathlib.Core.Path.{◌≡◌, refl, ap, ◌∙◌}
+use mathlib.Core.Bool.{Bool, ◌||◌}
+use mathlib.Core.List.{List, [], ◌∷◌}
+use Rattle.std.proofs.Common.{rules, tests}
+use Rattle.std.specs.List.{list_any}
+use Rattle.std.proofs.lemmas.Iterator.{YieldsList-from_slice}
+use Rattle.std.proofs.lemmas.Iterator.Search.{any_from_yields_List}
+use Rattle.buffers.specs.Ranges.{any}
 use Rattle.catalogue.specs.Catalogue.{outside}
-use borrow.Author.Rules.{rules}
-use lib.Ieee.{nan}
-use mathlib.Core.Path.{refl}
-use native.Mathlib.Omega.{arith}
 use Rattle.catalogue.proofs.any_outside.Goals as goal
 
-pub loop-i-init : goal.loop-i-init
-loop-i-init c = (search rules, refl)
-
-pub loop-i-preserved : goal.loop-i-preserved
-unfolding outside
-loop-i-preserved c = let at = c.loop-i in
-    (omega arith, scan_next _ _ nan at.i c.loop-i-test.true (simp (c.if-low-x.true, c.if-x-high.true)) at.invariant.1)
-
-pub returns-else-x-high : goal.returns-else-x-high
-unfolding outside
-returns-else-x-high c = let at = c.loop-i in
-    scan_stop _ _ nan at.i c.loop-i-test.true (simp (c.if-low-x.true, c.if-x-high.false)) at.invariant.1
-
-pub returns-else-low-x : goal.returns-else-low-x
-unfolding outside
-returns-else-low-x c = let at = c.loop-i in
-    scan_stop _ _ nan at.i c.loop-i-test.true (simp c.if-low-x.false) at.invariant.1
+any_listed : {A : Type 0} (p : A → Bool) (xs : List A) → list_any p xs ≡ any p xs
+unfolding any
+any_listed p [] = refl
+any_listed p (x ∷ xs) = ap (λ b. p x || b) (any_listed p xs)
 
 pub returns : goal.returns
 unfolding outside
-returns c = scan_end _ _ nan c.loop-i.i c.loop-i-test.false c.loop-i.invariant.1
+returns c =
+    any_from_yields_List (outside c.args.low c.args.high) _ _ c.any.result c.any.ensures.ran (YieldsList-from_slice c.args.xs.now cc) (λ x b q k. search (rules, tests))
+    ∙ any_listed _ _
