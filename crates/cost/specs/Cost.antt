@@ -1,6 +1,6 @@
 -- Document 02's request Four: what a plan of a size costs, and a plan of that size that costs most, and one that costs least. A size is the number of targets, of times, and n,
 -- the number of rolls; the plans that are written are swept over even ones. Definitions only. Assumes nothing.
-use Rattle.std.specs.Prelude.{Bool, ◌||◌, List, [], ◌∷◌, ℕ, ◌+◌, ◌*◌, ◌%◌, ltb, length, get_or, Float}
+use Rattle.std.specs.Prelude.{Bool, ◌||◌, List, [], ◌∷◌, ℕ, ◌+◌, ◌*◌, ◌%◌, ltb, length, get_or, Float, None, ◌≡◌}
 use Rattle.std.specs.Float.{nan}
 use Rattle.std.specs.Float.Ieee.{neg}
 use Rattle.buffers.specs.Ranges.{tab}
@@ -9,9 +9,9 @@ use Rattle.buffers.specs.Refusal.{first, carried, Reply, reply, unless_refused}
 use Rattle.float.specs.Arithmetic.{zero·0, one, half_turn}
 use Rattle.solar_roll.specs.Vectors.{vector}
 use Rattle.solar_roll.specs.Plan.{Plan, plan_of, too_many, samples_refusal}
-use Rattle.solar_roll.specs.declared.cell.ConfiguredRoll.TheVariants.{None}
 use Rattle.roll_sweep.specs.Sweep.{chunks}
 use Rattle.journal.specs.Lines.{header_length, line_length}
+use Rattle.cost.specs.declared.PlanLists.{PlanLists as LentLists}
 
 -- ---- the cost
 
@@ -89,6 +89,18 @@ pub record PlanLists : Type 0 where
 abbrev pub plan_lists : List Float → List Float → List Float → List Float → List Float → PlanLists
 plan_lists targets suns observers tolerances panel =
     record { targets = targets; suns = suns; observers = observers; tolerances = tolerances; panel = panel }
+
+-- what the struct holds that a call is lent; and that it borrows the same lists after a call as before
+abbrev pub lent : LentLists → PlanLists
+lent l = plan_lists l.targets.now l.suns.now l.observers.now l.tolerances.now l.panel.now
+
+abbrev pub same_lists : LentLists → LentLists → Type 0
+same_lists a b =
+    (b.targets.ghost_name ≡ a.targets.ghost_name)
+    × (b.suns.ghost_name ≡ a.suns.ghost_name)
+    × (b.observers.ghost_name ≡ a.observers.ghost_name)
+    × (b.tolerances.ghost_name ≡ a.tolerances.ghost_name)
+    × (b.panel.ghost_name ≡ a.panel.ghost_name)
 
 -- each of the plan's lists over the first places of a lent one; the places beyond stay
 unfoldable pub plan_over : Plan → PlanLists → PlanLists

@@ -1,7 +1,6 @@
 -- Document 02's request Four: what "the sweep's own count is the number foretold" says. That count is `sweep_probes`, which collect answers once each chunk has a
 -- line (demand 3, ledger: specs/Demand3). The theorems are in proofs/Foretold. Definitions only. Assumes nothing.
-use Rattle.std.specs.Prelude.{◌≡◌, false, List, ℕ, ◌*◌, ◌≤◌, get_or, take}
-use Rattle.solar_roll.specs.declared.cell.ConfiguredRoll.TheVariants.{None}
+use Rattle.std.specs.Prelude.{◌≡◌, false, List, ℕ, ◌*◌, ◌≤◌, get_or, take, None}
 use Rattle.solar_roll.specs.Plan.{Plan, plan_of, rows_of, times_of, samples_refusal, plan_refusal}
 use Rattle.roll_sweep.specs.Sweep.{sweep_probes}
 use Rattle.roll_sweep.specs.Rolls.{even_rolls}

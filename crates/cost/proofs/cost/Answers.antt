@@ -1,74 +1,71 @@
 -- `cost::cost` meets its contract. Assumes nothing.
-use mathlib.Core.Path.{◌≡◌, refl, sym, ◌∙◌}
-use mathlib.Core.List.{List, [], ◌∷◌}
-use Prim.Native.Nat.{ℕ, ◌≤◌}
+use mathlib.Core.Path.{◌≡◌, refl, sym}
+use Prim.Native.Nat.{◌≤◌}
 use native.Mathlib.Nat.{mul-le-mul, lt_of_le_of_lt}
 use native.Mathlib.Omega.{arith}
-use lib.Dec.{lit<}
-use lib.ListN.{length, set, length-set}
+use lib.Dec.{ltb, lit<}
+use lib.ListN.{length}
+use lib.Seq.{length-take-le}
+use borrow.Author.Rules.{rules}
 use borrow.Author.Tests.{ltb-false}
+use Rattle.std.specs.Prelude.{Err}
 use Rattle.buffers.specs.Lent.{over}
-use Rattle.buffers.proofs.Lent.{over_nil, over_more}
-use Rattle.buffers.proofs.Refusals.{refused_leaves, accepted_leaves}
+use Rattle.buffers.proofs.Refusals.{err_replied, ok_replied, err_unless, ok_unless}
 use Rattle.roll_sweep.specs.Sweep.{chunks}
 use Rattle.cost.specs.Cost.{journal_length, cost_refusal, cost_reply, cost_after}
-use Rattle.cost.proofs.Facts.{size_facts}
+use Rattle.cost.proofs.Facts.{SizeFacts, size_facts}
 use Rattle.cost.proofs.cost.Goals as goal
+use Rattle.cost.proofs.cost.Goals.{In_ok-size_refusal}
 
--- three numbers, one after the other
-three : (x y z : ℕ) (l : List ℕ) → 3 ≤ length l → set (set (set l 0 x) 1 y) 2 z ≡ over (x ∷ y ∷ z ∷ []) l
-three x y z l h =
-    over_more (set (set l 0 x) 1 y) (x ∷ y ∷ []) l 2 z
-    (over_more (set l 0 x) (x ∷ []) l 1 y (over_more l [] l 0 x (over_nil l) refl (omega arith)) refl (omega arith))
-    refl (omega arith)
+-- what is known once the size is not refused
+known : (c : In_ok-size_refusal) → SizeFacts c.args.targets c.args.times c.args.n (ltb (length c.args.out.now) 3)
+known c = size_facts _ _ _ _ (sym c.in_ok-size_refusal.ensures)
 
-pub returns-then-refusal-ne0 : goal.returns-then-refusal-ne0
+pub returns-in_err-size_refusal : goal.returns-in_err-size_refusal
 unfolding cost_reply cost_after cost_refusal
-returns-then-refusal-ne0 c = let k = c.size_refusal-refusal.result in record {
-  result_value = (refused_leaves k _ 0 k k c.size_refusal-refusal.ensures c.if-refusal-ne0.true).0;
-  out_after = (refused_leaves k _ 0 _ _ c.size_refusal-refusal.ensures c.if-refusal-ne0.true).1;
-}
+returns-in_err-size_refusal c =
+    let e : c.from_residual.result ≡ Err c.in_err-size_refusal.field-0.0 = search rules in
+    let h = c.in_err-size_refusal.ensures in
+    record {
+      result_value = rw e (err_replied _ _ _ h);
+      out_after = err_unless _ _ _ _ h;
+    }
 
 pub overflow_mul-cells : goal.overflow_mul-cells
-overflow_mul-cells c = let f = size_facts _ _ _ _ (sym c.size_refusal-refusal.ensures ∙ c.if-refusal-ne0.false) in
-    record { fits = lt_of_le_of_lt f.few_of.few_cells (lit< tt) }
+overflow_mul-cells c = record { fits = lt_of_le_of_lt (known (goal.at.overflow_mul-cells c).In_ok-size_refusal).few_of.few_cells (lit< tt) }
 
 pub overflow_add-chunks : goal.overflow_add-chunks
-overflow_add-chunks c = let f = size_facts _ _ _ _ (sym c.size_refusal-refusal.ensures ∙ c.if-refusal-ne0.false) in
-    record { fits = omega (arith, f.few_of.few_cells) }
+overflow_add-chunks c = record { fits = omega (arith, (known (goal.at.overflow_add-chunks c).In_ok-size_refusal).few_of.few_cells) }
 
-pub overflow_mul-out : goal.overflow_mul-out
-overflow_mul-out c = let f = size_facts _ _ _ _ (sym c.size_refusal-refusal.ensures ∙ c.if-refusal-ne0.false) in
-    record { fits = omega (arith, f.few_of.few_cells) }
+pub overflow_mul-length : goal.overflow_mul-length
+overflow_mul-length c = record { fits = omega (arith, (known (goal.at.overflow_mul-length c).In_ok-size_refusal).few_of.few_cells) }
 
-pub overflow_add-out : goal.overflow_add-out
-overflow_add-out c = let f = size_facts _ _ _ _ (sym c.size_refusal-refusal.ensures ∙ c.if-refusal-ne0.false) in
-    record { fits = omega (arith, f.few_of.few_cells) }
+pub overflow_add-length : goal.overflow_add-length
+overflow_add-length c = record { fits = omega (arith, (known (goal.at.overflow_add-length c).In_ok-size_refusal).few_of.few_cells) }
 
-pub bounds-out-0 : goal.bounds-out-0
-bounds-out-0 c = let f = size_facts _ _ _ _ (sym c.size_refusal-refusal.ensures ∙ c.if-refusal-ne0.false) in
-    let h : 3 ≤ length c.args.out.now = ltb-false _ _ f.room in
-    omega (arith, h)
+pub slice_bounds-copy_from_slice-end : goal.slice_bounds-copy_from_slice-end
+slice_bounds-copy_from_slice-end c = ltb-false _ _ (known (goal.at.slice_bounds-copy_from_slice-end c).In_ok-size_refusal).room
 
-pub bounds-out-1 : goal.bounds-out-1
-bounds-out-1 c = let f = size_facts _ _ _ _ (sym c.size_refusal-refusal.ensures ∙ c.if-refusal-ne0.false) in
-    let h : 3 ≤ length c.args.out.now = ltb-false _ _ f.room in
-    simp length-set (omega (arith, h))
+pub slice_bounds-copy_from_slice-end-2 : goal.slice_bounds-copy_from_slice-end-2
+slice_bounds-copy_from_slice-end-2 c =
+    let h : 3 ≤ length c.args.out.now = ltb-false _ _ (known (goal.at.slice_bounds-copy_from_slice-end-2 c).In_ok-size_refusal).room in
+    sym (length-take-le 3 c.args.out.now h)
 
-pub overflow_mul-out-2 : goal.overflow_mul-out-2
-overflow_mul-out-2 c = let f = size_facts _ _ _ _ (sym c.size_refusal-refusal.ensures ∙ c.if-refusal-ne0.false) in
+pub overflow_mul-n : goal.overflow_mul-n
+overflow_mul-n c =
+    let f = known (goal.at.overflow_mul-n c).In_ok-size_refusal in
     record { fits = lt_of_le_of_lt (mul-le-mul f.most f.few_of.few_cells) (lit< tt) }
 
-pub bounds-out-2 : goal.bounds-out-2
-bounds-out-2 c = let f = size_facts _ _ _ _ (sym c.size_refusal-refusal.ensures ∙ c.if-refusal-ne0.false) in
-    let h : 3 ≤ length c.args.out.now = ltb-false _ _ f.room in
-    simp length-set (omega (arith, h))
+pub copy_from_slice-requires : goal.copy_from_slice-requires
+copy_from_slice-requires c =
+    let h : 3 ≤ length c.args.out.now = ltb-false _ _ (known (goal.at.copy_from_slice-requires c).In_ok-size_refusal).room in
+    length-take-le 3 c.args.out.now h
 
 pub returns : goal.returns
-unfolding cost_reply cost_after cost_refusal journal_length chunks
-returns c = let k = c.size_refusal-refusal.result in
-    let f = size_facts _ _ _ _ (sym c.size_refusal-refusal.ensures ∙ c.if-refusal-ne0.false) in
+unfolding cost_reply cost_after cost_refusal journal_length chunks over
+returns c =
+    let h = c.in_ok-size_refusal.ensures in
     record {
-      result_value = (accepted_leaves k _ 0 k k k c.size_refusal-refusal.ensures c.if-refusal-ne0.false refl).0;
-      out_after = (accepted_leaves k _ 0 _ _ _ c.size_refusal-refusal.ensures c.if-refusal-ne0.false (three _ _ _ c.args.out.now (ltb-false _ _ f.room))).1;
+      result_value = ok_replied _ _ _ h refl;
+      out_after = ok_unless _ _ _ _ h (rw c.copy_from_slice.ensures.after);
     }

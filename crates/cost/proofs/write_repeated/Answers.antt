@@ -1,30 +1,30 @@
 -- `cost::write_repeated`: before place k, the places before it are written. Assumes nothing.
-use Prim.Native.Nat.{◌%◌, ◌<◌}
-use mathlib.Core.Path.{◌≡◌, refl, ◌∙◌}
-use native.Mathlib.Nat.{mod-lt}
+use Prim.Native.Nat.{ℕ, ◌≤◌, ◌<◌}
+use mathlib.Core.Path.{◌≡◌, refl}
+use mathlib.Core.List.{List, ◌++◌, append-nil}
 use native.Mathlib.Omega.{arith}
-use borrow.Author.Rules.{rules}
-use lib.ListN.{length, length-set}
+use lib.ListN.{length, take, drop, drop_of_length-le}
+use lib.Seq.{length-take-le}
+use Rattle.buffers.specs.Lent.{filled}
 use Rattle.buffers.proofs.Lent.{filled_zero, filled_next, filled_over}
 use Rattle.cost.specs.Cost.{repeated}
 use Rattle.cost.proofs.write_repeated.Goals as goal
 
+-- the first n places, filled, and those beyond
+places_filled : {A : Type 0} (f : ℕ → A) (n k : ℕ) (l first : List A) → n ≤ length l → k ≡ n → first ≡ filled k f (take n l) → first ++ drop n l ≡ filled n f l
+unfolding filled
+places_filled f n k l first h e i =
+    let few : length (take n l) ≤ n = omega (arith, length-take-le n l h) in
+    rw (i, e, drop_of_length-le (take n l) few, append-nil) refl
+
 pub loop-k-init : goal.loop-k-init
-loop-k-init c = (omega arith, c.requires.0, c.requires.1, refl, filled_zero _ _)
-
-pub offset_bounds-pattern-k : goal.offset_bounds-pattern-k
-offset_bounds-pattern-k c = let at = c.loop-k in
-    let h : at.k % length c.args.pattern.now < length c.args.pattern.now = mod-lt _ at.invariant.1 in
-    search rules
-
-pub bounds-pattern-k : goal.bounds-pattern-k
-bounds-pattern-k c = mod-lt _ c.loop-k.invariant.1
+loop-k-init c = filled_zero _ _
 
 pub loop-k-preserved : goal.loop-k-preserved
-loop-k-preserved c = let at = c.loop-k in
-    (omega arith, at.invariant.1, at.invariant.2, simp length-set at.invariant.3, rw at.invariant.4 (filled_next _ _ _ _ (omega arith) refl))
+loop-k-preserved c = let h : c.loop-k.k < length (take c.args.places c.args.out.now) = omega arith in rw c.loop-k.invariant (filled_next _ _ _ _ h refl)
 
 pub returns : goal.returns
 unfolding repeated
-returns c = let h : c.loop-k.k ≡ c.args.places = omega arith in
-    c.loop-k.invariant.4 ∙ rw h (filled_over _ _ _)
+returns c =
+    let size = length-take-le c.args.places c.args.out.now c.requires.1 in
+    rw (places_filled _ c.args.places c.loop-k.k c.args.out.now _ c.requires.1 (omega (arith, size)) c.loop-k.invariant) (filled_over _ _ _)

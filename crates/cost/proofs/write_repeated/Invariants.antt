@@ -1,5 +1,5 @@
 -- `cost::write_repeated`: before place k, the places before it are written. Assumes nothing.
-use Prim.Native.Nat.{◌-◌, ◌%◌, ◌≤◌, ◌<◌}
+use Prim.Native.Nat.{◌%◌}
 use mathlib.Core.Path.{◌≡◌}
 use lib.ListN.{length, get_or}
 use lib.Ieee.{nan}
@@ -7,7 +7,4 @@ use Rattle.buffers.specs.Lent.{filled}
 use Rattle.cost.proofs.write_repeated.Given as goal
 
 abbrev pub invariant-loop-k : goal.invariant-loop-k
-invariant-loop-k l = (l.k ≤ l.places) × (0 < length l.pattern) × (l.places ≤ length l.initial.out) × (length l.out ≡ length l.initial.out) × (l.out ≡ filled l.k (λ j. get_or l.pattern (j % length l.pattern) nan) l.initial.out)
-
-abbrev pub decreases-loop-k : goal.decreases-loop-k
-decreases-loop-k l = l.places - l.k
+invariant-loop-k l = l.place-items ≡ filled l.k (λ j. get_or l.pattern (j % length l.pattern) nan) l.initial.place-items
