@@ -1,11 +1,11 @@
 // The vectors of catalogue positions, right ascension and declination in degrees.
 #![tactic(auto)]
 
-ghost use Rattle.std.specs.Prelude.{◌≡◌, ◌*◌, ◌≤◌, length};
+ghost use Rattle.std.specs.Prelude.{◌≡◌, ◌||◌, ◌*◌, ◌≤◌, length};
 ghost use Rattle.buffers.specs.Ranges.{any};
 ghost use Rattle.buffers.specs.Lent.{filled};
 ghost use Rattle.buffers.specs.Refusal.{found, replied};
-ghost use Rattle.catalogue.specs.Catalogue.{radec_to_unit, outside, catalogue_number, catalogue_refusal, catalogue_reply, catalogue_after};
+ghost use Rattle.catalogue.specs.Catalogue.{radec_to_unit, outside, bad_ra, bad_dec, catalogue_number, catalogue_refusal, catalogue_reply, catalogue_after};
 
 use buffers::Refusal;
 use float::{sin_cos, to_radians};
@@ -28,15 +28,23 @@ fn any_outside(xs: &[f64], low: f64, high: f64) -> bool
     xs.iter().any(|x| !(low <= *x && *x <= high))
 }
 
+// 16: an RA not within 0 to 360, or a Dec not within -90 to 90.
+#[tactic(auto, unfolding(crate::specs::Catalogue::bad_ra, crate::specs::Catalogue::bad_dec))]
+fn out_of_range(ras: &[f64], decs: &[f64]) -> bool
+    ensures { result ≡ any bad_ra ras.now || any bad_dec decs.now }
+{
+    any_outside(ras, 0.0, 360.0) || any_outside(decs, -90.0, 90.0)
+}
+
 // The first refusal; `room` is the length of the lent list.
-#[tactic(auto, unfolding(crate::specs::Catalogue::catalogue_refusal, crate::specs::Catalogue::bad_ra, crate::specs::Catalogue::bad_dec, buffers::specs::Refusal::first))]
+#[tactic(auto, unfolding(crate::specs::Catalogue::catalogue_refusal, buffers::specs::Refusal::first))]
 fn catalogue_refusal(ras: &[f64], decs: &[f64], room: usize) -> Result<(), Refusal>
     ensures { found result ≡ catalogue_refusal ras.now decs.now room }
 {
     if ras.len() != decs.len() {
         return Err(Refusal::LengthsDoNotFit);
     }
-    if any_outside(ras, 0.0, 360.0) || any_outside(decs, -90.0, 90.0) {
+    if out_of_range(ras, decs) {
         return Err(Refusal::RadecOutOfRange);
     }
     if room / 3 < ras.len() {
