@@ -47,7 +47,7 @@ pub fn cost(targets: u64, times: u64, n: u64, out: &mut [u64]) -> Result<u64, Re
 {
     size_refusal(targets, times, n, out.len() < 3)?;
     let cells = targets * times;
-    let chunks = (cells + 63) / 64;
+    let chunks = cells.div_ceil(64);
     let length = HEADER_LENGTH as u64 + LINE_LENGTH as u64 * chunks;
     out[..3].copy_from_slice(&[length, cells, n * cells]);
     Ok(0)

@@ -162,8 +162,7 @@ fn chunk_refusal(
         return Err(Refusal::TooLarge);
     }
     samples_refusal(samples as u64)?;
-    let cells = rows * times;
-    if (cells + 63) / 64 <= chunk as usize {
+    if (rows * times).div_ceil(64) <= chunk as usize {
         return Err(Refusal::NoSuchIndex);
     }
     Ok(())

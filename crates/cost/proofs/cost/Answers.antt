@@ -1,6 +1,6 @@
 -- `cost::cost` meets its contract. Assumes nothing.
 use mathlib.Core.Path.{◌≡◌, refl, sym}
-use Prim.Native.Nat.{◌≤◌}
+use Prim.Native.Nat.{◌+◌, ◌*◌, ◌/◌, ◌≤◌}
 use native.Mathlib.Nat.{mul-le-mul, lt_of_le_of_lt}
 use native.Mathlib.Omega.{arith}
 use lib.Dec.{ltb, lit<}
@@ -34,9 +34,6 @@ returns-in_err-size_refusal c =
 pub overflow_mul-cells : goal.overflow_mul-cells
 overflow_mul-cells c = record { fits = lt_of_le_of_lt (known (goal.at.overflow_mul-cells c).In_ok-size_refusal).few_of.few_cells (lit< tt) }
 
-pub overflow_add-chunks : goal.overflow_add-chunks
-overflow_add-chunks c = record { fits = omega (arith, (known (goal.at.overflow_add-chunks c).In_ok-size_refusal).few_of.few_cells) }
-
 pub overflow_mul-length : goal.overflow_mul-length
 overflow_mul-length c = record { fits = omega (arith, (known (goal.at.overflow_mul-length c).In_ok-size_refusal).few_of.few_cells) }
 
@@ -65,7 +62,8 @@ pub returns : goal.returns
 unfolding cost_reply cost_after cost_refusal journal_length chunks over
 returns c =
     let h = c.in_ok-size_refusal.ensures in
+    let rounded : c.div_ceil-chunks.result ≡ (c.args.targets * c.args.times + 63) / 64 = omega arith in
     record {
       result_value = ok_replied _ _ _ h refl;
-      out_after = ok_unless _ _ _ _ h (rw c.copy_from_slice.ensures.after);
+      out_after = ok_unless _ _ _ _ h (rw (c.copy_from_slice.ensures.after, rounded));
     }

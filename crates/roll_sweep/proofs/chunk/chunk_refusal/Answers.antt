@@ -4,8 +4,5 @@ use native.Mathlib.Omega.{arith}
 use Rattle.solar_roll.proofs.PlanFacts.{few}
 use Rattle.roll_sweep.proofs.chunk.chunk_refusal.Goals as goal
 
-pub overflow_mul-cells : goal.overflow_mul-cells
-overflow_mul-cells c = record { fits = omega (arith, (few _ _ (sym c.too_many.ensures ∙ c.if-too_many.false)).few_cells) }
-
-pub overflow_add-cells : goal.overflow_add-cells
-overflow_add-cells c = record { fits = omega (arith, (few _ _ (sym c.too_many.ensures ∙ c.if-too_many.false)).few_cells) }
+pub overflow_mul-rows : goal.overflow_mul-rows
+overflow_mul-rows c = record { fits = omega (arith, (few _ _ (sym c.too_many.ensures ∙ c.if-too_many.false)).few_cells) }
