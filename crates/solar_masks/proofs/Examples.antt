@@ -15,7 +15,7 @@ use Rattle.solar_roll.specs.Cell.{violates, in_force, bad_position, bad_directio
 use Rattle.solar_roll.specs.Plan.{Plan, plan_of, plan_refusal, sizes_refusal, samples_or_none_refusal, unlike_lengths, too_many}
 use Rattle.solar_roll.specs.declared.cell.CellRoll.{CellRoll}
 use Rattle.solar_roll.specs.declared.cell.CellRoll.TheVariants.{Free, At}
-use Rattle.solar_roll.specs.declared.cell.ConfiguredRoll.TheVariants.{None, Some}
+use Rattle.std.specs.Prelude.{None, Some}
 use Rattle.solar_roll.specs.declared.cell.EvaluationRoll.TheVariants.{Sweep, Fixed}
 use Rattle.solar_masks.specs.Mask.{step_distance, misses_steps, marked_by, at_roll, at_configured, at_every_roll, cells_short, cells_refusal, cells_reply}
 use Rattle.solar_masks.specs.Row.{excess, severity, row_short, row_refusal, row_reply}

@@ -1,6 +1,6 @@
 -- Masks: a byte a cell, 0 clear or 1 marked, in order of cell number. Which rule each call marks by (sections 2 and 6), and *Masks, named values*
 -- of the refusals. Definitions only. Assumes nothing.
-use Rattle.std.specs.Prelude.{Bool, false, cond, List, [], ◌∷◌, ℕ, ◌/◌, ◌%◌, ◌<◌, eqb, ltb, length, get_or, Float}
+use Rattle.std.specs.Prelude.{Bool, false, cond, List, [], ◌∷◌, ℕ, ◌/◌, ◌%◌, ◌<◌, eqb, ltb, length, get_or, Float, Option, None, Some}
 use Rattle.std.specs.Float.{nan}
 use Rattle.std.specs.Float.Ieee.{lt}
 use Rattle.buffers.specs.Ranges.{flag}
@@ -12,8 +12,6 @@ use Rattle.solar_roll.specs.Cell.{violates, in_force}
 use Rattle.solar_roll.specs.Plan.{Plan, times_of, cells_of, config_of, cell_of, optimal_at, plan_refusal}
 use Rattle.solar_roll.specs.declared.cell.CellRoll.{CellRoll}
 use Rattle.solar_roll.specs.declared.cell.CellRoll.TheVariants as cell
-use Rattle.solar_roll.specs.declared.cell.ConfiguredRoll.{ConfiguredRoll}
-use Rattle.solar_roll.specs.declared.cell.ConfiguredRoll.TheVariants.{None, Some}
 use Rattle.solar_roll.specs.declared.cell.EvaluationRoll.{EvaluationRoll}
 use Rattle.solar_masks.specs.declared.mask.MarkRule.{MarkRule}
 use Rattle.solar_masks.specs.declared.mask.MarkRule.TheVariants.{AtRoll, EveryStep, Nothing}
@@ -41,16 +39,16 @@ marked_by c (EveryStep step) tolerance = misses_steps c step tolerance
 marked_by c Nothing tolerance = false
 
 -- at a roll: a configured roll overrides Sweep, never Fixed
-unfoldable pub at_roll : EvaluationRoll → ConfiguredRoll → MarkRule
+unfoldable pub at_roll : EvaluationRoll → Option Float → MarkRule
 at_roll roll configured = AtRoll (in_force roll configured)
 
 -- at the configured roll; without one nothing is marked
-unfoldable pub at_configured : ConfiguredRoll → MarkRule
+unfoldable pub at_configured : Option Float → MarkRule
 at_configured None = Nothing
 at_configured (Some roll) = AtRoll roll
 
 -- at every roll, with step = 360 / n: a configured roll is looked at before n, and n = 0 marks nothing
-unfoldable pub at_every_roll : ℕ → ConfiguredRoll → MarkRule
+unfoldable pub at_every_roll : ℕ → Option Float → MarkRule
 at_every_roll n None = cond (eqb n 0) Nothing (EveryStep (sample_step n))
 at_every_roll n (Some roll) = AtRoll roll
 
@@ -90,7 +88,7 @@ unfoldable pub cells_reply : Plan → ℕ → ℕ → Reply ℕ
 cells_reply p said room = reply (cells_refusal p said room) 0
 
 -- what a mask call leaves in the lent mask, by the rule that it makes of the configured roll
-unfoldable pub mask_after : Plan → ℕ → (ConfiguredRoll → MarkRule) → List ℕ → List ℕ
+unfoldable pub mask_after : Plan → ℕ → (Option Float → MarkRule) → List ℕ → List ℕ
 mask_after p said rule mask =
     unless_refused (cells_refusal p said (length mask)) (filled (cells_of p) (cell_mark p (rule p.configured)) mask) mask
 

@@ -1,6 +1,6 @@
 -- *One row*: `evaluate` for a row, its mask and its severities (section 5) at the configured roll, all zero without one. Definitions only.
 -- Assumes nothing.
-use Rattle.std.specs.Prelude.{Bool, false, cond, ◌||◌, List, [], ◌∷◌, ℕ, leb, ltb, length, Float}
+use Rattle.std.specs.Prelude.{Bool, false, cond, ◌||◌, List, [], ◌∷◌, ℕ, leb, ltb, length, Float, Option, None, Some}
 use Rattle.buffers.specs.Lent.{filled}
 use Rattle.buffers.specs.Refusal.{first, carried, Reply, reply, unless_refused}
 use Rattle.float.specs.Arithmetic.{◌⊖◌, zero·0}
@@ -10,8 +10,6 @@ use Rattle.solar_roll.specs.Plan.{Plan, rows_of, times_of, config_of, cell_of, p
 use Rattle.solar_masks.specs.Mask.{at_configured, mark_at}
 use Rattle.solar_roll.specs.declared.cell.CellRoll.{CellRoll}
 use Rattle.solar_roll.specs.declared.cell.CellRoll.TheVariants.{Free, At, Refused}
-use Rattle.solar_roll.specs.declared.cell.ConfiguredRoll.{ConfiguredRoll}
-use Rattle.solar_roll.specs.declared.cell.ConfiguredRoll.TheVariants.{None, Some}
 
 -- the severity at a roll: difference - tolerance where violated, else zero
 unfoldable pub excess : CellRoll → Float → Float → Float
@@ -20,7 +18,7 @@ excess (At optimal) roll tolerance = cond (violates (At optimal) roll tolerance)
 excess (Refused k) roll tolerance = zero·0
 
 -- the severity at the configured roll; without one it is zero
-unfoldable pub severity : CellRoll → ConfiguredRoll → Float → Float
+unfoldable pub severity : CellRoll → Option Float → Float → Float
 severity c None tolerance = zero·0
 severity c (Some roll) tolerance = excess c roll tolerance
 

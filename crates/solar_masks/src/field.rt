@@ -1,44 +1,33 @@
 // Field of regard: the mark of each row at one time.
 ghost use Rattle.std.specs.Prelude.{◌≡◌, ◌≤◌, length};
 ghost use Rattle.buffers.specs.Lent.{filled};
-ghost use Rattle.buffers.specs.Refusal.{reply_of};
-ghost use Rattle.solar_roll.specs.Plan.{Plan, plan_of, rows_of, samples_or_none_refusal};
+ghost use Rattle.buffers.specs.Refusal.{found, replied};
+ghost use Rattle.solar_roll.specs.Plan.{Plan as PlanOf, lent, rows_of, samples_or_none_refusal};
 ghost use Rattle.solar_masks.specs.Mask.{at_roll, at_every_roll, mark_at};
 ghost use Rattle.solar_masks.specs.Field.{field_refusal, field_reply, field_after};
 ghost use Rattle.solar_roll.specs.declared.cell.EvaluationRoll.TheVariants.{Sweep};
 
 use crate::mask::{MarkRule, at_every_roll, at_roll, mark_byte};
-use buffers::Answer;
+use buffers::Refusal;
 use solar_roll::{
-    ConfiguredRoll, EvaluationRoll, Panel, body_axes, direction, panel_at, plan_refusal, roll_in,
-    row_config, samples_or_none_refusal, sun_unit, triple,
+    EvaluationRoll, Plan, body_axes, roll_in, samples_or_none_refusal, sun_unit, triple,
 };
 
 // Writes the byte of each row at a time.
-fn mark_column(
-    targets: &[f64],
-    suns: &[f64],
-    observers: &[f64],
-    tolerances: &[f64],
-    configured: ConfiguredRoll,
-    panels: &[f64],
-    time: usize,
-    rule: MarkRule,
-    mask: &mut [u8],
-)
-    requires { let p : Plan = plan_of targets.now suns.now observers.now tolerances.now configured panels.now in
+fn mark_column(plan: &Plan, time: usize, rule: MarkRule, mask: &mut [u8])
+    requires { let p : PlanOf = lent plan.now in
         rows_of p ≤ length mask.old }
-    ensures { let p : Plan = plan_of targets.now suns.now observers.now tolerances.now configured panels.now in
+    ensures { let p : PlanOf = lent plan.now in
         mask.new ≡ filled (rows_of p) (λ r. mark_at p rule r time) mask.old }
 {
     // The rows share their panel: it is worked out once.
-    let panel = panel_at(panels, 0);
-    let unit = sun_unit(triple(suns, time), triple(observers, time));
-    let rows = targets.len() / 3;
+    let panel = plan.panel_at(0);
+    let unit = sun_unit(triple(plan.suns, time), triple(plan.observers, time));
+    let rows = plan.targets.len() / 3;
     let mut row = 0;
     while row < rows {
-        let axes = body_axes(direction(targets, row));
-        let settings = row_config(tolerances, configured, panels, row);
+        let axes = body_axes(plan.direction(row));
+        let settings = plan.row_config(row);
         let cell = roll_in(axes, unit, panel);
         mask[row] = mark_byte(cell, rule, settings.tolerance_deg);
         row += 1;
@@ -46,125 +35,69 @@ fn mark_column(
 }
 
 // The plan's refusal, or 9 for no such time, or 7 for too little room.
+#[tactic(auto, unfolding(crate::specs::Field::field_refusal, crate::specs::Field::field_short, buffers::specs::Refusal::first, buffers::specs::Refusal::carried))]
 fn field_refusal(
-    targets: &[f64],
-    suns: &[f64],
-    observers: &[f64],
-    tolerances: &[f64],
-    configured: ConfiguredRoll,
-    panels: &[f64],
-    said: u64,
+    plan: &Plan,
+    said: Result<(), Refusal>,
     time: u64,
     room: usize,
-) -> u64
-    ensures { let p : Plan = plan_of targets.now suns.now observers.now tolerances.now configured panels.now in
-        result ≡ field_refusal p said time room }
+) -> Result<(), Refusal>
+    ensures { found result ≡ field_refusal (lent plan.now) (found said) time room }
 {
-    let refusal = plan_refusal(
-        targets, suns, observers, tolerances, configured, panels, said, false,
-    );
-    if refusal != 0 {
-        return refusal;
+    plan.refusal(said, false)?;
+    if (plan.times() as u64) <= time {
+        return Err(Refusal::NoSuchIndex);
     }
-    let rows = targets.len() / 3;
-    let times = suns.len() / 3;
-    if (times as u64) <= time {
-        return 9;
+    if room < plan.rows() {
+        return Err(Refusal::OutputTooShort);
     }
-    if room < rows { 7 } else { 0 }
+    Ok(())
+}
+
+// A call for a field of regard: its refusals, then the marks by a rule. `said` is said in the place of 3.
+fn field_by(
+    plan: &Plan,
+    said: Result<(), Refusal>,
+    time: u64,
+    rule: MarkRule,
+    mask: &mut [u8],
+) -> Result<u64, Refusal>
+    ensures result_value { replied result ≡ field_reply (lent plan.now) (found said) time (length mask.old) }
+    ensures mask_after { mask.new ≡ field_after (lent plan.now) (found said) time (λ configured. rule) mask.old }
+{
+    field_refusal(plan, said, time, mask.len())?;
+    mark_column(plan, time as usize, rule, mask);
+    Ok(0)
 }
 
 // The rows whose optimal roll at a time is further from every multiple of 360 / n than the tolerance; with a configured roll, those that it violates.
 // Refuses 1, 2, 3, 4, 5, 20, 6, 17 of the plan, then 9, 7 (specs/Field, `field_refusal`).
+#[tactic(auto, unfolding(crate::specs::Field::field_after))]
 pub fn field_of_regard_violated_batch(
-    targets: &[f64],
-    suns: &[f64],
-    observers: &[f64],
-    tolerances: &[f64],
-    configured: ConfiguredRoll,
-    panels: &[f64],
+    plan: &Plan,
     time: u64,
     n: u64,
     mask: &mut [u8],
-) -> Answer
-    ensures result_value { let p : Plan = plan_of targets.now suns.now observers.now tolerances.now configured panels.now in
-        reply_of result ≡ field_reply p (samples_or_none_refusal n) time (length mask.old) }
-    ensures mask_after { let p : Plan = plan_of targets.now suns.now observers.now tolerances.now configured panels.now in
-        mask.new ≡ field_after p (samples_or_none_refusal n) time (at_every_roll n) mask.old }
+) -> Result<u64, Refusal>
+    ensures result_value { replied result ≡ field_reply (lent plan.now) (samples_or_none_refusal n) time (length mask.old) }
+    ensures mask_after { mask.new ≡ field_after (lent plan.now) (samples_or_none_refusal n) time (at_every_roll n) mask.old }
 {
-    let said = samples_or_none_refusal(n);
-    let refusal = field_refusal(
-        targets,
-        suns,
-        observers,
-        tolerances,
-        configured,
-        panels,
-        said,
-        time,
-        mask.len(),
-    );
-    if refusal != 0 {
-        return Answer::Refused(refusal);
-    }
-    let rule = at_every_roll(n, configured);
-    mark_column(
-        targets,
-        suns,
-        observers,
-        tolerances,
-        configured,
-        panels,
-        time as usize,
-        rule,
-        mask,
-    );
-    Answer::Accepted(0)
+    let rule = at_every_roll(n, plan.configured);
+    field_by(plan, samples_or_none_refusal(n), time, rule, mask)
 }
 
 // The rows violated at a time, at the configured roll, else at the roll that is handed in.
 // Refuses 1, 2, 4, 5, 20, 6, 17 of the plan, then 9, 7 (specs/Field, `field_refusal`).
+#[tactic(auto, unfolding(crate::specs::Field::field_after))]
 pub fn field_of_regard_violated_at_roll(
-    targets: &[f64],
-    suns: &[f64],
-    observers: &[f64],
-    tolerances: &[f64],
-    configured: ConfiguredRoll,
-    panels: &[f64],
+    plan: &Plan,
     time: u64,
     roll_deg: f64,
     mask: &mut [u8],
-) -> Answer
-    ensures result_value { let p : Plan = plan_of targets.now suns.now observers.now tolerances.now configured panels.now in
-        reply_of result ≡ field_reply p 0 time (length mask.old) }
-    ensures mask_after { let p : Plan = plan_of targets.now suns.now observers.now tolerances.now configured panels.now in
-        mask.new ≡ field_after p 0 time (at_roll (Sweep roll_deg)) mask.old }
+) -> Result<u64, Refusal>
+    ensures result_value { replied result ≡ field_reply (lent plan.now) 0 time (length mask.old) }
+    ensures mask_after { mask.new ≡ field_after (lent plan.now) 0 time (at_roll (Sweep roll_deg)) mask.old }
 {
-    let refusal = field_refusal(
-        targets,
-        suns,
-        observers,
-        tolerances,
-        configured,
-        panels,
-        0,
-        time,
-        mask.len(),
-    );
-    if refusal != 0 {
-        return Answer::Refused(refusal);
-    }
-    let rule = at_roll(EvaluationRoll::Sweep(roll_deg), configured);
-    mark_column(
-        targets,
-        suns,
-        observers,
-        tolerances,
-        configured,
-        panels,
-        time as usize,
-        rule,
-        mask,
-    );
-    Answer::Accepted(0)
+    let rule = at_roll(EvaluationRoll::Sweep(roll_deg), plan.configured);
+    field_by(plan, Ok(()), time, rule, mask)
 }

@@ -1,5 +1,5 @@
 // The calls on a plan's cells, ported from solar_roll.rs: masks, named values, one row with its
-// severities, and the field of regard. Each answers through `buffers::Answer`.
+// severities, and the field of regard. Each answers with a `Result` whose error is `buffers::Refusal`.
 #![tactic(auto)]
 
 mod field;

@@ -3,20 +3,20 @@ ghost use Rattle.std.specs.Prelude.{◌≡◌, ℕ, ◌+◌, ◌-◌, ◌*◌, �
 ghost use Rattle.buffers.specs.Ranges.{flag};
 ghost use Rattle.buffers.specs.Lent.{filled};
 ghost use Rattle.buffers.specs.Rows.{ColumnsWritten};
-ghost use Rattle.buffers.specs.Refusal.{reply_of};
+ghost use Rattle.buffers.specs.Refusal.{found, replied};
 ghost use Rattle.solar_roll.specs.Roll.{body_axes, sample_step};
 ghost use Rattle.solar_roll.specs.Cell.{roll_in};
 ghost use Rattle.solar_roll.specs.declared.cell.CellRoll.{CellRoll};
-ghost use Rattle.solar_roll.specs.Plan.{count as count_of};
-ghost use Rattle.solar_roll.specs.Plan.{Plan, plan_of, row_direction, row_config, cells_of, most_times, most_samples, samples_or_none_refusal};
+ghost use Rattle.solar_roll.specs.Plan.{Plan as PlanOf, lent, rows_of, times_of, direction_of, config_of, cells_of, most_times, samples_or_none_refusal};
 ghost use Rattle.solar_masks.specs.Mask.{step_distance, misses_steps, marked_by, at_roll, at_configured, at_every_roll, cell_mark, cells_refusal, cells_reply, mask_after};
 
-use buffers::{Answer, smaller};
+use buffers::{Refusal, smaller};
 use float::rem_euclid;
 use solar_roll::{
-    CellRoll, ConfiguredRoll, EvaluationRoll, Panel, body_axes, direction, free_or_at, in_force,
-    panel_at, plan_refusal, rolls_deg_in, row_config, samples_or_none_refusal, sun_units, violated,
+    CellRoll, EvaluationRoll, Panel, Plan, body_axes, free_or_at, in_force, rolls_deg_in,
+    samples_or_none_refusal, sun_units, violated,
 };
+use std::num::nearest_u64_to_f64;
 
 // What marks a cell: a roll too far from its optimal roll, every multiple of a step too far from it,
 // or nothing.
@@ -28,10 +28,11 @@ pub(crate) enum MarkRule {
 }
 
 // The even step of n samples.
-fn sample_step(n: u32) -> f64
+#[tactic(auto, unfolding(solar_roll::specs::Roll::sample_step))]
+fn sample_step(n: u64) -> f64
     ensures { result ≡ sample_step n }
 {
-    360.0 / (n as f64)
+    360.0 / nearest_u64_to_f64(n)
 }
 
 // How far a roll is from the nearest multiple of a step.
@@ -72,36 +73,35 @@ pub(crate) fn mark_byte(cell: CellRoll, rule: MarkRule, tolerance_deg: f64) -> u
 }
 
 // A configured roll overrides Sweep, never Fixed.
-pub(crate) fn at_roll(roll: EvaluationRoll, configured: ConfiguredRoll) -> MarkRule
+pub(crate) fn at_roll(roll: EvaluationRoll, configured: Option<f64>) -> MarkRule
     ensures { result ≡ at_roll roll configured }
 {
     MarkRule::AtRoll(in_force(roll, configured))
 }
 
 // Without a configured roll nothing is marked.
-pub(crate) fn at_configured(configured: ConfiguredRoll) -> MarkRule
+pub(crate) fn at_configured(configured: Option<f64>) -> MarkRule
     ensures { result ≡ at_configured configured }
 {
     match configured {
-        ConfiguredRoll::None => MarkRule::Nothing,
-        ConfiguredRoll::Some(roll) => MarkRule::AtRoll(roll),
+        None => MarkRule::Nothing,
+        Some(roll) => MarkRule::AtRoll(roll),
     }
 }
 
 // A configured roll is looked at before n, and 0 samples mark nothing.
-pub(crate) fn at_every_roll(n: u64, configured: ConfiguredRoll) -> MarkRule
-    requires { n ≤ most_samples }
+pub(crate) fn at_every_roll(n: u64, configured: Option<f64>) -> MarkRule
     ensures { result ≡ at_every_roll n configured }
 {
     match configured {
-        ConfiguredRoll::None => {
+        None => {
             if n == 0 {
                 MarkRule::Nothing
             } else {
-                MarkRule::EveryStep(sample_step(n as u32))
+                MarkRule::EveryStep(sample_step(n))
             }
         }
-        ConfiguredRoll::Some(roll) => MarkRule::AtRoll(roll),
+        Some(roll) => MarkRule::AtRoll(roll),
     }
 }
 
@@ -197,30 +197,27 @@ fn mark_row(
 // Writes the bytes of every row at `count` times from the time `from` on, whose Sun units lie in
 // `units`.
 fn mark_block(
-    targets: &[f64],
-    tolerances: &[f64],
-    configured: ConfiguredRoll,
-    panels: &[f64],
+    plan: &Plan,
     panel: Panel,
     units: &[[f64; 3]],
-    times: usize,
     from: usize,
     count: usize,
     rule: MarkRule,
     mask: &mut [u8],
 )
-    requires { (count_of targets.now * times ≤ length mask.old) × (from + count ≤ times) × (count ≤ length units.now) }
-    ensures { let rows : ℕ = count_of targets.now in
-        let cell : ℕ → ℕ → CellRoll = λ r j. roll_in (body_axes (row_direction targets.now r)) (get_or units.now (j - from) []) panel in
-        let tolerance : ℕ → Float = λ r. (row_config tolerances.now configured panels.now r).tolerance_deg in
-        let byte : ℕ → ℕ → ℕ = λ r j. flag (marked_by (cell r j) rule (tolerance r)) in
-        ColumnsWritten rows times rows from count byte 0 mask.old mask.new }
+    requires { let p : PlanOf = lent plan.now in
+        (cells_of p ≤ length mask.old) × (from + count ≤ times_of p) × (count ≤ length units.now) }
+    ensures { let p : PlanOf = lent plan.now in
+        let cell : ℕ → ℕ → CellRoll = λ r j. roll_in (body_axes (direction_of p r)) (get_or units.now (j - from) []) panel in
+        let byte : ℕ → ℕ → ℕ = λ r j. flag (marked_by (cell r j) rule (config_of p r).tolerance_deg) in
+        ColumnsWritten (rows_of p) (times_of p) (rows_of p) from count byte 0 mask.old mask.new }
 {
-    let rows = targets.len() / 3;
+    let rows = plan.targets.len() / 3;
+    let times = plan.suns.len() / 3;
     let mut row = 0;
     while row < rows {
-        let target = direction(targets, row);
-        let settings = row_config(tolerances, configured, panels, row);
+        let target = plan.direction(row);
+        let settings = plan.row_config(row);
         let start = row * times + from;
         mark_row(
             target,
@@ -237,168 +234,92 @@ fn mark_block(
 
 // Writes the byte of each cell: block by block of times, so that a Sun's unit is worked out once,
 // and in a block row by row, so that a target's axes are.
-fn mark(
-    targets: &[f64],
-    suns: &[f64],
-    observers: &[f64],
-    tolerances: &[f64],
-    configured: ConfiguredRoll,
-    panels: &[f64],
-    rule: MarkRule,
-    mask: &mut [u8],
-)
-    requires { let p : Plan = plan_of targets.now suns.now observers.now tolerances.now configured panels.now in
-        (cells_of p ≤ length mask.old) × (count_of suns.now ≤ most_times) }
-    ensures { let p : Plan = plan_of targets.now suns.now observers.now tolerances.now configured panels.now in
+fn mark(plan: &Plan, rule: MarkRule, mask: &mut [u8])
+    requires { let p : PlanOf = lent plan.now in
+        (cells_of p ≤ length mask.old) × (times_of p ≤ most_times) }
+    ensures { let p : PlanOf = lent plan.now in
         mask.new ≡ filled (cells_of p) (cell_mark p rule) mask.old }
 {
-    let times = suns.len() / 3;
+    let times = plan.suns.len() / 3;
     // The rows share their panel: it is worked out once.
-    let panel = panel_at(panels, 0);
+    let panel = plan.panel_at(0);
     let mut units = [[0.0; 3]; 2048];
     let mut from = 0;
     while from < times {
         let count = smaller(units.len(), times - from);
-        sun_units(suns, observers, from, &mut units);
-        mark_block(
-            targets, tolerances, configured, panels, panel, &units, times, from, count, rule, mask,
-        );
+        sun_units(plan.suns, plan.observers, from, &mut units);
+        mark_block(plan, panel, &units, from, count, rule, mask);
         from += count;
     }
 }
 
 // The refusal of a call that writes something of each cell: the plan's, or 7 for too little room.
+#[tactic(auto, unfolding(crate::specs::Mask::cells_refusal, crate::specs::Mask::cells_short, buffers::specs::Refusal::first, buffers::specs::Refusal::carried))]
 pub(crate) fn cells_refusal(
-    targets: &[f64],
-    suns: &[f64],
-    observers: &[f64],
-    tolerances: &[f64],
-    configured: ConfiguredRoll,
-    panels: &[f64],
-    said: u64,
+    plan: &Plan,
+    said: Result<(), Refusal>,
     room: usize,
-) -> u64
-    ensures { let p : Plan = plan_of targets.now suns.now observers.now tolerances.now configured panels.now in
-        result ≡ cells_refusal p said room }
+) -> Result<(), Refusal>
+    ensures { found result ≡ cells_refusal (lent plan.now) (found said) room }
 {
-    let refusal = plan_refusal(
-        targets, suns, observers, tolerances, configured, panels, said, false,
-    );
-    if refusal != 0 {
-        return refusal;
+    plan.refusal(said, false)?;
+    if room < plan.rows() * plan.times() {
+        Err(Refusal::OutputTooShort)
+    } else {
+        Ok(())
     }
-    let rows = targets.len() / 3;
-    let times = suns.len() / 3;
-    if room < rows * times { 7 } else { 0 }
+}
+
+// A call for a mask: its refusals, then the marks by a rule. `said` is said in the place of 3.
+fn mask_by(
+    plan: &Plan,
+    said: Result<(), Refusal>,
+    rule: MarkRule,
+    mask: &mut [u8],
+) -> Result<u64, Refusal>
+    ensures result_value { replied result ≡ cells_reply (lent plan.now) (found said) (length mask.old) }
+    ensures mask_after { mask.new ≡ mask_after (lent plan.now) (found said) (λ configured. rule) mask.old }
+{
+    cells_refusal(plan, said, mask.len())?;
+    mark(plan, rule, mask);
+    Ok(0)
 }
 
 // The mask at the configured roll; without one nothing is marked.
 // Refuses 1, 2, 4, 5, 20, 6, 17 of the plan, then 7 (specs/Mask, `cells_refusal`).
-pub fn in_constraint_batch(
-    targets: &[f64],
-    suns: &[f64],
-    observers: &[f64],
-    tolerances: &[f64],
-    configured: ConfiguredRoll,
-    panels: &[f64],
-    mask: &mut [u8],
-) -> Answer
-    ensures result_value { let p : Plan = plan_of targets.now suns.now observers.now tolerances.now configured panels.now in
-        reply_of result ≡ cells_reply p 0 (length mask.old) }
-    ensures mask_after { let p : Plan = plan_of targets.now suns.now observers.now tolerances.now configured panels.now in
-        mask.new ≡ mask_after p 0 at_configured mask.old }
+#[tactic(auto, unfolding(crate::specs::Mask::mask_after))]
+pub fn in_constraint_batch(plan: &Plan, mask: &mut [u8]) -> Result<u64, Refusal>
+    ensures result_value { replied result ≡ cells_reply (lent plan.now) 0 (length mask.old) }
+    ensures mask_after { mask.new ≡ mask_after (lent plan.now) 0 at_configured mask.old }
 {
-    let refusal = cells_refusal(
-        targets,
-        suns,
-        observers,
-        tolerances,
-        configured,
-        panels,
-        0,
-        mask.len(),
-    );
-    if refusal != 0 {
-        return Answer::Refused(refusal);
-    }
-    let rule = at_configured(configured);
-    mark(
-        targets, suns, observers, tolerances, configured, panels, rule, mask,
-    );
-    Answer::Accepted(0)
+    mask_by(plan, Ok(()), at_configured(plan.configured), mask)
 }
 
 // The mask at a roll.
 // Refuses 1, 2, 4, 5, 20, 6, 17 of the plan, then 7 (specs/Mask, `cells_refusal`).
+#[tactic(auto, unfolding(crate::specs::Mask::mask_after))]
 pub fn in_constraint_batch_at_roll(
-    targets: &[f64],
-    suns: &[f64],
-    observers: &[f64],
-    tolerances: &[f64],
-    configured: ConfiguredRoll,
-    panels: &[f64],
+    plan: &Plan,
     roll: EvaluationRoll,
     mask: &mut [u8],
-) -> Answer
-    ensures result_value { let p : Plan = plan_of targets.now suns.now observers.now tolerances.now configured panels.now in
-        reply_of result ≡ cells_reply p 0 (length mask.old) }
-    ensures mask_after { let p : Plan = plan_of targets.now suns.now observers.now tolerances.now configured panels.now in
-        mask.new ≡ mask_after p 0 (at_roll roll) mask.old }
+) -> Result<u64, Refusal>
+    ensures result_value { replied result ≡ cells_reply (lent plan.now) 0 (length mask.old) }
+    ensures mask_after { mask.new ≡ mask_after (lent plan.now) 0 (at_roll roll) mask.old }
 {
-    let refusal = cells_refusal(
-        targets,
-        suns,
-        observers,
-        tolerances,
-        configured,
-        panels,
-        0,
-        mask.len(),
-    );
-    if refusal != 0 {
-        return Answer::Refused(refusal);
-    }
-    let rule = at_roll(roll, configured);
-    mark(
-        targets, suns, observers, tolerances, configured, panels, rule, mask,
-    );
-    Answer::Accepted(0)
+    mask_by(plan, Ok(()), at_roll(roll, plan.configured), mask)
 }
 
 // The cells that every one of n even samples violates, by their distance from the nearest sample.
 // Refuses 1, 2, 3, 4, 5, 20, 6, 17 of the plan, then 7 (specs/Mask, `cells_refusal`).
+#[tactic(auto, unfolding(crate::specs::Mask::mask_after))]
 pub fn in_constraint_batch_constrained_at_every_roll(
-    targets: &[f64],
-    suns: &[f64],
-    observers: &[f64],
-    tolerances: &[f64],
-    configured: ConfiguredRoll,
-    panels: &[f64],
+    plan: &Plan,
     n: u64,
     mask: &mut [u8],
-) -> Answer
-    ensures result_value { let p : Plan = plan_of targets.now suns.now observers.now tolerances.now configured panels.now in
-        reply_of result ≡ cells_reply p (samples_or_none_refusal n) (length mask.old) }
-    ensures mask_after { let p : Plan = plan_of targets.now suns.now observers.now tolerances.now configured panels.now in
-        mask.new ≡ mask_after p (samples_or_none_refusal n) (at_every_roll n) mask.old }
+) -> Result<u64, Refusal>
+    ensures result_value { replied result ≡ cells_reply (lent plan.now) (samples_or_none_refusal n) (length mask.old) }
+    ensures mask_after { mask.new ≡ mask_after (lent plan.now) (samples_or_none_refusal n) (at_every_roll n) mask.old }
 {
-    let said = samples_or_none_refusal(n);
-    let refusal = cells_refusal(
-        targets,
-        suns,
-        observers,
-        tolerances,
-        configured,
-        panels,
-        said,
-        mask.len(),
-    );
-    if refusal != 0 {
-        return Answer::Refused(refusal);
-    }
-    let rule = at_every_roll(n, configured);
-    mark(
-        targets, suns, observers, tolerances, configured, panels, rule, mask,
-    );
-    Answer::Accepted(0)
+    let rule = at_every_roll(n, plan.configured);
+    mask_by(plan, samples_or_none_refusal(n), rule, mask)
 }

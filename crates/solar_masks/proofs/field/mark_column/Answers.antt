@@ -3,7 +3,7 @@ use Rattle.buffers.proofs.Lent.{filled_zero, length_filled, filled_next}
 use Rattle.buffers.specs.Lent.{filled}
 use Rattle.solar_masks.proofs.Shared.{mark_shared}
 use Rattle.solar_masks.specs.Mask.{marked_by, mark_at}
-use Rattle.solar_roll.specs.Plan.{Plan, plan_of, rows_of, sun_at}
+use Rattle.solar_roll.specs.Plan.{Plan, lent, rows_of, sun_at}
 use Rattle.solar_roll.specs.Roll.{sun_unit, body_axes, panel_of}
 use Rattle.solar_roll.proofs.Cells.{one_panel}
 use Rattle.buffers.specs.Ranges.{flag}
@@ -21,7 +21,7 @@ small s = omega arith
 
 -- the plan that the call was lent
 abbrev plan : At-loop-row → Plan
-plan o = let a = o.args in plan_of a.targets.now a.suns.now a.observers.now a.tolerances.now a.configured a.panels.now
+plan o = lent o.args.plan.now
 
 abbrev F : At-loop-row → ℕ → ℕ
 F o r = mark_at (plan o) o.args.rule r o.args.time

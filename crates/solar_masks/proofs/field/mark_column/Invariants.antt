@@ -1,12 +1,12 @@
 use Prim.Native.Nat.{◌-◌, ◌≤◌}
 use Rattle.buffers.specs.Lent.{filled}
 use Rattle.solar_masks.specs.Mask.{mark_at}
-use Rattle.solar_roll.specs.Plan.{plan_of}
+use Rattle.solar_roll.specs.Plan.{lent}
 use mathlib.Core.Path.{◌≡◌}
 use Rattle.solar_masks.proofs.field.mark_column.Given as goal
 
 abbrev pub invariant-loop-row : goal.invariant-loop-row
-invariant-loop-row l = (l.row ≤ l.rows) × (l.mask ≡ filled l.row (λ r. mark_at (plan_of l.targets l.suns l.observers l.tolerances l.configured l.panels) l.rule r l.time) l.initial.mask)
+invariant-loop-row l = (l.row ≤ l.rows) × (l.mask ≡ filled l.row (λ r. mark_at (lent l.plan) l.rule r l.time) l.initial.mask)
 
 abbrev pub decreases-loop-row : goal.decreases-loop-row
 decreases-loop-row l = l.rows - l.row

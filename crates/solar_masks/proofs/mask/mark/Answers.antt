@@ -7,7 +7,7 @@ use Rattle.solar_masks.proofs.Blocks.{Block, block_of, block_units}
 use Rattle.solar_masks.proofs.Shared.{mark_shared}
 use Rattle.solar_roll.specs.Cell.{roll_in}
 use Rattle.solar_masks.specs.Mask.{marked_by, mark_at, cell_mark}
-use Rattle.solar_roll.specs.Plan.{Plan, plan_of, rows_of, times_of, direction_of, config_of, sun_at}
+use Rattle.solar_roll.specs.Plan.{Plan, lent, rows_of, times_of, direction_of, config_of, sun_at}
 use Rattle.solar_roll.specs.Roll.{body_axes, panel_of}
 use Rattle.solar_roll.proofs.Cells.{one_panel}
 use borrow.Author.Rules.{rules}
@@ -22,21 +22,21 @@ use Rattle.solar_masks.proofs.mask.mark.Goals.{After-smaller-count, After-sun_un
 
 -- the plan that the call was lent
 abbrev plan : At-loop-from → Plan
-plan o = let a = o.args in plan_of a.targets.now a.suns.now a.observers.now a.tolerances.now a.configured a.panels.now
+plan o = lent o.args.plan.now
 
 abbrev F : At-loop-from → ℕ → ℕ → ℕ
 F o = mark_at (plan o) o.args.rule
 
 -- the block of times, and the table with its units
-block : (c : After-smaller-count) → Block c.loop-from.from (times_of ((let a = c.args in plan_of a.targets.now a.suns.now a.observers.now a.tolerances.now a.configured a.panels.now))) c.smaller-count.result
+block : (c : After-smaller-count) → Block c.loop-from.from (times_of (lent c.args.plan.now)) c.smaller-count.result
 block c = block_of _ _ _ c.loop-from-test.true c.smaller-count.ensures
 
 units_filled : (c : After-sun_units) →
-    (c.sun_units.new.units ≡ filled c.smaller-count.result (λ t. sun_at ((let a = c.args in plan_of a.targets.now a.suns.now a.observers.now a.tolerances.now a.configured a.panels.now)) (c.loop-from.from + t)) c.loop-from.units)
+    (c.sun_units.new.units ≡ filled c.smaller-count.result (λ t. sun_at (lent c.args.plan.now) (c.loop-from.from + t)) c.loop-from.units)
     × (c.smaller-count.result ≤ length c.sun_units.new.units)
 unfolding sun_at
 units_filled c =
-    block_units ((let a = c.args in plan_of a.targets.now a.suns.now a.observers.now a.tolerances.now a.configured a.panels.now)) c.loop-from.from _ c.loop-from.units _ c.loop-from.invariant.1 c.smaller-count.ensures c.sun_units.ensures
+    block_units (lent c.args.plan.now) c.loop-from.from _ c.loop-from.units _ c.loop-from.invariant.1 c.smaller-count.ensures c.sun_units.ensures
 
 pub loop-from-init : goal.loop-from-init
 loop-from-init c = (omega arith, refl, columns_zero _ _ _ _ _ _)

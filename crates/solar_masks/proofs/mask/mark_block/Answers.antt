@@ -5,7 +5,7 @@ use Rattle.buffers.specs.Ranges.{flag}
 use Rattle.buffers.specs.Rows.{ColumnsWritten}
 use Rattle.solar_roll.specs.Cell.{roll_in}
 use Rattle.solar_masks.specs.Mask.{marked_by}
-use Rattle.solar_roll.specs.Plan.{count, row_direction, row_config}
+use Rattle.solar_roll.specs.Plan.{lent, rows_of, times_of, direction_of, config_of}
 use Rattle.solar_roll.specs.Roll.{body_axes}
 use lib.ListN.{length-drop, length, get_or}
 use mathlib.Core.List.{List, []}
@@ -16,22 +16,22 @@ use Rattle.solar_masks.proofs.mask.mark_block.Goals as goal
 use Rattle.solar_masks.proofs.mask.mark_block.Goals.{At-loop-row, In-loop-row}
 
 abbrev rows : At-loop-row → ℕ
-rows o = count o.args.targets.now
+rows o = rows_of (lent o.args.plan.now)
 
 -- the byte of each row at each time
 abbrev F : At-loop-row → ℕ → ℕ → ℕ
 F o r j =
     let a = o.args in
-    flag (marked_by (roll_in (body_axes (row_direction a.targets.now r)) (get_or a.units.now (j - a.from) []) a.panel) a.rule (row_config a.tolerances.now a.configured a.panels.now r).tolerance_deg)
+    flag (marked_by (roll_in (body_axes (direction_of (lent a.plan.now) r)) (get_or a.units.now (j - a.from) []) a.panel) a.rule (config_of (lent a.plan.now) r).tolerance_deg)
 
-room : (o : At-loop-row) → rows o * o.args.times ≤ length o.loop-row.mask
+room : (o : At-loop-row) → rows o * times_of (lent o.args.plan.now) ≤ length o.loop-row.mask
 room o = omega (arith, o.loop-row.invariant.1.same, o.requires.0)
 
 -- the row's columns lie in the mask
-fits : (i : In-loop-row) → i.loop-row.row * i.args.times + i.args.from + i.args.count ≤ length i.loop-row.mask
+fits : (i : In-loop-row) → i.loop-row.row * times_of (lent i.args.plan.now) + i.args.from + i.args.count ≤ length i.loop-row.mask
 fits i =
     let a = i.args in
-    omega (arith, (let room : (count i.args.targets.now) * i.args.times ≤ length i.loop-row.mask = omega (arith, i.loop-row.invariant.1.same, i.requires.0) in room), mul-le-mul_right a.times i.loop-row-test.true, suc-mul i.loop-row.row a.times, i.requires.1)
+    omega (arith, (let room : rows_of (lent i.args.plan.now) * times_of (lent i.args.plan.now) ≤ length i.loop-row.mask = omega (arith, i.loop-row.invariant.1.same, i.requires.0) in room), mul-le-mul_right (times_of (lent a.plan.now)) i.loop-row-test.true, suc-mul i.loop-row.row (times_of (lent a.plan.now)), i.requires.1)
 
 pub loop-row-init : goal.loop-row-init
 loop-row-init c = (omega arith, columns_none _ _ _ _ _ _ _)
@@ -55,7 +55,7 @@ pub loop-row-preserved : goal.loop-row-preserved
 loop-row-preserved c = let a = c.args in
     let r = c.loop-row.row in
     let m = c.loop-row.mask in
-    let start = r * a.times + a.from in
+    let start = r * (times_of (lent a.plan.now)) + a.from in
     let axes = body_axes c.direction-target.result in
     let tolerance = c.row_config-settings.result.tolerance_deg in
     let g : ℕ → ℕ = λ t. flag (marked_by (roll_in axes (get_or a.units.now t []) a.panel) a.rule tolerance) in
@@ -64,8 +64,8 @@ loop-row-preserved c = let a = c.args in
     simp (c.direction-target.ensures, c.row_config-settings.ensures, q) in
     let w = filled_part g start a.count m c.mark_row.new.mask c.mark_row.ensures in (
       omega arith,
-      subst (λ (l : List ℕ). ColumnsWritten (rows (goal.at.loop-row-preserved c).At-loop-row) a.times (r + 1) a.from a.count (F (goal.at.loop-row-preserved c).At-loop-row) 0 a.mask.now l) (sym w)
-          (columns_row (rows (goal.at.loop-row-preserved c).At-loop-row) a.times a.from a.count (F (goal.at.loop-row-preserved c).At-loop-row) 0 r g m c.loop-row-test.true c.requires.1 (room (goal.at.loop-row-preserved c).At-loop-row) a.mask.now e c.loop-row.invariant.1),
+      subst (λ (l : List ℕ). ColumnsWritten (rows (goal.at.loop-row-preserved c).At-loop-row) (times_of (lent a.plan.now)) (r + 1) a.from a.count (F (goal.at.loop-row-preserved c).At-loop-row) 0 a.mask.now l) (sym w)
+          (columns_row (rows (goal.at.loop-row-preserved c).At-loop-row) (times_of (lent a.plan.now)) a.from a.count (F (goal.at.loop-row-preserved c).At-loop-row) 0 r g m c.loop-row-test.true c.requires.1 (room (goal.at.loop-row-preserved c).At-loop-row) a.mask.now e c.loop-row.invariant.1),
     )
 
 pub shape_of-mask : goal.shape_of-mask
@@ -74,4 +74,4 @@ shape_of-mask c = c.loop-row.invariant.1.same
 pub returns : goal.returns
 returns c = let a = c.args in
     let e : c.loop-row.row ≡ rows (goal.at.returns c).At-loop-row = omega arith in
-    subst (λ (n : ℕ). ColumnsWritten (rows (goal.at.returns c).At-loop-row) a.times n a.from a.count (F (goal.at.returns c).At-loop-row) 0 a.mask.now c.loop-row.mask) e c.loop-row.invariant.1
+    subst (λ (n : ℕ). ColumnsWritten (rows (goal.at.returns c).At-loop-row) (times_of (lent a.plan.now)) n a.from a.count (F (goal.at.returns c).At-loop-row) 0 a.mask.now c.loop-row.mask) e c.loop-row.invariant.1

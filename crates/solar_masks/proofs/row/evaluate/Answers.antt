@@ -1,35 +1,22 @@
-use Rattle.buffers.proofs.Refusals.{refused_leaves, accepted_leaves}
+use Rattle.buffers.proofs.Refusals.{err_replied, err_unless, ok_replied, ok_unless}
 use Rattle.solar_masks.proofs.Calls.{row_room}
-use Rattle.solar_roll.specs.Plan.{Plan, plan_of}
 use Rattle.solar_masks.specs.Row.{row_reply, row_mask_after, severities_after}
-use mathlib.Core.Path.{refl, sym, ◌∙◌}
+use borrow.Author.Rules.{rules}
+use Rattle.std.specs.Prelude.{Err}
+use mathlib.Core.Path.{◌≡◌, refl, sym}
 use Rattle.solar_masks.proofs.row.evaluate.Goals as goal
-use Rattle.solar_masks.proofs.row.evaluate.Goals.{After-row_refusal-refusal}
 
--- the plan that the call was lent
-abbrev plan : After-row_refusal-refusal → Plan
-plan c = let a = c.args in plan_of a.targets.now a.suns.now a.observers.now a.tolerances.now a.configured a.panels.now
-
-pub returns-then-refusal-ne0 : goal.returns-then-refusal-ne0
+pub returns-in_err-row_refusal : goal.returns-in_err-row_refusal
 unfolding row_reply row_mask_after severities_after
-returns-then-refusal-ne0 c = let k = c.row_refusal-refusal.result in
-    let e = c.row_refusal-refusal.ensures in
-    record {
-      result_value = (refused_leaves k _ 0 k k e c.if-refusal-ne0.true).0;
-      mask_after = (refused_leaves k _ 0 _ _ e c.if-refusal-ne0.true).1;
-      severities_after = (refused_leaves k _ 0 _ _ e c.if-refusal-ne0.true).1;
-    }
+returns-in_err-row_refusal c = let e = c.in_err-row_refusal.ensures in
+    let is : c.from_residual.result ≡ Err c.in_err-row_refusal.field-0.0 = search rules in
+    record { result_value = rw is (err_replied _ _ _ e); mask_after = err_unless _ _ _ _ e; severities_after = err_unless _ _ _ _ e }
 
 pub fill_row-requires : goal.fill_row-requires
-fill_row-requires c = row_room (plan (goal.at.fill_row-requires c).After-row_refusal-refusal) _ _ _ (sym c.row_refusal-refusal.ensures ∙ c.if-refusal-ne0.false)
+fill_row-requires c = row_room _ _ _ _ (sym c.in_ok-row_refusal.ensures)
 
 pub returns : goal.returns
 unfolding row_reply row_mask_after severities_after
-returns c = let k = c.row_refusal-refusal.result in
-    let e = c.row_refusal-refusal.ensures in
+returns c = let e = c.in_ok-row_refusal.ensures in
     let w = c.fill_row.ensures in
-    record {
-      result_value = (accepted_leaves k _ 0 k k k e c.if-refusal-ne0.false refl).0;
-      mask_after = (accepted_leaves k _ 0 _ _ _ e c.if-refusal-ne0.false w.mask_after).1;
-      severities_after = (accepted_leaves k _ 0 _ _ _ e c.if-refusal-ne0.false w.severities_after).1;
-    }
+    record { result_value = ok_replied _ _ _ e refl; mask_after = ok_unless _ _ _ _ e w.mask_after; severities_after = ok_unless _ _ _ _ e w.severities_after }

@@ -5,7 +5,7 @@ use Rattle.buffers.specs.Ranges.{flag}
 use Rattle.solar_masks.proofs.Shared.{mark_shared, severity_shared}
 use Rattle.solar_roll.specs.Cell.{roll_in}
 use Rattle.solar_masks.specs.Mask.{marked_by, at_configured, mark_at}
-use Rattle.solar_roll.specs.Plan.{Plan, plan_of, triple, times_of, sun_at}
+use Rattle.solar_roll.specs.Plan.{Plan, lent, triple, times_of, sun_at}
 use Rattle.solar_roll.specs.Roll.{sun_unit, body_axes}
 use Rattle.solar_masks.specs.Row.{severity, severity_at}
 use Rattle.solar_roll.specs.Vectors.{Vector}
@@ -24,20 +24,20 @@ small s = omega arith
 
 -- the plan that the call was lent
 abbrev plan : At-loop-j → Plan
-plan o = let a = o.args in plan_of a.targets.now a.suns.now a.observers.now a.tolerances.now a.configured a.panels.now
+plan o = lent o.args.plan.now
 
 abbrev cell : At-loop-j → ℕ → CellRoll
-cell o t = let a = o.args in roll_in o.body_axes-axes.result (sun_unit (triple a.suns.now t) (triple a.observers.now t)) o.panel_at-panel.result
+cell o t = let a = o.args in roll_in o.body_axes-axes.result (sun_unit (triple a.plan.now.suns.now t) (triple a.plan.now.observers.now t)) o.panel_at-panel.result
 
 abbrev tolerance : At-loop-j → Float
 tolerance o = o.row_config-settings.result.tolerance_deg
 
 -- the byte and the severity of each time
 abbrev M : At-loop-j → ℕ → ℕ
-M o t = flag (marked_by (cell o t) (at_configured o.args.configured) (tolerance o))
+M o t = flag (marked_by (cell o t) (at_configured o.args.plan.now.configured) (tolerance o))
 
 abbrev S : At-loop-j → ℕ → Float
-S o t = severity (cell o t) o.args.configured (tolerance o)
+S o t = severity (cell o t) o.args.plan.now.configured (tolerance o)
 
 kept : (o : At-loop-j) → length o.loop-j.mask ≡ length o.args.mask.now
 kept o = ap length o.loop-j.invariant.1 ∙ length_filled (M o) o.loop-j.j o.args.mask.now (omega (arith, o.requires.0))
@@ -65,8 +65,8 @@ loop-j-preserved c = let a = c.args in
     let j = c.loop-j.j in
     let unit = c.sun_unit-unit.ensures ∙ ap₂ sun_unit c.triple.ensures c.triple-in-loop-j.ensures in
     let cells = ap (λ (u : Vector). roll_in c.body_axes-axes.result u c.panel_at-panel.result) unit in
-    let v = c.evaluate_cell-cell.ensures.0 ∙ ap (λ (d : CellRoll). flag (marked_by d (at_configured a.configured) (tolerance (goal.at.loop-j-preserved c).At-loop-j))) cells in
-    let w = c.evaluate_cell-cell.ensures.1 ∙ ap (λ (d : CellRoll). severity d a.configured (tolerance (goal.at.loop-j-preserved c).At-loop-j)) cells in
+    let v = c.evaluate_cell-cell.ensures.0 ∙ ap (λ (d : CellRoll). flag (marked_by d (at_configured a.plan.now.configured) (tolerance (goal.at.loop-j-preserved c).At-loop-j))) cells in
+    let w = c.evaluate_cell-cell.ensures.1 ∙ ap (λ (d : CellRoll). severity d a.plan.now.configured (tolerance (goal.at.loop-j-preserved c).At-loop-j)) cells in
     let h : j < length a.mask.now = omega (arith, c.requires.0) in
     let g : j < length a.severities.now = omega (arith, c.requires.1) in (
       omega arith,

@@ -10,7 +10,7 @@ use mathlib.Core.Path.{◌≡◌}
 use Rattle.solar_masks.proofs.row.fill_row.Given as goal
 
 abbrev pub invariant-loop-j : goal.invariant-loop-j
-invariant-loop-j l = (l.j ≤ l.times) × (l.mask ≡ filled l.j (λ t. flag (marked_by (roll_in l.axes (sun_unit (triple l.suns t) (triple l.observers t)) l.panel) (at_configured l.configured) l.tolerance)) l.initial.mask) × (l.severities ≡ filled l.j (λ t. severity (roll_in l.axes (sun_unit (triple l.suns t) (triple l.observers t)) l.panel) l.configured l.tolerance) l.initial.severities)
+invariant-loop-j l = (l.j ≤ l.times) × (l.mask ≡ filled l.j (λ t. flag (marked_by (roll_in l.axes (sun_unit (triple l.plan.suns.now t) (triple l.plan.observers.now t)) l.panel) (at_configured l.plan.configured) l.tolerance)) l.initial.mask) × (l.severities ≡ filled l.j (λ t. severity (roll_in l.axes (sun_unit (triple l.plan.suns.now t) (triple l.plan.observers.now t)) l.panel) l.plan.configured l.tolerance) l.initial.severities)
 
 abbrev pub decreases-loop-j : goal.decreases-loop-j
 decreases-loop-j l = l.times - l.j

@@ -3,7 +3,7 @@ use Rattle.buffers.proofs.Lent.{filled_part, part_lent}
 use Rattle.buffers.proofs.Rows.{columns_none, columns_row}
 use Rattle.buffers.specs.Rows.{ColumnsWritten}
 use Rattle.float.specs.Arithmetic.{zero·0}
-use Rattle.solar_roll.specs.Plan.{count, row_direction}
+use Rattle.solar_roll.specs.Plan.{lent, rows_of, times_of, direction_of}
 use Rattle.solar_roll.specs.Roll.{body_axes, roll_deg_in}
 use lib.Ieee.{Float}
 use lib.ListN.{length-drop, length, get_or}
@@ -15,20 +15,20 @@ use Rattle.solar_masks.proofs.values.value_block.Goals as goal
 use Rattle.solar_masks.proofs.values.value_block.Goals.{At-loop-row, In-loop-row}
 
 abbrev rows : At-loop-row → ℕ
-rows o = count o.args.targets.now
+rows o = rows_of (lent o.args.plan.now)
 
 -- the roll of each row at each time
 abbrev F : At-loop-row → ℕ → ℕ → Float
-F o r j = let a = o.args in roll_deg_in (body_axes (row_direction a.targets.now r)) (get_or a.units.now (j - a.from) []) a.panel_angle
+F o r j = let a = o.args in roll_deg_in (body_axes (direction_of (lent a.plan.now) r)) (get_or a.units.now (j - a.from) []) a.panel_angle
 
-room : (o : At-loop-row) → rows o * o.args.times ≤ length o.loop-row.values
+room : (o : At-loop-row) → rows o * times_of (lent o.args.plan.now) ≤ length o.loop-row.values
 room o = omega (arith, o.loop-row.invariant.1.same, o.requires.0)
 
 -- the row's columns lie in the list
-fits : (i : In-loop-row) → i.loop-row.row * i.args.times + i.args.from + i.args.count ≤ length i.loop-row.values
+fits : (i : In-loop-row) → i.loop-row.row * times_of (lent i.args.plan.now) + i.args.from + i.args.count ≤ length i.loop-row.values
 fits i =
     let a = i.args in
-    omega (arith, (let room : (count i.args.targets.now) * i.args.times ≤ length i.loop-row.values = omega (arith, i.loop-row.invariant.1.same, i.requires.0) in room), mul-le-mul_right a.times i.loop-row-test.true, suc-mul i.loop-row.row a.times, i.requires.1)
+    omega (arith, (let room : rows_of (lent i.args.plan.now) * times_of (lent i.args.plan.now) ≤ length i.loop-row.values = omega (arith, i.loop-row.invariant.1.same, i.requires.0) in room), mul-le-mul_right (times_of (lent a.plan.now)) i.loop-row-test.true, suc-mul i.loop-row.row (times_of (lent a.plan.now)), i.requires.1)
 
 pub loop-row-init : goal.loop-row-init
 loop-row-init c = (omega arith, columns_none _ _ _ _ _ _ _)
@@ -55,7 +55,7 @@ pub loop-row-preserved : goal.loop-row-preserved
 loop-row-preserved c = let a = c.args in
     let r = c.loop-row.row in
     let m = c.loop-row.values in
-    let start = r * a.times + a.from in
+    let start = r * (times_of (lent a.plan.now)) + a.from in
     let axes = body_axes c.direction-target.result in
     let g : ℕ → Float = λ t. roll_deg_in axes (get_or a.units.now t []) a.panel_angle in
     let e : (t : ℕ) → t < a.count → g t ≡ F (goal.at.loop-row-preserved c).At-loop-row r (a.from + t) =
@@ -63,8 +63,8 @@ loop-row-preserved c = let a = c.args in
     simp (c.direction-target.ensures, q) in
     let w = filled_part g start a.count m c.value_row.new.values c.value_row.ensures in (
       omega arith,
-      subst (λ (l : List Float). ColumnsWritten (rows (goal.at.loop-row-preserved c).At-loop-row) a.times (r + 1) a.from a.count (F (goal.at.loop-row-preserved c).At-loop-row) zero·0 a.values.now l) (sym w)
-          (columns_row (rows (goal.at.loop-row-preserved c).At-loop-row) a.times a.from a.count (F (goal.at.loop-row-preserved c).At-loop-row) zero·0 r g m c.loop-row-test.true c.requires.1 (room (goal.at.loop-row-preserved c).At-loop-row) a.values.now e c.loop-row.invariant.1),
+      subst (λ (l : List Float). ColumnsWritten (rows (goal.at.loop-row-preserved c).At-loop-row) (times_of (lent a.plan.now)) (r + 1) a.from a.count (F (goal.at.loop-row-preserved c).At-loop-row) zero·0 a.values.now l) (sym w)
+          (columns_row (rows (goal.at.loop-row-preserved c).At-loop-row) (times_of (lent a.plan.now)) a.from a.count (F (goal.at.loop-row-preserved c).At-loop-row) zero·0 r g m c.loop-row-test.true c.requires.1 (room (goal.at.loop-row-preserved c).At-loop-row) a.values.now e c.loop-row.invariant.1),
     )
 
 pub shape_of-values : goal.shape_of-values
@@ -73,4 +73,4 @@ shape_of-values c = c.loop-row.invariant.1.same
 pub returns : goal.returns
 returns c = let a = c.args in
     let e : c.loop-row.row ≡ rows (goal.at.returns c).At-loop-row = omega arith in
-    subst (λ (n : ℕ). ColumnsWritten (rows (goal.at.returns c).At-loop-row) a.times n a.from a.count (F (goal.at.returns c).At-loop-row) zero·0 a.values.now c.loop-row.values) e c.loop-row.invariant.1
+    subst (λ (n : ℕ). ColumnsWritten (rows (goal.at.returns c).At-loop-row) (times_of (lent a.plan.now)) n a.from a.count (F (goal.at.returns c).At-loop-row) zero·0 a.values.now c.loop-row.values) e c.loop-row.invariant.1

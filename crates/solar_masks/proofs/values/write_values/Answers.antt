@@ -6,7 +6,7 @@ use Rattle.float.specs.Arithmetic.{zero·0}
 use Rattle.solar_masks.proofs.Blocks.{Block, block_of, block_units}
 use Rattle.solar_masks.proofs.Shared.{value_shared}
 use Rattle.solar_masks.specs.Mask.{cell_value}
-use Rattle.solar_roll.specs.Plan.{Plan, plan_of, triple, rows_of, times_of, direction_of, sun_at, optimal_at}
+use Rattle.solar_roll.specs.Plan.{Plan, lent, triple, rows_of, times_of, direction_of, sun_at, optimal_at}
 use Rattle.solar_roll.specs.Roll.{sun_unit, body_axes, roll_deg_in, panel_of}
 use Rattle.solar_roll.proofs.Cells.{one_panel}
 use Rattle.solar_roll.specs.Vectors.{Vector}
@@ -22,21 +22,21 @@ use Rattle.solar_masks.proofs.values.write_values.Goals.{After-smaller-count, Af
 
 -- the plan that the call was lent
 abbrev plan : At-loop-from → Plan
-plan o = let a = o.args in plan_of a.targets.now a.suns.now a.observers.now a.tolerances.now a.configured a.panels.now
+plan o = lent o.args.plan.now
 
 abbrev F : At-loop-from → ℕ → ℕ → Float
 F o r j = roll_deg_in (body_axes (direction_of (plan o) r)) (sun_unit (triple (plan o).suns j) (triple (plan o).observers j)) o.panel_at-panel.result.angle
 
 -- the block of times, and the table with its units
-block : (c : After-smaller-count) → Block c.loop-from.from (times_of ((let a = c.args in plan_of a.targets.now a.suns.now a.observers.now a.tolerances.now a.configured a.panels.now))) c.smaller-count.result
+block : (c : After-smaller-count) → Block c.loop-from.from (times_of (lent c.args.plan.now)) c.smaller-count.result
 block c = block_of _ _ _ c.loop-from-test.true c.smaller-count.ensures
 
 units_filled : (c : After-sun_units) →
-    (c.sun_units.new.units ≡ filled c.smaller-count.result (λ t. sun_at ((let a = c.args in plan_of a.targets.now a.suns.now a.observers.now a.tolerances.now a.configured a.panels.now)) (c.loop-from.from + t)) c.loop-from.units)
+    (c.sun_units.new.units ≡ filled c.smaller-count.result (λ t. sun_at (lent c.args.plan.now) (c.loop-from.from + t)) c.loop-from.units)
     × (c.smaller-count.result ≤ length c.sun_units.new.units)
 unfolding sun_at
 units_filled c =
-    block_units ((let a = c.args in plan_of a.targets.now a.suns.now a.observers.now a.tolerances.now a.configured a.panels.now)) c.loop-from.from _ c.loop-from.units _ c.loop-from.invariant.1 c.smaller-count.ensures c.sun_units.ensures
+    block_units (lent c.args.plan.now) c.loop-from.from _ c.loop-from.units _ c.loop-from.invariant.1 c.smaller-count.ensures c.sun_units.ensures
 
 pub loop-from-init : goal.loop-from-init
 loop-from-init c = (omega arith, refl, columns_zero _ _ _ _ _ _)
