@@ -2,6 +2,7 @@
 // severities, and the field of regard. Each answers with a `Result` whose error is `buffers::Refusal`.
 #![tactic(auto)]
 
+mod cells;
 mod field;
 mod mask;
 mod row;

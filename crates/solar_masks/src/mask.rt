@@ -10,7 +10,8 @@ ghost use Rattle.solar_roll.specs.declared.cell.CellRoll.{CellRoll};
 ghost use Rattle.solar_roll.specs.Plan.{Plan as PlanOf, lent, rows_of, times_of, direction_of, config_of, cells_of, most_times, samples_or_none_refusal};
 ghost use Rattle.solar_masks.specs.Mask.{step_distance, misses_steps, marked_by, at_roll, at_configured, at_every_roll, cell_mark, cells_refusal, cells_reply, mask_after};
 
-use buffers::{Refusal, smaller};
+use crate::cells::{Cells, write_cells};
+use buffers::Refusal;
 use float::rem_euclid;
 use solar_roll::{
     CellRoll, EvaluationRoll, Panel, Plan, body_axes, free_or_at, in_force, rolls_deg_in,
@@ -55,21 +56,22 @@ fn misses_steps(cell: CellRoll, step: f64, tolerance_deg: f64) -> bool
     }
 }
 
-pub(crate) fn byte(b: bool) -> u8
-    ensures { result ≡ flag b }
+// Whether a rule marks a cell.
+#[tactic(auto, unfolding(crate::specs::Mask::marked_by))]
+fn marked(cell: CellRoll, rule: MarkRule, tolerance_deg: f64) -> bool
+    ensures { result ≡ marked_by cell rule tolerance_deg }
 {
-    if b { 1 } else { 0 }
+    match rule {
+        MarkRule::AtRoll(roll) => violated(cell, roll, tolerance_deg),
+        MarkRule::EveryStep(step) => misses_steps(cell, step, tolerance_deg),
+        MarkRule::Nothing => false,
+    }
 }
 
-// The byte of a cell by a rule.
 pub(crate) fn mark_byte(cell: CellRoll, rule: MarkRule, tolerance_deg: f64) -> u8
     ensures { result ≡ flag (marked_by cell rule tolerance_deg) }
 {
-    match rule {
-        MarkRule::AtRoll(roll) => byte(violated(cell, roll, tolerance_deg)),
-        MarkRule::EveryStep(step) => byte(misses_steps(cell, step, tolerance_deg)),
-        MarkRule::Nothing => 0,
-    }
+    u8::from(marked(cell, rule, tolerance_deg))
 }
 
 // A configured roll overrides Sweep, never Fixed.
@@ -105,151 +107,36 @@ pub(crate) fn at_every_roll(n: u64, configured: Option<f64>) -> MarkRule
     }
 }
 
-// Writes the bytes of at most 64 cells of a row, a cell for each of the Sun's units, from their rolls, side by side.
-fn mark_cells(
-    axes: [[f64; 3]; 3],
-    units: &[[f64; 3]],
-    panel: Panel,
+// The byte of a cell by a rule, on a panel.
+#[derive(Clone, Copy)]
+struct Marks {
     rule: MarkRule,
-    tolerance_deg: f64,
-    mask: &mut [u8],
-)
-    requires { (length units.now ≤ 64) × (length units.now ≤ length mask.old) }
-    ensures { let cell : ℕ → CellRoll = λ k. roll_in axes (get_or units.now k []) panel in
-        mask.new ≡ filled (length units.now) (λ k. flag (marked_by (cell k) rule tolerance_deg)) mask.old }
-{
-    let mut rolls = [0.0; 64];
-    rolls_deg_in(axes, units, panel.angle, &mut rolls);
-    let mut k = 0;
-    while k < units.len() {
-        let unit = units[k];
-        let roll = rolls[k];
-        let cell = free_or_at(axes, unit, panel, roll);
-        mask[k] = mark_byte(cell, rule, tolerance_deg);
-        k += 1;
-    }
-}
-
-// Writes the bytes of `count` cells of a row, whose Sun units lie in `units`.
-fn mark_tiles(
-    axes: [[f64; 3]; 3],
-    tolerance_deg: f64,
     panel: Panel,
-    units: &[[f64; 3]],
-    count: usize,
-    rule: MarkRule,
-    mask: &mut [u8],
-)
-    requires { (count ≤ length units.now) × (count ≤ length mask.old) }
-    ensures { let cell : ℕ → CellRoll = λ j. roll_in axes (get_or units.now j []) panel in
-        mask.new ≡ filled count (λ j. flag (marked_by (cell j) rule tolerance_deg)) mask.old }
-{
-    let mut from = 0;
-    while from < count {
-        let to = from + smaller(64, count - from);
-        mark_cells(
-            axes,
-            &units[from..to],
-            panel,
-            rule,
-            tolerance_deg,
-            &mut mask[from..],
-        );
-        from = to;
-    }
 }
 
-// Marks none of `count` cells.
-fn clear_cells(count: usize, mask: &mut [u8])
-    requires { count ≤ length mask.old }
-    ensures { mask.new ≡ filled count (λ j. 0) mask.old }
-{
-    let mut j = 0;
-    while j < count {
-        mask[j] = 0;
-        j += 1;
-    }
-}
+impl Cells for Marks {
+    type Number = u8;
 
-// Writes the bytes of `count` cells of a row, whose Sun units lie in `units`. Where nothing is marked, no roll is
-// worked out.
-fn mark_row(
-    target: [f64; 3],
-    tolerance_deg: f64,
-    panel: Panel,
-    units: &[[f64; 3]],
-    count: usize,
-    rule: MarkRule,
-    mask: &mut [u8],
-)
-    requires { (count ≤ length units.now) × (count ≤ length mask.old) }
-    ensures { let cell : ℕ → CellRoll = λ j. roll_in (body_axes target) (get_or units.now j []) panel in
-        mask.new ≡ filled count (λ j. flag (marked_by (cell j) rule tolerance_deg)) mask.old }
-{
-    let axes = body_axes(target);
-    match rule {
-        MarkRule::AtRoll(_) => mark_tiles(axes, tolerance_deg, panel, units, count, rule, mask),
-        MarkRule::EveryStep(_) => mark_tiles(axes, tolerance_deg, panel, units, count, rule, mask),
-        MarkRule::Nothing => clear_cells(count, mask),
-    }
-}
+    ghost number = { λ s axes tolerance unit. flag (marked_by (roll_in axes unit s.panel) s.rule tolerance) };
 
-// Writes the bytes of every row at `count` times from the time `from` on, whose Sun units lie in
-// `units`.
-fn mark_block(
-    plan: &Plan,
-    panel: Panel,
-    units: &[[f64; 3]],
-    from: usize,
-    count: usize,
-    rule: MarkRule,
-    mask: &mut [u8],
-)
-    requires { let p : PlanOf = lent plan.now in
-        (cells_of p ≤ length mask.old) × (from + count ≤ times_of p) × (count ≤ length units.now) }
-    ensures { let p : PlanOf = lent plan.now in
-        let cell : ℕ → ℕ → CellRoll = λ r j. roll_in (body_axes (direction_of p r)) (get_or units.now (j - from) []) panel in
-        let byte : ℕ → ℕ → ℕ = λ r j. flag (marked_by (cell r j) rule (config_of p r).tolerance_deg) in
-        ColumnsWritten (rows_of p) (times_of p) (rows_of p) from count byte 0 mask.old mask.new }
-{
-    let rows = plan.targets.len() / 3;
-    let times = plan.suns.len() / 3;
-    let mut row = 0;
-    while row < rows {
-        let target = plan.direction(row);
-        let settings = plan.row_config(row);
-        let start = row * times + from;
-        mark_row(
-            target,
-            settings.tolerance_deg,
-            panel,
-            units,
-            count,
-            rule,
-            &mut mask[start..],
-        );
-        row += 1;
-    }
-}
-
-// Writes the byte of each cell: block by block of times, so that a Sun's unit is worked out once,
-// and in a block row by row, so that a target's axes are.
-fn mark(plan: &Plan, rule: MarkRule, mask: &mut [u8])
-    requires { let p : PlanOf = lent plan.now in
-        (cells_of p ≤ length mask.old) × (times_of p ≤ most_times) }
-    ensures { let p : PlanOf = lent plan.now in
-        mask.new ≡ filled (cells_of p) (cell_mark p rule) mask.old }
-{
-    let times = plan.suns.len() / 3;
-    // The rows share their panel: it is worked out once.
-    let panel = plan.panel_at(0);
-    let mut units = [[0.0; 3]; 2048];
-    let mut from = 0;
-    while from < times {
-        let count = smaller(units.len(), times - from);
-        sun_units(plan.suns, plan.observers, from, &mut units);
-        mark_block(plan, panel, &units, from, count, rule, mask);
-        from += count;
+    // Where nothing is marked, no roll is worked out.
+    fn write(
+        &self,
+        axes: [[f64; 3]; 3],
+        tolerance_deg: f64,
+        units: &[[f64; 3]],
+        numbers: &mut [u8],
+    ) {
+        if let MarkRule::Nothing = self.rule {
+            numbers[..units.len()].fill(0);
+            return;
+        }
+        let mut rolls = [0.0; 64];
+        rolls_deg_in(axes, units, self.panel.angle, &mut rolls);
+        for k in 0..units.len() {
+            let cell = free_or_at(axes, units[k], self.panel, rolls[k]);
+            numbers[k] = mark_byte(cell, self.rule, tolerance_deg);
+        }
     }
 }
 
@@ -281,7 +168,9 @@ fn mask_by(
     ensures mask_after { mask.new ≡ mask_after (lent plan.now) (found said) (λ configured. rule) mask.old }
 {
     cells_refusal(plan, said, mask.len())?;
-    mark(plan, rule, mask);
+    // The rows share their panel: it is worked out once.
+    let panel = plan.panel_at(0);
+    write_cells(plan, &Marks { rule, panel }, mask);
     Ok(0)
 }
 

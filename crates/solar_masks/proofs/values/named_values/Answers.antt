@@ -1,5 +1,6 @@
 use Rattle.buffers.proofs.Refusals.{err_replied, err_unless, ok_replied, ok_unless, reply_accepted}
 use Rattle.solar_masks.proofs.Calls.{cells_facts, cells_room}
+use Rattle.solar_masks.proofs.Shared.{values_shared}
 use Rattle.solar_masks.proofs.NamedValues.{values_in_turn}
 use Rattle.solar_masks.specs.Mask.{ValuesInTurn, cells_reply, values_after}
 use Rattle.solar_roll.specs.Plan.{Plan, lent}
@@ -27,12 +28,13 @@ returns-in_err-cells_refusal c = let e = c.in_err-cells_refusal.ensures in
     let w = err_unless _ _ _ _ e in
     record { result_value = r; values_after = w; in_turn = promised _ _ _ _ r w }
 
-pub write_values-requires : goal.write_values-requires
-write_values-requires c = let z = sym c.in_ok-cells_refusal.ensures in (cells_room _ _ _ z, (cells_facts _ _ _ z).few_times)
+pub write_cells-requires : goal.write_cells-requires
+write_cells-requires c = let z = sym c.in_ok-cells_refusal.ensures in (cells_room _ _ _ z, (cells_facts _ _ _ z).few_times)
 
 pub returns : goal.returns
 unfolding cells_reply values_after
-returns c = let e = c.in_ok-cells_refusal.ensures in
+returns c = let p = lent c.args.plan.now in
+    let e = c.in_ok-cells_refusal.ensures in
     let r = ok_replied _ _ _ e refl in
-    let w = ok_unless _ _ _ _ e c.write_values.ensures in
+    let w = ok_unless _ _ _ _ e (c.write_cells.ensures ∙ values_shared p c.panel_at-panel_angle.result c.panel_at-panel_angle.ensures c.args.values.now) in
     record { result_value = r; values_after = w; in_turn = promised _ _ _ _ r w }
