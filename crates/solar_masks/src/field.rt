@@ -23,14 +23,9 @@ fn mark_column(plan: &Plan, time: usize, rule: MarkRule, mask: &mut [u8])
     // The rows share their panel: it is worked out once.
     let panel = plan.panel_at(0);
     let unit = sun_unit(triple(plan.suns, time), triple(plan.observers, time));
-    let rows = plan.targets.len() / 3;
-    let mut row = 0;
-    while row < rows {
-        let axes = body_axes(plan.direction(row));
-        let settings = plan.row_config(row);
-        let cell = roll_in(axes, unit, panel);
-        mask[row] = mark_byte(cell, rule, settings.tolerance_deg);
-        row += 1;
+    for row in 0..plan.rows() {
+        let cell = roll_in(body_axes(plan.direction(row)), unit, panel);
+        mask[row] = mark_byte(cell, rule, plan.row_config(row).tolerance_deg);
     }
 }
 

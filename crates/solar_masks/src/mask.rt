@@ -37,6 +37,7 @@ fn sample_step(n: u64) -> f64
 }
 
 // How far a roll is from the nearest multiple of a step.
+#[tactic(auto, unfolding(crate::specs::Mask::step_distance))]
 fn step_distance(roll_deg: f64, step: f64) -> f64
     ensures { result ≡ step_distance roll_deg step }
 {
@@ -46,6 +47,7 @@ fn step_distance(roll_deg: f64, step: f64) -> f64
 }
 
 // Whether every multiple of a step violates the cell.
+#[tactic(auto, unfolding(crate::specs::Mask::misses_steps))]
 fn misses_steps(cell: CellRoll, step: f64, tolerance_deg: f64) -> bool
     ensures { result ≡ misses_steps cell step tolerance_deg }
 {
@@ -75,6 +77,7 @@ pub(crate) fn mark_byte(cell: CellRoll, rule: MarkRule, tolerance_deg: f64) -> u
 }
 
 // A configured roll overrides Sweep, never Fixed.
+#[tactic(auto, unfolding(crate::specs::Mask::at_roll))]
 pub(crate) fn at_roll(roll: EvaluationRoll, configured: Option<f64>) -> MarkRule
     ensures { result ≡ at_roll roll configured }
 {
@@ -82,28 +85,24 @@ pub(crate) fn at_roll(roll: EvaluationRoll, configured: Option<f64>) -> MarkRule
 }
 
 // Without a configured roll nothing is marked.
+#[tactic(auto, unfolding(crate::specs::Mask::at_configured))]
 pub(crate) fn at_configured(configured: Option<f64>) -> MarkRule
     ensures { result ≡ at_configured configured }
 {
-    match configured {
-        None => MarkRule::Nothing,
-        Some(roll) => MarkRule::AtRoll(roll),
-    }
+    configured.map_or(MarkRule::Nothing, MarkRule::AtRoll)
 }
 
 // A configured roll is looked at before n, and 0 samples mark nothing.
+#[tactic(auto, unfolding(crate::specs::Mask::at_every_roll))]
 pub(crate) fn at_every_roll(n: u64, configured: Option<f64>) -> MarkRule
     ensures { result ≡ at_every_roll n configured }
 {
-    match configured {
-        None => {
-            if n == 0 {
-                MarkRule::Nothing
-            } else {
-                MarkRule::EveryStep(sample_step(n))
-            }
-        }
-        Some(roll) => MarkRule::AtRoll(roll),
+    if let Some(roll) = configured {
+        MarkRule::AtRoll(roll)
+    } else if n == 0 {
+        MarkRule::Nothing
+    } else {
+        MarkRule::EveryStep(sample_step(n))
     }
 }
 

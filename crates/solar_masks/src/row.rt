@@ -1,7 +1,5 @@
 // One row: its mask and its severities at the configured roll.
-ghost use Rattle.std.specs.Prelude.{◌≡◌, ◌≤◌, length};
-ghost use Rattle.float.specs.Arithmetic.{zero·0};
-ghost use Rattle.buffers.specs.Ranges.{flag};
+ghost use Rattle.std.specs.Prelude.{◌≡◌, ◌≤◌, cond, length, Some, None};
 ghost use Rattle.buffers.specs.Lent.{filled};
 ghost use Rattle.buffers.specs.Refusal.{found, replied};
 ghost use Rattle.solar_roll.specs.Cell.{roll_in, violates};
@@ -13,59 +11,39 @@ ghost use Rattle.solar_masks.specs.Row.{excess, severity, severity_at, row_refus
 use buffers::Refusal;
 use solar_roll::{CellRoll, Panel, Plan, body_axes, circular_diff_deg, roll_in, sun_unit, triple};
 
-// A cell's byte and severity.
-#[derive(Clone, Copy)]
-pub struct Evaluated {
-    pub mark: u8,
-    pub severity: f64,
-}
-
-// Not violated.
-fn clear() -> Evaluated
-    ensures { (result.mark ≡ 0) × (result.severity ≡ zero·0) }
-{
-    Evaluated {
-        mark: 0,
-        severity: 0.0,
-    }
-}
-
-// At a roll: the severity is the difference beyond the tolerance.
-fn evaluate_at(cell: CellRoll, roll_deg: f64, tolerance_deg: f64) -> Evaluated
-    ensures { (result.mark ≡ flag (violates cell roll_deg tolerance_deg)) × (result.severity ≡ excess cell roll_deg tolerance_deg) }
+// The severity of a cell that a roll violates: the difference beyond the tolerance.
+#[tactic(auto, unfolding(crate::specs::Row::excess, solar_roll::specs::Cell::violates))]
+fn excess(cell: CellRoll, roll_deg: f64, tolerance_deg: f64) -> Option<f64>
+    ensures { result ≡ cond (violates cell roll_deg tolerance_deg) (Some (excess cell roll_deg tolerance_deg)) None }
 {
     match cell {
-        CellRoll::Free => clear(),
+        CellRoll::Free => None,
         CellRoll::At(optimal) => {
             let difference = circular_diff_deg(roll_deg, optimal);
             if difference > tolerance_deg {
-                Evaluated {
-                    mark: 1,
-                    severity: difference - tolerance_deg,
-                }
+                Some(difference - tolerance_deg)
             } else {
-                clear()
+                None
             }
         }
-        CellRoll::Refused(_) => clear(),
+        CellRoll::Refused(_) => None,
     }
 }
 
-// At the configured roll. Without one both are zero, and no roll is worked out.
-fn evaluate_cell(
+// The severity of a cell that the configured roll violates. Without one no roll is worked out.
+#[tactic(auto, unfolding(crate::specs::Row::severity, crate::specs::Mask::marked_by, crate::specs::Mask::at_configured))]
+fn severity(
     axes: [[f64; 3]; 3],
     sun_unit: [f64; 3],
     panel: Panel,
     configured: Option<f64>,
     tolerance_deg: f64,
-) -> Evaluated
+) -> Option<f64>
     ensures { let cell : CellRoll = roll_in axes sun_unit panel in
-        (result.mark ≡ flag (marked_by cell (at_configured configured) tolerance_deg)) × (result.severity ≡ severity cell configured tolerance_deg) }
+        result ≡ cond (marked_by cell (at_configured configured) tolerance_deg) (Some (severity cell configured tolerance_deg)) None }
 {
-    match configured {
-        None => clear(),
-        Some(roll) => evaluate_at(roll_in(axes, sun_unit, panel), roll, tolerance_deg),
-    }
+    let roll = configured?;
+    excess(roll_in(axes, sun_unit, panel), roll, tolerance_deg)
 }
 
 // Writes a row's bytes and severities.
@@ -78,17 +56,13 @@ fn fill_row(plan: &Plan, row: usize, mask: &mut [u8], severities: &mut [f64])
         severities.new ≡ filled (times_of p) (severity_at p row) severities.old }
 {
     let axes = body_axes(plan.direction(row));
-    let settings = plan.row_config(row);
-    let tolerance = settings.tolerance_deg;
+    let tolerance = plan.row_config(row).tolerance_deg;
     let panel = plan.panel_at(row);
-    let times = plan.suns.len() / 3;
-    let mut j = 0;
-    while j < times {
+    for j in 0..plan.times() {
         let unit = sun_unit(triple(plan.suns, j), triple(plan.observers, j));
-        let cell = evaluate_cell(axes, unit, panel, plan.configured, tolerance);
-        mask[j] = cell.mark;
-        severities[j] = cell.severity;
-        j += 1;
+        let over = severity(axes, unit, panel, plan.configured, tolerance);
+        mask[j] = u8::from(over.is_some());
+        severities[j] = over.unwrap_or(0.0);
     }
 }
 

@@ -1,16 +1,12 @@
-use Prim.Native.Nat.{◌-◌, ◌≤◌}
-use Rattle.buffers.specs.Lent.{filled}
-use Rattle.buffers.specs.Ranges.{flag}
-use Rattle.solar_roll.specs.Cell.{roll_in}
-use Rattle.solar_masks.specs.Mask.{marked_by, at_configured}
-use Rattle.solar_roll.specs.Plan.{triple}
-use Rattle.solar_roll.specs.Roll.{sun_unit}
-use Rattle.solar_masks.specs.Row.{severity}
+-- `fill_row`: before time j, the bytes and severities of the times before it stand. Assumes nothing.
 use mathlib.Core.Path.{◌≡◌}
+use Rattle.buffers.specs.Lent.{filled}
+use Rattle.solar_masks.specs.Mask.{at_configured, mark_at}
+use Rattle.solar_masks.specs.Row.{severity_at}
+use Rattle.solar_roll.specs.Plan.{lent}
 use Rattle.solar_masks.proofs.row.fill_row.Given as goal
 
 abbrev pub invariant-loop-j : goal.invariant-loop-j
-invariant-loop-j l = (l.j ≤ l.times) × (l.mask ≡ filled l.j (λ t. flag (marked_by (roll_in l.axes (sun_unit (triple l.plan.suns.now t) (triple l.plan.observers.now t)) l.panel) (at_configured l.plan.configured) l.tolerance)) l.initial.mask) × (l.severities ≡ filled l.j (λ t. severity (roll_in l.axes (sun_unit (triple l.plan.suns.now t) (triple l.plan.observers.now t)) l.panel) l.plan.configured l.tolerance) l.initial.severities)
-
-abbrev pub decreases-loop-j : goal.decreases-loop-j
-decreases-loop-j l = l.times - l.j
+invariant-loop-j l =
+    let p = lent l.plan in
+    (l.mask ≡ filled l.j (mark_at p (at_configured p.configured) l.row) l.initial.mask) × (l.severities ≡ filled l.j (severity_at p l.row) l.initial.severities)

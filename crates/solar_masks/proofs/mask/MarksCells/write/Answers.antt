@@ -43,5 +43,5 @@ loop-k-preserved c =
     let u : k < length a.units.now = omega arith in
     let l : k < length a.numbers.now = omega (arith, c.requires.1) in
     let roll : get_or c.rolls_deg_in.new.rolls k nan ≡ roll_deg_in a.axes (get_or a.units.now k []) a.self.now.panel.angle =
-        ap (λ (x : List Float). get_or x k nan) c.rolls_deg_in.ensures ∙ get_or_filled _ _ _ nan k (omega (arith, c.requires.0)) in
+    ap (λ (x : List Float). get_or x k nan) c.rolls_deg_in.ensures ∙ get_or_filled _ _ _ nan k (omega (arith, c.requires.0)) in
     rw c.loop-k.invariant (filled_next _ _ _ _ l (simp (c.mark_byte.ensures, c.free_or_at-cell.ensures, roll)))
