@@ -1,26 +1,23 @@
 // Masks: a byte a cell, 0 clear or 1 marked, in order of cell number.
-ghost use Rattle.std.specs.Prelude.{◌≡◌, ℕ, ◌+◌, ◌-◌, ◌*◌, ◌≤◌, [], length, get_or, Float};
+ghost use Rattle.std.specs.Prelude.{◌≡◌, length};
 ghost use Rattle.buffers.specs.Ranges.{flag};
-ghost use Rattle.buffers.specs.Lent.{filled};
-ghost use Rattle.buffers.specs.Rows.{ColumnsWritten};
 ghost use Rattle.buffers.specs.Refusal.{found, replied};
-ghost use Rattle.solar_roll.specs.Roll.{body_axes, sample_step};
+ghost use Rattle.solar_roll.specs.Roll.{sample_step};
 ghost use Rattle.solar_roll.specs.Cell.{roll_in};
-ghost use Rattle.solar_roll.specs.declared.cell.CellRoll.{CellRoll};
-ghost use Rattle.solar_roll.specs.Plan.{Plan as PlanOf, lent, rows_of, times_of, direction_of, config_of, cells_of, most_times, samples_or_none_refusal};
-ghost use Rattle.solar_masks.specs.Mask.{step_distance, misses_steps, marked_by, at_roll, at_configured, at_every_roll, cell_mark, cells_refusal, cells_reply, mask_after};
+ghost use Rattle.solar_roll.specs.Plan.{lent, samples_or_none_refusal};
+ghost use Rattle.solar_masks.specs.Mask.{step_distance, misses_steps, marked_by, at_roll, at_configured, at_every_roll, cells_refusal, cells_reply, mask_after};
 
 use crate::cells::{Cells, write_cells};
 use buffers::Refusal;
 use float::rem_euclid;
 use solar_roll::{
-    CellRoll, EvaluationRoll, Panel, Plan, body_axes, free_or_at, in_force, rolls_deg_in,
-    samples_or_none_refusal, sun_units, violated,
+    CellRoll, EvaluationRoll, Panel, Plan, free_or_at, in_force, rolls_deg_in,
+    samples_or_none_refusal, violated,
 };
 use std::num::nearest_u64_to_f64;
 
 // What marks a cell: a roll too far from its optimal roll, every multiple of a step too far from it,
-// or nothing.
+// or nothing. An enum and no closure, since `target_by_target` (specs/Tolerances) speaks of each rule.
 #[derive(Clone, Copy)]
 pub(crate) enum MarkRule {
     AtRoll(f64),
@@ -36,7 +33,7 @@ fn sample_step(n: u64) -> f64
     360.0 / nearest_u64_to_f64(n)
 }
 
-// How far a roll is from the nearest multiple of a step.
+// How far a roll is from the nearest multiple of a step. `if` and not `min`, which has another answer for a NaN.
 #[tactic(auto, unfolding(crate::specs::Mask::step_distance))]
 fn step_distance(roll_deg: f64, step: f64) -> f64
     ensures { result ≡ step_distance roll_deg step }

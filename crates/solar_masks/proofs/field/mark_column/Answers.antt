@@ -29,6 +29,6 @@ loop-row-preserved c =
     let panel = c.panel_at-panel.ensures ∙ ap panel_of (one_panel p.panels 0 r) in
     let settings = ap (λ (s : SolarRollConfig). s.tolerance_deg) c.row_config.ensures in
     let v = c.mark_byte.ensures ∙ ap (λ (l : CellRoll). flag (marked_by l a.rule c.row_config.result.tolerance_deg)) c.roll_in-cell.ensures
-        ∙ mark_shared p r a.time _ _ _ axes unit panel a.rule _ settings in
+    ∙ mark_shared p r a.time _ _ _ axes unit panel a.rule _ settings in
     let h : r < length a.mask.now = omega (arith, c.rows-row-end.ensures, c.requires) in
     ap (λ (l : List ℕ). set l r c.mark_byte.result) c.loop-row.invariant ∙ filled_next (λ r. mark_at p a.rule r a.time) r a.mask.now _ h v
