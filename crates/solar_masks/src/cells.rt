@@ -6,7 +6,7 @@ ghost use Rattle.buffers.specs.Lent.{filled};
 ghost use Rattle.buffers.specs.Rows.{ColumnsWritten};
 ghost use Rattle.solar_roll.specs.Vectors.{Vector};
 ghost use Rattle.solar_roll.specs.Roll.{Axes, body_axes};
-ghost use Rattle.solar_roll.specs.Plan.{Plan as PlanOf, lent, rows_of, times_of, cells_of, direction_of, config_of, sun_at, most_times};
+ghost use Rattle.solar_roll.specs.Plan.{Plan as PlanOf, lent, rows_of, times_of, cells_of, direction_of, config_of, sun_at};
 
 use solar_roll::{Plan, body_axes, sun_units};
 
@@ -76,8 +76,7 @@ fn write_block<C: Cells>(
 
 // Writes the number of each cell.
 pub(crate) fn write_cells<C: Cells>(plan: &Plan, cells: &C, numbers: &mut [C::Number])
-    requires { let p : PlanOf = lent plan.now in
-        (cells_of p ≤ length numbers.old) × (times_of p ≤ most_times) }
+    requires { cells_of (lent plan.now) ≤ length numbers.old }
     ensures { let p : PlanOf = lent plan.now in
         let axes : ℕ → Axes = λ r. body_axes (direction_of p r) in
         let number : ℕ → ℕ → C.Number = λ r j. C.number cells.now (axes r) (config_of p r).tolerance_deg (sun_at p j) in

@@ -38,5 +38,5 @@ returns g c =
     let f = λ (r j : ℕ). g.C.Cells.number a.cells.now (body_axes (direction_of p r)) (config_of p r).tolerance_deg (sun_at p j) in
     let d = f 0 0 in
     let e : c.loop-from.from ≡ times_of p = omega (arith, c.times-times.ensures, c.loop-from.invariant.0) in
-    columns_all (rows_of p) (times_of p) f d a.numbers.now c.loop-from.numbers c.requires.0
+    columns_all (rows_of p) (times_of p) f d a.numbers.now c.loop-from.numbers c.requires
     (subst (λ (n : ℕ). ColumnsWritten (rows_of p) (times_of p) (rows_of p) 0 n f d a.numbers.now c.loop-from.numbers) e (c.loop-from.invariant.3 d))

@@ -1,5 +1,5 @@
 use Rattle.buffers.proofs.Refusals.{err_replied, err_unless, ok_replied, ok_unless}
-use Rattle.solar_masks.proofs.Calls.{cells_facts, cells_room}
+use Rattle.solar_masks.proofs.Calls.{cells_room}
 use Rattle.solar_roll.specs.Plan.{lent}
 use Rattle.solar_masks.proofs.Shared.{marks_shared}
 use Rattle.solar_masks.specs.Mask.{cells_reply, mask_after}
@@ -15,7 +15,7 @@ returns-in_err-cells_refusal c = let e = c.in_err-cells_refusal.ensures in
     record { result_value = rw is (err_replied _ _ _ e); mask_after = err_unless _ _ _ _ e }
 
 pub write_cells-requires : goal.write_cells-requires
-write_cells-requires c = let z = sym c.in_ok-cells_refusal.ensures in (cells_room _ _ _ z, (cells_facts _ _ _ z).few_times)
+write_cells-requires c = cells_room _ _ _ (sym c.in_ok-cells_refusal.ensures)
 
 pub returns : goal.returns
 unfolding cells_reply mask_after

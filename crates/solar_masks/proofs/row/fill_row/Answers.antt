@@ -12,7 +12,6 @@ use Rattle.std.specs.Option.{is_some, unwrap_or}
 use Rattle.float.specs.Arithmetic.{zero·0, ◌⊖◌}
 use Rattle.buffers.specs.Ranges.{flag}
 use Rattle.buffers.proofs.Lent.{filled_zero, filled_next}
-use Rattle.solar_roll.specs.Vectors.{Vector}
 use Rattle.solar_roll.specs.Cell.{roll_in, violates}
 use Rattle.solar_roll.specs.Plan.{lent, sun_at}
 use Rattle.solar_roll.specs.Roll.{sun_unit, body_axes, circular_diff_deg}
