@@ -9,11 +9,12 @@ use Rattle.buffers.specs.Lent.{filled}
 use Rattle.buffers.specs.Rows.{ColumnsWritten}
 use Rattle.buffers.proofs.Ranges.{length_tab, get_or_tab}
 use Rattle.buffers.proofs.Lent.{take_filled}
+use Rattle.buffers.proofs.Rows.{columns_add}
 use Rattle.solar_roll.specs.Vectors.{Vector}
-use Rattle.solar_roll.specs.Plan.{Plan, times_of, sun_at}
+use Rattle.solar_roll.specs.Plan.{Plan, rows_of, times_of, sun_at}
 
 -- the table after `sun_units`: its first n places hold the units of n times, from the time `from` on
-pub block_units : (p : Plan) (from n : ℕ) (old new : List Vector) → length old ≡ 2048 → n ≡ min 2048 (times_of p - from)
+block_units : (p : Plan) (from n : ℕ) (old new : List Vector) → length old ≡ 2048 → n ≡ min 2048 (times_of p - from)
     → new ≡ filled (min (length old) (times_of p - from)) (λ t. sun_at p (from + t)) old
     → take n new ≡ tab n (λ t. sun_at p (from + t))
 block_units p from n old new size e w =
@@ -22,7 +23,7 @@ block_units p from n old new size e w =
 
 -- a block's columns, made of those units, are made of the times' own
 module _ {A : Type 0} (rows times from n : ℕ) (f : ℕ → Vector → A) (sun : ℕ → Vector) (units : List Vector) (d : A) (old new : List A) where
-  pub columns_block : units ≡ tab n (λ t. sun (from + t)) → ColumnsWritten rows times rows from (length units) (λ r j. f r (get_or units (j - from) [])) d old new
+  columns_block : units ≡ tab n (λ t. sun (from + t)) → ColumnsWritten rows times rows from (length units) (λ r j. f r (get_or units (j - from) [])) d old new
       → ColumnsWritten rows times rows from n (λ r j. f r (sun j)) d old new
   columns_block e c =
       let w : length units ≡ n = ap length e ∙ length_tab n (λ t. sun (from + t)) in
@@ -37,3 +38,13 @@ module _ {A : Type 0} (rows times from n : ℕ) (f : ℕ → Vector → A) (sun 
       unit j a b =
           let i : from + (j - from) ≡ j = omega arith in
           ap (λ (u : List Vector). get_or u (j - from) []) e ∙ get_or_tab n (λ t. sun (from + t)) [] (j - from) (omega arith) ∙ ap sun i
+
+-- the columns of a block, after those of the times before it: `units` is the table once it holds the block's units
+module _ {A : Type 0} (p : Plan) (f : ℕ → Vector → A) (from n : ℕ) (table units : List Vector) (old m new : List A) where
+  pub columns_next : length table ≡ 2048 → n ≡ min 2048 (times_of p - from) → units ≡ filled (min (length table) (times_of p - from)) (λ t. sun_at p (from + t)) table
+      → ((d : A) → ColumnsWritten (rows_of p) (times_of p) (rows_of p) 0 from (λ r j. f r (sun_at p j)) d old m)
+      → ((d : A) → ColumnsWritten (rows_of p) (times_of p) (rows_of p) from (length (take n units)) (λ r j. f r (get_or (take n units) (j - from) [])) d m new)
+      → (d : A) → ColumnsWritten (rows_of p) (times_of p) (rows_of p) 0 (from + n) (λ r j. f r (sun_at p j)) d old new
+  columns_next size e w before this d =
+      columns_add (rows_of p) (times_of p) (λ r j. f r (sun_at p j)) d from n old m new (before d)
+      (columns_block (rows_of p) (times_of p) from n f (sun_at p) (take n units) d m new (block_units p from n table units size e w) (this d))

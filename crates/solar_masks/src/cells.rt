@@ -39,11 +39,9 @@ fn write_row<C: Cells>(
     requires { length units.now ≤ length numbers.old }
     ensures { numbers.new ≡ filled (length units.now) (λ k. C.number cells.now axes tolerance_deg (get_or units.now k [])) numbers.old }
 {
-    let mut from = 0;
-    while from < units.len() {
-        let to = from + (units.len() - from).min(64);
+    for from in (0..units.len()).step_by(64) {
+        let to = units.len().min(from + 64);
         cells.write(axes, tolerance_deg, &units[from..to], &mut numbers[from..]);
-        from = to;
     }
 }
 
@@ -84,11 +82,9 @@ pub(crate) fn write_cells<C: Cells>(plan: &Plan, cells: &C, numbers: &mut [C::Nu
 {
     let times = plan.times();
     let mut units = [[0.0; 3]; 2048];
-    let mut from = 0;
-    while from < times {
+    for from in (0..times).step_by(2048) {
         let count = units.len().min(times - from);
         sun_units(plan.suns, plan.observers, from, &mut units);
         write_block(plan, cells, &units[..count], from, numbers);
-        from += count;
     }
 }

@@ -7,8 +7,7 @@ use Rattle.buffers.specs.Lent.{filled}
 use Rattle.solar_masks.proofs.cells.write_row.Given as goal
 
 abbrev pub invariant-loop-from : goal.invariant-loop-from
-invariant-loop-from g l = (l.from ≤ length l.units) × (length l.units ≤ length l.initial.numbers) × (length l.numbers ≡ length l.initial.numbers)
-    × (l.numbers ≡ filled l.from (λ k. g.C.Cells.number l.cells l.axes l.tolerance_deg (get_or l.units k [])) l.initial.numbers)
+invariant-loop-from g l = (l.from ≤ length l.units) × (l.numbers ≡ filled l.from (λ k. g.C.Cells.number l.cells l.axes l.tolerance_deg (get_or l.units k [])) l.initial.numbers)
 
 abbrev pub decreases-loop-from : goal.decreases-loop-from
-decreases-loop-from g l = length l.units - l.from
+decreases-loop-from g l = l.from-end - l.from
