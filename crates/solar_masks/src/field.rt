@@ -50,6 +50,7 @@ fn field_refusal(
 }
 
 // A call for a field of regard: its refusals, then the marks by a rule. `said` is said in the place of 3.
+#[tactic(auto, using(buffers::proofs::Refusals::err_replied, buffers::proofs::Refusals::ok_replied, buffers::proofs::Refusals::ok_unless, crate::proofs::Calls::field_room), unfolding(crate::specs::Field::field_reply, crate::specs::Field::field_after))]
 fn field_by(
     plan: &Plan,
     said: Result<(), Refusal>,

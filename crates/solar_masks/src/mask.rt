@@ -154,6 +154,7 @@ pub(crate) fn cells_refusal(
 }
 
 // A call for a mask: its refusals, then the marks by a rule. `said` is said in the place of 3.
+#[tactic(auto, using(buffers::proofs::Refusals::err_replied, buffers::proofs::Refusals::ok_replied, crate::proofs::Calls::cells_room), unfolding(crate::specs::Mask::cells_reply))]
 fn mask_by(
     plan: &Plan,
     said: Result<(), Refusal>,

@@ -24,8 +24,8 @@ loop-from-preserved g c =
     let e = c.min-count.ensures ∙ ap (λ (t : ℕ). min 2048 (t - s.from)) c.times-times.ensures in
     let i : s.from + c.min-count.result ≡ s.from + 2048 = omega (arith, c.min-count.ensures) in
     let step : (d : _) → ColumnsWritten (rows_of p) (times_of p) (rows_of p) 0 (s.from + 2048) (λ r j. f r (sun_at p j)) d a.numbers.now c.write_block.new.numbers =
-        λ d. subst (λ (n : ℕ). ColumnsWritten (rows_of p) (times_of p) (rows_of p) 0 n (λ r j. f r (sun_at p j)) d a.numbers.now c.write_block.new.numbers) i
-        (columns_next p f s.from c.min-count.result s.units c.sun_units.new.units a.numbers.now s.numbers c.write_block.new.numbers s.invariant.1 e c.sun_units.ensures s.invariant.3 c.write_block.ensures d) in
+    λ d. subst (λ (n : ℕ). ColumnsWritten (rows_of p) (times_of p) (rows_of p) 0 n (λ r j. f r (sun_at p j)) d a.numbers.now c.write_block.new.numbers) i
+    (columns_next p f s.from c.min-count.result s.units c.sun_units.new.units a.numbers.now s.numbers c.write_block.new.numbers s.invariant.1 e c.sun_units.ensures s.invariant.3 c.write_block.ensures d) in
     (omega (arith, c.times-times.ensures), c.sun_units.auto.units ∙ s.invariant.1, (step (f 0 [])).same, step)
 
 pub returns : goal.returns

@@ -19,9 +19,11 @@ loop-from-preserved g c =
     let e : c.min-to.result ≡ at.from + 64 = omega (arith, c.min-to.ensures) in
     let up : at.from ≤ c.min-to.result = omega (arith, e) in
     let within : c.min-to.result ≤ length a.units.now = omega (arith, c.min-to.ensures) in
-    let f = g.C.Cells.number a.cells.now a.axes a.tolerance_deg in
-    (omega arith, tile_next a.units.now at.from c.min-to.result f [] a.numbers.now at.numbers _ up within c.requires at.invariant.1 c.write.ensures
-    ∙ ap (λ (n : ℕ). filled n (λ k. f (get_or a.units.now k [])) a.numbers.now) e)
+    let f = g.C.Cells.number a.cells.now a.axes a.tolerance_deg in (
+      omega arith,
+      tile_next a.units.now at.from c.min-to.result f [] a.numbers.now at.numbers _ up within c.requires at.invariant.1 c.write.ensures
+          ∙ ap (λ (n : ℕ). filled n (λ k. f (get_or a.units.now k [])) a.numbers.now) e,
+    )
 
 pub returns : goal.returns
 returns g c = let e : c.loop-from.from ≡ length c.args.units.now = omega arith in
