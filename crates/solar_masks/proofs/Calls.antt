@@ -1,10 +1,11 @@
 -- What a call knows once its refusal is 0: the plan's facts, and room enough; and how large the number of a refusal can be. Assumes nothing.
-use mathlib.Core.Path.{◌≡◌}
+use mathlib.Core.Path.{◌≡◌, refl}
+use mathlib.Core.List.{[], ◌∷◌}
 use mathlib.Core.Bool.{Bool, false, ◌||◌}
 use Prim.Native.Nat.{ℕ, ◌≤◌, ◌<◌}
-use lib.Dec.{ltb, lit<}
+use lib.Dec.{leb, ltb, lit<}
 use borrow.Author.Tests.{ltb-false}
-use Rattle.buffers.specs.Refusal.{carried}
+use Rattle.buffers.specs.Refusal.{first, carried}
 use Rattle.buffers.proofs.Refusals.{first_clear, carried_clear, given_below}
 use Rattle.buffers.proofs.Tests.{or_left, or_right}
 use Rattle.solar_roll.specs.Plan.{Plan, rows_of, times_of, cells_of, plan_refusal, PlanFacts}
@@ -29,6 +30,12 @@ module _ (p : Plan) (said room : ℕ) (h : cells_refusal p said room ≡ 0) wher
 pub cells_below : (p : Plan) (said room : ℕ) → said < 64 → cells_refusal p said room < 64
 unfolding cells_refusal carried
 cells_below p said room h = given_below 64 _ (lit< tt) (plan_below p said false h, (lit< tt, tt))
+
+-- the field of regard's chain, written out
+pub field_parts : (p : Plan) (said time room : ℕ)
+    → field_refusal p said time room ≡ first (carried (plan_refusal p said false) ∷ (leb (times_of p) time, 9) ∷ (ltb room (rows_of p), 7) ∷ [])
+unfolding field_refusal field_short
+field_parts p said time room = refl
 
 module _ (p : Plan) (said time room : ℕ) (h : field_refusal p said time room ≡ 0) where
   pub field_room : rows_of p ≤ room

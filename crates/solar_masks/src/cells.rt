@@ -1,4 +1,4 @@
-// How a call writes a number for each cell of a plan, in order of cell number: block by block of times, so that a Sun's unit is
+// How a call writes an entry for each cell of a plan, in order of cell number: block by block of times, so that a Sun's unit is
 // worked out once, in a block row by row, so that a target's axes are, and in a row tile by tile, since cells of one row have
 // their rolls worked out side by side.
 ghost use Rattle.std.specs.Prelude.{◌≡◌, ℕ, ◌-◌, ◌+◌, ◌/◌, ◌%◌, ◌≤◌, [], length, get_or, Float};
@@ -12,53 +12,53 @@ use solar_roll::{Plan, body_axes, sun_units};
 
 // What is written of a cell, given its target's axes, its row's tolerance and its Sun's unit.
 pub(crate) trait Cells {
-    type Number;
+    type Entry;
 
-    ghost number: { Self → Axes → Float → Vector → Self.Number };
+    ghost entry: { Self → Axes → Float → Vector → Self.Entry };
 
-    // Writes the numbers of at most 64 cells of a row, a cell for each of the Sun's units.
+    // Writes the entries of at most 64 cells of a row, a cell for each of the Sun's units.
     fn write(
         &self,
         axes: [[f64; 3]; 3],
         tolerance_deg: f64,
         units: &[[f64; 3]],
-        numbers: &mut [Self::Number],
+        entries: &mut [Self::Entry],
     )
-        requires { (length units.now ≤ 64) × (length units.now ≤ length numbers.old) }
-        ensures { numbers.new ≡ filled (length units.now) (λ k. number self.now axes tolerance_deg (get_or units.now k [])) numbers.old };
+        requires { (length units.now ≤ 64) × (length units.now ≤ length entries.old) }
+        ensures { entries.new ≡ filled (length units.now) (λ k. entry self.now axes tolerance_deg (get_or units.now k [])) entries.old };
 }
 
-// Writes the numbers of a row's cells, a cell for each of the Sun's units.
+// Writes the entries of a row's cells, a cell for each of the Sun's units.
 fn write_row<C: Cells>(
     cells: &C,
     axes: [[f64; 3]; 3],
     tolerance_deg: f64,
     units: &[[f64; 3]],
-    numbers: &mut [C::Number],
+    entries: &mut [C::Entry],
 )
-    requires { length units.now ≤ length numbers.old }
-    ensures { numbers.new ≡ filled (length units.now) (λ k. C.number cells.now axes tolerance_deg (get_or units.now k [])) numbers.old }
+    requires { length units.now ≤ length entries.old }
+    ensures { entries.new ≡ filled (length units.now) (λ k. C.entry cells.now axes tolerance_deg (get_or units.now k [])) entries.old }
 {
     for from in (0..units.len()).step_by(64) {
         let to = units.len().min(from + 64);
-        cells.write(axes, tolerance_deg, &units[from..to], &mut numbers[from..]);
+        cells.write(axes, tolerance_deg, &units[from..to], &mut entries[from..]);
     }
 }
 
-// Writes the numbers of every row at the times from `from` on, a time for each of the Sun's units.
+// Writes the entries of every row at the times from `from` on, a time for each of the Sun's units.
 fn write_block<C: Cells>(
     plan: &Plan,
     cells: &C,
     units: &[[f64; 3]],
     from: usize,
-    numbers: &mut [C::Number],
+    entries: &mut [C::Entry],
 )
     requires { let p : PlanOf = lent plan.now in
-        (cells_of p ≤ length numbers.old) × (from + length units.now ≤ times_of p) }
+        (cells_of p ≤ length entries.old) × (from + length units.now ≤ times_of p) }
     ensures { let p : PlanOf = lent plan.now in
         let axes : ℕ → Axes = λ r. body_axes (direction_of p r) in
-        let number : ℕ → ℕ → C.Number = λ r j. C.number cells.now (axes r) (config_of p r).tolerance_deg (get_or units.now (j - from) []) in
-        (d : C.Number) → ColumnsWritten (rows_of p) (times_of p) (rows_of p) from (length units.now) number d numbers.old numbers.new }
+        let entry : ℕ → ℕ → C.Entry = λ r j. C.entry cells.now (axes r) (config_of p r).tolerance_deg (get_or units.now (j - from) []) in
+        (d : C.Entry) → ColumnsWritten (rows_of p) (times_of p) (rows_of p) from (length units.now) entry d entries.old entries.new }
 {
     for row in 0..plan.rows() {
         let start = row * plan.times() + from;
@@ -67,24 +67,24 @@ fn write_block<C: Cells>(
             body_axes(plan.direction(row)),
             plan.row_config(row).tolerance_deg,
             units,
-            &mut numbers[start..],
+            &mut entries[start..],
         );
     }
 }
 
-// Writes the number of each cell.
-pub(crate) fn write_cells<C: Cells>(plan: &Plan, cells: &C, numbers: &mut [C::Number])
-    requires { cells_of (lent plan.now) ≤ length numbers.old }
+// Writes the entry of each cell.
+pub(crate) fn write_cells<C: Cells>(plan: &Plan, cells: &C, entries: &mut [C::Entry])
+    requires { cells_of (lent plan.now) ≤ length entries.old }
     ensures { let p : PlanOf = lent plan.now in
         let axes : ℕ → Axes = λ r. body_axes (direction_of p r) in
-        let number : ℕ → ℕ → C.Number = λ r j. C.number cells.now (axes r) (config_of p r).tolerance_deg (sun_at p j) in
-        numbers.new ≡ filled (cells_of p) (λ k. number (k / times_of p) (k % times_of p)) numbers.old }
+        let entry : ℕ → ℕ → C.Entry = λ r j. C.entry cells.now (axes r) (config_of p r).tolerance_deg (sun_at p j) in
+        entries.new ≡ filled (cells_of p) (λ k. entry (k / times_of p) (k % times_of p)) entries.old }
 {
     let times = plan.times();
     let mut units = [[0.0; 3]; 2048];
     for from in (0..times).step_by(2048) {
         let count = units.len().min(times - from);
         sun_units(plan.suns, plan.observers, from, &mut units);
-        write_block(plan, cells, &units[..count], from, numbers);
+        write_block(plan, cells, &units[..count], from, entries);
     }
 }

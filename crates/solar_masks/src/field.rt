@@ -30,7 +30,7 @@ fn mark_column(plan: &Plan, time: usize, rule: MarkRule, mask: &mut [u8])
 }
 
 // The plan's refusal, or 9 for no such time, or 7 for too little room.
-#[tactic(auto, unfolding(crate::specs::Field::field_refusal, crate::specs::Field::field_short, buffers::specs::Refusal::first, buffers::specs::Refusal::carried))]
+#[tactic(auto, using(crate::proofs::Calls::field_parts), unfolding(buffers::specs::Refusal::first, buffers::specs::Refusal::carried))]
 fn field_refusal(
     plan: &Plan,
     said: Result<(), Refusal>,
@@ -50,7 +50,7 @@ fn field_refusal(
 }
 
 // A call for a field of regard: its refusals, then the marks by a rule. `said` is said in the place of 3.
-#[tactic(auto, using(buffers::proofs::Refusals::err_replied, buffers::proofs::Refusals::ok_replied, buffers::proofs::Refusals::ok_unless, crate::proofs::Calls::field_room), unfolding(crate::specs::Field::field_reply, crate::specs::Field::field_after))]
+#[tactic(auto, using(buffers::proofs::Refusals::err_replied, buffers::proofs::Refusals::ok_replied), unfolding(crate::specs::Field::field_reply))]
 fn field_by(
     plan: &Plan,
     said: Result<(), Refusal>,

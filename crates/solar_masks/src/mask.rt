@@ -111,9 +111,9 @@ struct Marks {
 }
 
 impl Cells for Marks {
-    type Number = u8;
+    type Entry = u8;
 
-    ghost number = { λ s axes tolerance unit. flag (marked_by (roll_in axes unit s.panel) s.rule tolerance) };
+    ghost entry = { λ s axes tolerance unit. flag (marked_by (roll_in axes unit s.panel) s.rule tolerance) };
 
     // Where nothing is marked, no roll is worked out.
     fn write(
@@ -121,17 +121,17 @@ impl Cells for Marks {
         axes: [[f64; 3]; 3],
         tolerance_deg: f64,
         units: &[[f64; 3]],
-        numbers: &mut [u8],
+        entries: &mut [u8],
     ) {
         if let MarkRule::Nothing = self.rule {
-            numbers[..units.len()].fill(0);
+            entries[..units.len()].fill(0);
             return;
         }
         let mut rolls = [0.0; 64];
         rolls_deg_in(axes, units, self.panel.angle, &mut rolls);
         for k in 0..units.len() {
             let cell = free_or_at(axes, units[k], self.panel, rolls[k]);
-            numbers[k] = mark_byte(cell, self.rule, tolerance_deg);
+            entries[k] = mark_byte(cell, self.rule, tolerance_deg);
         }
     }
 }
@@ -154,7 +154,7 @@ pub(crate) fn cells_refusal(
 }
 
 // A call for a mask: its refusals, then the marks by a rule. `said` is said in the place of 3.
-#[tactic(auto, using(buffers::proofs::Refusals::err_replied, buffers::proofs::Refusals::ok_replied, crate::proofs::Calls::cells_room), unfolding(crate::specs::Mask::cells_reply))]
+#[tactic(auto, using(buffers::proofs::Refusals::err_replied, buffers::proofs::Refusals::ok_replied), unfolding(crate::specs::Mask::cells_reply))]
 fn mask_by(
     plan: &Plan,
     said: Result<(), Refusal>,

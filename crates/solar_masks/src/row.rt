@@ -87,7 +87,7 @@ fn row_refusal(plan: &Plan, row: u64, mask: usize, severities: usize) -> Result<
 
 // A row's mask and severities at the configured roll; all zero without one.
 // Refuses 1, 2, 4, 5, 20, 6, 17 of the plan, then 9, 7 (specs/Row, `row_refusal`).
-#[tactic(auto, using(buffers::proofs::Refusals::err_replied, buffers::proofs::Refusals::ok_replied, buffers::proofs::Refusals::ok_unless, crate::proofs::Calls::row_room), unfolding(crate::specs::Row::row_reply, crate::specs::Row::row_mask_after, crate::specs::Row::severities_after))]
+#[tactic(auto, using(buffers::proofs::Refusals::err_replied, buffers::proofs::Refusals::ok_replied), unfolding(crate::specs::Row::row_reply))]
 pub fn evaluate(
     plan: &Plan,
     row: u64,

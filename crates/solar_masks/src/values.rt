@@ -17,18 +17,18 @@ struct Rolls {
 }
 
 impl Cells for Rolls {
-    type Number = f64;
+    type Entry = f64;
 
-    ghost number = { λ s axes tolerance unit. roll_deg_in axes unit s.panel_angle };
+    ghost entry = { λ s axes tolerance unit. roll_deg_in axes unit s.panel_angle };
 
     fn write(
         &self,
         axes: [[f64; 3]; 3],
         tolerance_deg: f64,
         units: &[[f64; 3]],
-        numbers: &mut [f64],
+        entries: &mut [f64],
     ) {
-        rolls_deg_in(axes, units, self.panel_angle, numbers);
+        rolls_deg_in(axes, units, self.panel_angle, entries);
     }
 }
 

@@ -22,12 +22,12 @@ loop-row-init g c = (refl, λ d. columns_none _ _ _ _ _ d _)
 fits : (times rows row from n k length : ℕ) → row < rows → from + n ≤ times → k ≡ times → rows * times ≤ length → row * k + from + n ≤ length
 fits times rows row from n k length h g e room = omega (arith, mul-le-mul_right times h, suc-mul row times, ap (λ (t : ℕ). row * t) e)
 
-pub offset_bounds-numbers-start : goal.offset_bounds-numbers-start
-offset_bounds-numbers-start g c =
+pub offset_bounds-entries-start : goal.offset_bounds-entries-start
+offset_bounds-entries-start g c =
     let q : c.loop-row.row < rows_of (lent c.args.plan.now) = omega (arith, c.rows-row-end.ensures) in
-    let room : rows_of (lent c.args.plan.now) * times_of (lent c.args.plan.now) ≤ length c.loop-row.numbers = omega (arith, c.requires.0, c.loop-row.invariant.0) in
+    let room : rows_of (lent c.args.plan.now) * times_of (lent c.args.plan.now) ≤ length c.loop-row.entries = omega (arith, c.requires.0, c.loop-row.invariant.0) in
     let h = fits _ _ c.loop-row.row c.args.from (length c.args.units.now) c.times.result _ q c.requires.1 c.times.ensures room in
-    let s : c.loop-row.row * c.times.result + c.args.from ≤ length c.loop-row.numbers = omega (arith, h) in
+    let s : c.loop-row.row * c.times.result + c.args.from ≤ length c.loop-row.entries = omega (arith, h) in
     search rules
 
 pub loop-row-preserved : goal.loop-row-preserved
@@ -35,21 +35,21 @@ loop-row-preserved g c =
     let a = c.args in
     let p = lent a.plan.now in
     let r = c.loop-row.row in
-    let m = c.loop-row.numbers in
+    let m = c.loop-row.entries in
     let n = length a.units.now in
     let k = c.times.result in
     let q : r < rows_of p = omega (arith, c.rows-row-end.ensures) in
     let room : rows_of p * times_of p ≤ length m = omega (arith, c.requires.0, c.loop-row.invariant.0) in
-    let number = g.C.Cells.number a.cells.now in
-    let G = λ (t : ℕ). number c.body_axes.result c.row_config.result.tolerance_deg (get_or a.units.now t []) in
-    let F = λ (r j : ℕ). number (body_axes (direction_of p r)) (config_of p r).tolerance_deg (get_or a.units.now (j - a.from) []) in
+    let entry = g.C.Cells.entry a.cells.now in
+    let G = λ (t : ℕ). entry c.body_axes.result c.row_config.result.tolerance_deg (get_or a.units.now t []) in
+    let F = λ (r j : ℕ). entry (body_axes (direction_of p r)) (config_of p r).tolerance_deg (get_or a.units.now (j - a.from) []) in
     let e : (t : ℕ) → t < n → G t ≡ F r (a.from + t) =
     λ t l. let i : a.from + t - a.from ≡ t = omega arith in simp (c.body_axes.ensures, c.direction.ensures, c.row_config.ensures, i) in
-    let w = filled_part G (r * k + a.from) n m c.write_row.new.numbers c.write_row.ensures
+    let w = filled_part G (r * k + a.from) n m c.write_row.new.entries c.write_row.ensures
     ∙ ap (λ (t : ℕ). put (r * t + a.from) (tab n G) m) c.times.ensures in
-    let step : (d : _) → ColumnsWritten (rows_of p) (times_of p) (r + 1) a.from n F d a.numbers.now _ =
-    λ d. subst (λ (l : List _). ColumnsWritten (rows_of p) (times_of p) (r + 1) a.from n F d a.numbers.now l) (sym w)
-    (columns_row (rows_of p) (times_of p) a.from n F d r G m q c.requires.1 room a.numbers.now e (c.loop-row.invariant.1 d)) in
+    let step : (d : _) → ColumnsWritten (rows_of p) (times_of p) (r + 1) a.from n F d a.entries.now _ =
+    λ d. subst (λ (l : List _). ColumnsWritten (rows_of p) (times_of p) (r + 1) a.from n F d a.entries.now l) (sym w)
+    (columns_row (rows_of p) (times_of p) a.from n F d r G m q c.requires.1 room a.entries.now e (c.loop-row.invariant.1 d)) in
     ((step (G 0)).same, step)
 
 pub returns : goal.returns
@@ -57,4 +57,4 @@ returns g c = λ d.
     let a = c.args in
     let p = lent a.plan.now in
     let e : c.loop-row.row ≡ rows_of p = omega (arith, c.rows-row-end.ensures) in
-    subst (λ (n : ℕ). ColumnsWritten (rows_of p) (times_of p) n a.from (length a.units.now) (λ r j. g.C.Cells.number a.cells.now (body_axes (direction_of p r)) (config_of p r).tolerance_deg (get_or a.units.now (j - a.from) [])) d a.numbers.now c.loop-row.numbers) e (c.loop-row.invariant.1 d)
+    subst (λ (n : ℕ). ColumnsWritten (rows_of p) (times_of p) n a.from (length a.units.now) (λ r j. g.C.Cells.entry a.cells.now (body_axes (direction_of p r)) (config_of p r).tolerance_deg (get_or a.units.now (j - a.from) [])) d a.entries.now c.loop-row.entries) e (c.loop-row.invariant.1 d)

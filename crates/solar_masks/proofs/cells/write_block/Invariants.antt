@@ -11,5 +11,5 @@ use Rattle.solar_masks.proofs.cells.write_block.Given as goal
 abbrev pub invariant-loop-row : goal.invariant-loop-row
 invariant-loop-row g l =
     let p = lent l.plan in
-    (length l.numbers ≡ length l.initial.numbers)
-    × ((d : _) → ColumnsWritten (rows_of p) (times_of p) l.row l.from (length l.units) (λ r j. g.C.Cells.number l.cells (body_axes (direction_of p r)) (config_of p r).tolerance_deg (get_or l.units (j - l.from) [])) d l.initial.numbers l.numbers)
+    (length l.entries ≡ length l.initial.entries)
+    × ((d : _) → ColumnsWritten (rows_of p) (times_of p) l.row l.from (length l.units) (λ r j. g.C.Cells.entry l.cells (body_axes (direction_of p r)) (config_of p r).tolerance_deg (get_or l.units (j - l.from) [])) d l.initial.entries l.entries)

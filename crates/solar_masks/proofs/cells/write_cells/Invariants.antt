@@ -10,8 +10,8 @@ use Rattle.solar_masks.proofs.cells.write_cells.Given as goal
 abbrev pub invariant-loop-from : goal.invariant-loop-from
 invariant-loop-from g l =
     let p = lent l.plan in
-    (l.from ≤ times_of p) × (length l.units ≡ 2048) × (length l.numbers ≡ length l.initial.numbers)
-    × ((d : _) → ColumnsWritten (rows_of p) (times_of p) (rows_of p) 0 l.from (λ r j. g.C.Cells.number l.cells (body_axes (direction_of p r)) (config_of p r).tolerance_deg (sun_at p j)) d l.initial.numbers l.numbers)
+    (l.from ≤ times_of p) × (length l.units ≡ 2048) × (length l.entries ≡ length l.initial.entries)
+    × ((d : _) → ColumnsWritten (rows_of p) (times_of p) (rows_of p) 0 l.from (λ r j. g.C.Cells.entry l.cells (body_axes (direction_of p r)) (config_of p r).tolerance_deg (sun_at p j)) d l.initial.entries l.entries)
 
 abbrev pub decreases-loop-from : goal.decreases-loop-from
 decreases-loop-from g l = l.times - l.from

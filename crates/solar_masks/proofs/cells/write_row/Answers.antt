@@ -1,4 +1,4 @@
--- `write_row`: before a tile, the numbers of the cells before it stand. Assumes nothing.
+-- `write_row`: before a tile, the entries of the cells before it stand. Assumes nothing.
 use Prim.Native.Nat.{ℕ, ◌+◌, ◌≤◌}
 use mathlib.Core.Path.{◌≡◌, ap, ◌∙◌}
 use mathlib.Core.List.{[]}
@@ -19,10 +19,10 @@ loop-from-preserved g c =
     let e : c.min-to.result ≡ at.from + 64 = omega (arith, c.min-to.ensures) in
     let up : at.from ≤ c.min-to.result = omega (arith, e) in
     let within : c.min-to.result ≤ length a.units.now = omega (arith, c.min-to.ensures) in
-    let f = g.C.Cells.number a.cells.now a.axes a.tolerance_deg in (
+    let f = g.C.Cells.entry a.cells.now a.axes a.tolerance_deg in (
       omega arith,
-      tile_next a.units.now at.from c.min-to.result f [] a.numbers.now at.numbers _ up within c.requires at.invariant.1 c.write.ensures
-          ∙ ap (λ (n : ℕ). filled n (λ k. f (get_or a.units.now k [])) a.numbers.now) e,
+      tile_next a.units.now at.from c.min-to.result f [] a.entries.now at.entries _ up within c.requires at.invariant.1 c.write.ensures
+          ∙ ap (λ (n : ℕ). filled n (λ k. f (get_or a.units.now k [])) a.entries.now) e,
     )
 
 pub returns : goal.returns
@@ -37,6 +37,6 @@ returns-2 g c =
     let e : c.min-to.result ≡ length a.units.now = omega (arith, c.min-to.ensures) in
     let up : at.from ≤ c.min-to.result = omega (arith, e) in
     let within : c.min-to.result ≤ length a.units.now = omega (arith, e) in
-    let f = g.C.Cells.number a.cells.now a.axes a.tolerance_deg in
-    tile_next a.units.now at.from c.min-to.result f [] a.numbers.now at.numbers _ up within c.requires at.invariant.1 c.write.ensures
-    ∙ ap (λ (n : ℕ). filled n (λ k. f (get_or a.units.now k [])) a.numbers.now) e
+    let f = g.C.Cells.entry a.cells.now a.axes a.tolerance_deg in
+    tile_next a.units.now at.from c.min-to.result f [] a.entries.now at.entries _ up within c.requires at.invariant.1 c.write.ensures
+    ∙ ap (λ (n : ℕ). filled n (λ k. f (get_or a.units.now k [])) a.entries.now) e

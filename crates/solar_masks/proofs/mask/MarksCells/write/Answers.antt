@@ -28,9 +28,9 @@ unfolding marked_by
 returns-in-Nothing c =
     let a = c.args in
     let n = length a.units.now in
-    let w : length (take n a.numbers.now) ≡ n = length-take-le n a.numbers.now c.requires.1 in
+    let w : length (take n a.entries.now) ≡ n = length-take-le n a.entries.now c.requires.1 in
     let zeros : c.fill.new.self ≡ replicate n 0 = c.fill.ensures.after (λ y e. e) ∙ ap (λ (k : ℕ). replicate k 0) w in
-    ap (λ (t : List ℕ). t ++ drop n a.numbers.now) zeros ∙ replicated n 0 a.numbers.now ∙ filled_ext _ _ n a.numbers.now (λ k l. simp c.in-Nothing.is)
+    ap (λ (t : List ℕ). t ++ drop n a.entries.now) zeros ∙ replicated n 0 a.entries.now ∙ filled_ext _ _ n a.entries.now (λ k l. simp c.in-Nothing.is)
 
 pub loop-k-init : goal.loop-k-init
 loop-k-init c = filled_zero _ _
@@ -41,7 +41,7 @@ loop-k-preserved c =
     let a = c.args in
     let k = c.loop-k.k in
     let u : k < length a.units.now = omega arith in
-    let l : k < length a.numbers.now = omega (arith, c.requires.1) in
+    let l : k < length a.entries.now = omega (arith, c.requires.1) in
     let roll : get_or c.rolls_deg_in.new.rolls k nan ≡ roll_deg_in a.axes (get_or a.units.now k []) a.self.now.panel.angle =
     ap (λ (x : List Float). get_or x k nan) c.rolls_deg_in.ensures ∙ get_or_filled _ _ _ nan k (omega (arith, c.requires.0)) in
     rw c.loop-k.invariant (filled_next _ _ _ _ l (simp (c.mark_byte.ensures, c.free_or_at-cell.ensures, roll)))

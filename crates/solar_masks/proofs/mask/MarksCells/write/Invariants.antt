@@ -9,4 +9,4 @@ use Rattle.solar_masks.specs.Mask.{marked_by}
 use Rattle.solar_masks.proofs.mask.MarksCells.write.Given as goal
 
 abbrev pub invariant-loop-k : goal.invariant-loop-k
-invariant-loop-k l = l.numbers ≡ filled l.k (λ t. flag (marked_by (roll_in l.axes (get_or l.units t []) l.self.panel) l.self.rule l.tolerance_deg)) l.initial.numbers
+invariant-loop-k l = l.entries ≡ filled l.k (λ t. flag (marked_by (roll_in l.axes (get_or l.units t []) l.self.panel) l.self.rule l.tolerance_deg)) l.initial.entries
