@@ -1,18 +1,18 @@
 -- Records, columns, seconds and refusals by computation. Assumes nothing.
-use Rattle.std.proofs.Common.{◌≡◌, ℕ, true, false, List, [], ◌∷◌, ℤ, pos, negsuc, refl}
+use Rattle.std.proofs.Common.{◌≡◌, ℕ, true, false, List, [], ◌∷◌, ℤ, pos, negsuc, Ok, Err, refl}
 use lib.Ieee.{Float, nan, binary64, of_bits, of_int, lt}
 use Rattle.buffers.specs.Ranges.{any}
 use Rattle.buffers.specs.Lent.{over}
-use Rattle.buffers.specs.Refusal.{first, refused, accepted, reply, unless_refused}
+use Rattle.buffers.specs.Refusal.{first, refused, accepted, reply, unless_refused, number_of, replied}
+use Rattle.buffers.specs.declared.reasons.Refusal.{Refusal}
 use Rattle.float.specs.Arithmetic.{zero·0, sign_bit_of, finite}
 use Rattle.windows.specs.Runs.{runs_from, samples_are, filter, rule_v, violation_runs, visibility_runs}
 use Rattle.windows.specs.Windows.{larger, largest_from, largest, window_of, violation_windows, visibility_windows, columns}
 use Rattle.windows.specs.Refusal.{beyond, bad_mark, bad_severity, differ, no_room, windows_refusal, violation_refusal, visibility_refusal}
 use Rattle.windows.specs.Expand.{expand_refusal}
-use Rattle.windows.specs.Seconds.{seconds, total_seconds, duration_refusal, reply_of_duration}
+use Rattle.windows.specs.Seconds.{seconds, total_seconds, duration_refusal}
 use Rattle.windows.specs.Calls.{violation_records_reply, violation_records, visibility_records_reply, visibility_records, expand_reply, duration_reply}
 use Rattle.windows.specs.declared.Window.{Window}
-use Rattle.windows.specs.declared.Duration.TheVariants.{Seconds, Refused}
 
 -- a whole number as an f64
 abbrev number : ℕ → Float
@@ -105,6 +105,5 @@ pub durations :
 unfolding duration_refusal total_seconds seconds differ beyond any first reply of_int
 durations = (refl, refl, refl, refl)
 
-pub of_duration : (x : Float) (k : ℕ) → (reply_of_duration (Seconds x) ≡ accepted x) × (reply_of_duration (Refused k) ≡ refused k)
-unfolding reply_of_duration
-of_duration x k = (refl, refl)
+pub of_duration : (x : Float) (e : Refusal) → (replied (Ok x) ≡ accepted x) × (replied {A = Float} (Err e) ≡ refused (number_of e))
+of_duration x e = (refl, refl)

@@ -142,20 +142,10 @@ module _ (l : Listing) (mask : List ℕ) where
 
   -- a run that is found, and the end of the row
   pub next_some : (from i j : ℕ) → from ≤ i → Stopped (byte_of l) mask i j → runs_left l mask i ≡ runs_left l mask from → keeps l (length mask) (run i (j - 1)) ≡ true → IsNextRun l mask from i j
-  next_some from i j h s w e = record {
-    within = s.in_row;
-    onward = λ k. omega (arith, s.later);
-    some = λ k. sym w ∙ left_kept i j s e;
-    none = λ k. let z : ⊥ = omega (arith, s.later) in absurd z;
-  }
+  next_some from i j h s w e = record { within = s.in_row; onward = omega (arith, s.later); some = s.later; left = sym w ∙ left_kept i j s e }
 
-  pub next_none : (from i n : ℕ) → n ≡ length mask → length mask ≤ i → runs_left l mask i ≡ runs_left l mask from → IsNextRun l mask from n n
-  next_none from i n e h w = record {
-    within = omega arith;
-    onward = λ k. omega arith;
-    some = λ k. let z : ⊥ = omega arith in absurd z;
-    none = λ k. (sym w ∙ left_none i h, e);
-  }
+  pub next_none : (from i : ℕ) → length mask ≤ i → runs_left l mask i ≡ runs_left l mask from → runs_left l mask from ≡ []
+  next_none from i h w = sym w ∙ left_none i h
 
 -- ---- the whole listing
 

@@ -1,16 +1,18 @@
--- Refusals of the window calls: what an accepted call knows, and what follows from an answer for what is written. Assumes nothing.
-use Rattle.std.proofs.Common.{◌≡◌, ℕ, zero, suc, ◌<◌, ◌≤◌, Bool, true, false, not, ◌||◌, eqb, ◌⊎◌, List, [], ◌∷◌, length, get_or, ℤ, refl, ap, ◌∙◌, inl, inr, arith, ltb-false, le-ltb, lt-ltb, eq-eqb, eqb-true}
+-- Refusals of the window calls: what an accepted call knows, and what a test's answer says. Assumes nothing.
+use Rattle.std.proofs.Common.{◌≡◌, ℕ, zero, suc, ◌<◌, ◌≤◌, Bool, true, false, not, ◌||◌, eqb, List, [], ◌∷◌, length, get_or, ltb, ℤ, sym, refl, ap, ◌∙◌, arith, ltb-false, le-ltb, lt-ltb, eq-eqb, eqb-true}
 use lib.Ieee.{Float}
+use Rattle.std.specs.Int.{from_bool}
+use Rattle.std.specs.List.{list_any, slice_get}
+use Rattle.std.specs.Option.{unwrap_or}
 use borrow.Author.Tests.{not-false}
-use Rattle.buffers.specs.Ranges.{any}
-use Rattle.buffers.specs.Refusal.{first, Reply, reply}
+use Rattle.buffers.specs.Ranges.{flag, any}
+use Rattle.buffers.specs.Refusal.{first, refused, reply}
 use Rattle.buffers.proofs.Tests.{or_left, or_right}
 use Rattle.buffers.proofs.Ranges.{any_get_or}
 use Rattle.buffers.proofs.Refusals.{first_clears}
-use Rattle.windows.specs.Refusal.{most_lent, beyond, bad_mark, bad_severity, differ, windows_conditions, windows_refusal}
+use Rattle.windows.specs.Refusal.{most_lent, beyond, bad_mark, bad_severity, differ, no_room, windows_conditions, windows_refusal}
 use Rattle.windows.specs.Expand.{expand_conditions, expand_refusal}
 use Rattle.windows.specs.Seconds.{duration_conditions, duration_refusal}
-use Rattle.windows.specs.Steps.{count_of}
 
 -- ---- lengths that do not differ
 
@@ -69,12 +71,28 @@ duration_accepted firsts lasts e =
       last = or_right (any beyond firsts) (any beyond lasts) c.1.1.0;
     }
 
--- ---- how many windows are written after an answer
+-- ---- a refusal is the one that the definition gives
 
-pub counted : (why n count : ℕ) (r : Reply ℕ) → r ≡ reply why n → count ≡ count_of r → ((why ≡ 0) × (count ≡ n)) ⊎ ((0 < why) × (count ≡ 0))
-unfolding reply count_of
-counted zero n count r e h = inl (refl, h ∙ ap count_of e)
-counted (suc k) n count r e h = inr (omega arith, h ∙ ap count_of e)
+pub refused_by : {A : Type 0} (j k : ℕ) (a : A) → refused j ≡ reply k a → j ≡ k
+unfolding reply
+refused_by j zero a e = cc
+refused_by j (suc k) a e = cc
+
+-- ---- this project's words and std's
+
+pub any_list : {A : Type 0} (p : A → Bool) (l : List A) → list_any p l ≡ any p l
+unfolding any
+any_list p [] = refl
+any_list p (x ∷ l) = ap (λ (b : Bool). p x || b) (any_list p l)
+
+pub byte_flag : (b : Bool) → from_bool b ≡ flag b
+byte_flag true = refl
+byte_flag false = refl
+
+pub short_is : (ps : List ℕ) (p n count : ℕ) → p ≡ unwrap_or (slice_get ps 0) 0 → count ≡ n → no_room ps n ≡ ltb p count
+unfolding no_room
+short_is [] p n count e h = sym (ap (ltb p) h ∙ ap (λ (m : ℕ). ltb m n) e)
+short_is (q ∷ ps) p n count e h = sym (ap (ltb p) h ∙ ap (λ (m : ℕ). ltb m n) e)
 
 -- ---- *Windows*, test by test
 

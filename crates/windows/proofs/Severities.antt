@@ -1,7 +1,8 @@
 -- Severities: which floats are none, by their bits; and that a run's severity is the largest of its samples', one of them with none above it. Assumes
 -- nothing.
-use Rattle.std.proofs.Common.{◌≡◌, ℕ, zero, suc, ◌+◌, ◌-◌, ◌*◌, ◌/◌, ◌%◌, ◌<◌, ◌≤◌, Bool, true, false, cond, ◌||◌, T, eqb, leb, List, get_or, sym, refl, ap, ◌∙◌, subst, ⊎_elim, true≢false, eq-or-lt_of_le, add-one, arith, ltb-false, ltb-true, le-ltb, eq-eqb, ne_eqb, le-leb}
+use Rattle.std.proofs.Common.{◌≡◌, ℕ, zero, suc, ◌+◌, ◌-◌, ◌*◌, ◌/◌, ◌%◌, ◌<◌, ◌≤◌, Bool, true, false, cond, ◌||◌, T, eqb, leb, List, length, get_or, take, drop, sym, refl, ap, ◌∙◌, subst, ⊎_elim, true≢false, eq-or-lt_of_le, add-one, arith, ltb-false, ltb-true, le-ltb, eq-eqb, ne_eqb, le-leb}
 use native.Mathlib.Decide.{dec_le}
+use Rattle.std.proofs.lemmas.Grind.{elements}
 use mathlib.Core.Bool.{or-true, or-false}
 use lib.Ieee as Ieee
 use lib.Ieee.{Float, nan, inf, fin, binary64, odd, of_fields, of_bits, to_bits, fits, low, hid, up, down}
@@ -61,19 +62,15 @@ severity_bits x f = by_bits (to_bits binary64 x) ∙ sym (of_bits_lem (to_bits b
 
 -- ---- a loop that looks for the largest: one sample more
 
-pub largest_yes : (xs : List Float) (s n i : ℕ) (m : Float) → i ≡ s + n → Ieee.lt m (get_or xs (i + 1) nan) ≡ true → m ≡ largest_from xs s n → get_or xs (i + 1) nan ≡ largest_from xs s (n + 1)
-unfolding largest_from larger
-largest_yes xs s n i m e t h =
-    let q : i + 1 ≡ s + suc n = omega arith in
-    let u : Ieee.lt (largest_from xs s n) (get_or xs (s + suc n) nan) ≡ true = subst (λ (j : ℕ). Ieee.lt (largest_from xs s n) (get_or xs j nan) ≡ true) q (subst (λ (y : Float). Ieee.lt y (get_or xs (i + 1) nan) ≡ true) h t) in
-    rw (add-one n) (sym (ap (λ (b : Bool). cond b (get_or xs (s + suc n) nan) (largest_from xs s n)) u ∙ ap (λ (j : ℕ). get_or xs j nan) (sym q)))
+-- the samples that it looks at
+pub sample_at : (xs : List Float) (s t n : ℕ) → n < length (take (t + 1 - (s + 1)) (drop (s + 1) xs)) → get_or (take (t + 1 - (s + 1)) (drop (s + 1) xs)) n nan ≡ get_or xs (s + suc n) nan
+sample_at xs s t n h = grind (arith, elements)
 
-pub largest_no : (xs : List Float) (s n i : ℕ) (m : Float) → i ≡ s + n → Ieee.lt m (get_or xs (i + 1) nan) ≡ false → m ≡ largest_from xs s n → m ≡ largest_from xs s (n + 1)
+pub largest_next : (xs : List Float) (s n : ℕ) (m x y : Float) (b : Bool) → x ≡ get_or xs (s + suc n) nan → Ieee.lt m x ≡ b → y ≡ cond b x m → m ≡ largest_from xs s n → y ≡ largest_from xs s (n + 1)
 unfolding largest_from larger
-largest_no xs s n i m e t h =
-    let q : i + 1 ≡ s + suc n = omega arith in
-    let u : Ieee.lt (largest_from xs s n) (get_or xs (s + suc n) nan) ≡ false = subst (λ (j : ℕ). Ieee.lt (largest_from xs s n) (get_or xs j nan) ≡ false) q (subst (λ (y : Float). Ieee.lt y (get_or xs (i + 1) nan) ≡ false) h t) in
-    rw (add-one n) (h ∙ sym (ap (λ (b : Bool). cond b (get_or xs (s + suc n) nan) (largest_from xs s n)) u))
+largest_next xs s n m x y b e t q h =
+    rw (add-one n)
+    (q ∙ ap (λ (c : Bool). cond c x m) (sym t) ∙ ap (λ (z : Float). larger z x) h ∙ ap (larger (largest_from xs s n)) e)
 
 -- ---- the largest: one of them, with none above it
 

@@ -1,8 +1,12 @@
 -- The expansion, time by time: what its loops ask. In order: windows from number j on; the order of the times; the mask, of which a part is
 -- written and the rest is to come. Assumes nothing.
-use Rattle.std.proofs.Common.{◌≡◌, ℕ, zero, suc, ◌+◌, ◌<◌, ◌≤◌, Bool, true, false, cond, not, ◌&&◌, List, [], ◌∷◌, ◌++◌, length, get_or, drop, ℤ, pos, sym, refl, ap, ◌∙◌, append_assoc, append-nil, add-one, arith, drop_of_length-le, drop-cons}
+use Rattle.std.proofs.Common.{◌≡◌, ℕ, zero, suc, ◌+◌, ◌<◌, ◌≤◌, Bool, true, false, cond, not, ◌&&◌, List, [], ◌∷◌, ◌++◌, length, get_or, drop, ℤ, pos, sym, refl, ap, ◌∙◌, subst, append_assoc, append-nil, add-one, arith, drop_of_length-le, drop-cons}
 use lib.Signed.{lt_z}
+use Rattle.std.specs.Ordering.{int_cmp, is_le}
+use Rattle.std.specs.List.{IsAllAdjacentAnswer, IsEachAdjacentAnswer}
+use Rattle.std.proofs.lemmas.Int.{ints}
 use Rattle.buffers.specs.Ranges.{flag}
+use Rattle.buffers.proofs.Tests.{and_false}
 use Rattle.windows.specs.Expand.{Span, span, spans, in_order, skip, in_first, expanded_in_order, in_some, expanded_reordered}
 
 length_spans : (F L : List ℤ) → length L ≡ length F → length (spans F L) ≡ length L
@@ -43,19 +47,19 @@ module _ (F L : List ℤ) (e : length L ≡ length F) (j : ℕ) where
     unfolding skip
     skip_end h = ap (skip t) (spans_end h) ∙ sym (spans_end h)
 
-    pub first_none : length L ≤ j → 0 ≡ flag (in_first t (drop j (spans F L)))
+    pub first_none : length L ≤ j → false ≡ in_first t (drop j (spans F L))
     unfolding in_first
-    first_none h = sym (ap (λ (ws : List Span). flag (in_first t ws)) (spans_end h))
+    first_none h = sym (ap (in_first t) (spans_end h))
 
-    pub first_at : (x y : Bool) → j < length L → lt_z t (get_or F j (pos 0)) ≡ x → lt_z (get_or L j (pos 0)) t ≡ y → flag (in_first t (drop j (spans F L))) ≡ flag (not x && not y)
+    pub first_at : (x y : Bool) → j < length L → lt_z t (get_or F j (pos 0)) ≡ x → lt_z (get_or L j (pos 0)) t ≡ y → in_first t (drop j (spans F L)) ≡ (not x && not y)
     unfolding in_first
     first_at x y h a b =
-        ap (λ (ws : List Span). flag (in_first t ws)) (spans_at h)
-        ∙ ap (λ (z : Bool). flag (not z && not (lt_z (get_or L j (pos 0)) t))) a ∙ ap (λ (z : Bool). flag (not x && not z)) b
+        ap (in_first t) (spans_at h)
+        ∙ ap (λ (z : Bool). not z && not (lt_z (get_or L j (pos 0)) t)) a ∙ ap (λ (z : Bool). not x && not z) b
 
-    pub some_none : length L ≤ j → 0 ≡ flag (in_some t (drop j (spans F L)))
+    pub some_none : length L ≤ j → false ≡ in_some t (drop j (spans F L))
     unfolding in_some
-    some_none h = sym (ap (λ (ws : List Span). flag (in_some t ws)) (spans_end h))
+    some_none h = sym (ap (in_some t) (spans_end h))
 
     pub some_at : (x y : Bool) → j < length L → lt_z t (get_or F j (pos 0)) ≡ x → lt_z (get_or L j (pos 0)) t ≡ y
         → in_some t (drop j (spans F L)) ≡ cond x false (cond y (in_some t (drop (j + 1) (spans F L))) true)
@@ -72,24 +76,28 @@ module _ (F L : List ℤ) (e : length L ≡ length F) (j : ℕ) where
         ∙ ap (λ (z : Bool). cond z false (cond (lt_z (get_or L j (pos 0)) t) (in_some t (drop (j + 1) (spans F L))) true)) a
 
 -- ---- the order of the times
-module _ (ts : List ℤ) (i : ℕ) where
-  pub order_step : i + 1 < length ts → in_order (drop i ts) ≡ (not (lt_z (get_or ts (i + 1) (pos 0)) (get_or ts i (pos 0))) && in_order (drop (i + 1) ts))
-  unfolding in_order
-  order_step h =
-      let e1 : drop i ts ≡ get_or ts i (pos 0) ∷ drop (i + 1) ts = drop-cons ts i (pos 0) (omega arith) ∙ ap (λ (k : ℕ). get_or ts i (pos 0) ∷ drop k ts) (sym (add-one i)) in
-      let e2 : drop (i + 1) ts ≡ get_or ts (i + 1) (pos 0) ∷ drop (suc (i + 1)) ts = drop-cons ts (i + 1) (pos 0) h in
-      ap in_order (e1 ∙ ap (λ (l : List ℤ). get_or ts i (pos 0) ∷ l) e2)
-      ∙ ap (λ (l : List ℤ). not (lt_z (get_or ts (i + 1) (pos 0)) (get_or ts i (pos 0))) && in_order l) (sym e2)
+not_after : (x y : ℤ) → is_le (int_cmp x y) ≡ not (lt_z y x)
+not_after x y = grind (arith, ints)
 
-  pub order_end : i < length ts → length ts ≤ i + 1 → in_order (drop i ts) ≡ true
-  unfolding in_order
-  order_end h k = let q : length ts ≤ suc i = omega arith in ap in_order (drop-cons ts i (pos 0) h ∙ ap (λ (l : List ℤ). get_or ts i (pos 0) ∷ l) (drop_of_length-le ts q))
+-- each time is not after the next, by the index of the first of both
+in_order_yes : (ts : List ℤ) → ((k : ℕ) (d : ℤ) → suc k < length ts → is_le (int_cmp (get_or ts k d) (get_or ts (suc k) d)) ≡ true) → in_order ts ≡ true
+unfolding in_order
+in_order_yes [] h = refl
+in_order_yes (t ∷ []) h = refl
+in_order_yes (t ∷ u ∷ ts) h =
+    ap (λ (b : Bool). b && in_order (u ∷ ts)) (sym (not_after t u) ∙ h 0 (pos 0) (omega arith))
+    ∙ in_order_yes (u ∷ ts) (λ k d q. h (suc k) d (omega arith))
 
-  pub order_bad : i + 1 < length ts → lt_z (get_or ts (i + 1) (pos 0)) (get_or ts i (pos 0)) ≡ true → in_order (drop i ts) ≡ false
-  order_bad h e = order_step h ∙ ap (λ (b : Bool). not b && in_order (drop (i + 1) ts)) e
+in_order_no : (ts : List ℤ) (k : ℕ) → suc k < length ts → ((d : ℤ) → is_le (int_cmp (get_or ts k d) (get_or ts (suc k) d)) ≡ false) → in_order ts ≡ false
+unfolding in_order
+in_order_no [] k q h = let z : ⊥ = omega arith in absurd z
+in_order_no (t ∷ []) k q h = let z : ⊥ = omega arith in absurd z
+in_order_no (t ∷ u ∷ ts) zero q h = ap (λ (b : Bool). b && in_order (u ∷ ts)) (sym (not_after t u) ∙ h (pos 0))
+in_order_no (t ∷ u ∷ ts) (suc k) q h = ap (λ (b : Bool). not (lt_z u t) && b) (in_order_no (u ∷ ts) k (omega arith) h) ∙ and_false (not (lt_z u t))
 
-  pub order_good : i + 1 < length ts → lt_z (get_or ts (i + 1) (pos 0)) (get_or ts i (pos 0)) ≡ false → in_order (drop i ts) ≡ in_order (drop (i + 1) ts)
-  order_good h e = order_step h ∙ ap (λ (b : Bool). not b && in_order (drop (i + 1) ts)) e
+pub sorted_in_order : (ts : List ℤ) (r : Bool) → IsEachAdjacentAnswer (λ x y b. is_le (int_cmp x y) ≡ b) ts r → IsAllAdjacentAnswer (λ x y b. is_le (int_cmp x y) ≡ b) ts r → r ≡ in_order ts
+sorted_in_order ts true h g = sym (in_order_yes ts (λ k d q. subst (λ (j : ℕ). is_le (int_cmp (get_or ts k d) (get_or ts j d)) ≡ true) (add-one k) (h k d (omega arith)).1))
+sorted_in_order ts false h g = sym (in_order_no ts g.0 (omega (arith, g.1)) (λ d. subst (λ (j : ℕ). is_le (int_cmp (get_or ts g.0 d) (get_or ts j d)) ≡ false) (add-one g.0) (g.2 d)))
 
 -- ---- the mask, sample by sample: `done` is written, the rest is to come
 module _ (ts : List ℤ) (ws : List Span) (i : ℕ) (done total : List ℕ) where

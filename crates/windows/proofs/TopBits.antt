@@ -30,14 +30,14 @@ top_or a b = elim (dec_le 0x8000_0000_0000_0000 a) [
   ]
 ]
 
--- a loop that has joined the numbers of the elements before i: one more, whose top bit says whether its element has the property
-pub join_next : {A : Type 0} (p : A → Bool) (l : List A) (d : A) (i found n : ℕ) → i < length l → top_bit n ≡ p (get_or l i d)
-    → (top_bit found || any p (drop i l)) ≡ any p l → (top_bit (bit_or found n) || any p (drop (i + 1) l)) ≡ any p l
-join_next p l d i found n h e w = ap (λ (t : Bool). t || any p (drop (i + 1) l)) (top_or found n ∙ ap (λ (t : Bool). top_bit found || t) e) ∙ go (p (get_or l i d)) refl
-  where
-    go : (t : Bool) → p (get_or l i d) ≡ t → ((top_bit found || t) || any p (drop (i + 1) l)) ≡ any p l
-    go true q = ap (λ (t : Bool). t || any p (drop (i + 1) l)) (or-true (top_bit found)) ∙ gather_hit p l d i (top_bit found) h q w
-    go false q = ap (λ (t : Bool). t || any p (drop (i + 1) l)) (or-false (top_bit found)) ∙ gather_miss p l d i (top_bit found) h q w
+-- a loop that has gathered what the elements before i say: one more; the same where the top bit of a number says whether its element has the property
+module _ {A : Type 0} (p : A → Bool) (l : List A) (d : A) (i : ℕ) where
+  pub gather_more : (b c : Bool) → i < length l → c ≡ p (get_or l i d) → (b || any p (drop i l)) ≡ any p l → ((b || c) || any p (drop (i + 1) l)) ≡ any p l
+  gather_more b true h e w = ap (λ (t : Bool). t || any p (drop (i + 1) l)) (or-true b) ∙ gather_hit p l d i b h (sym e) w
+  gather_more b false h e w = ap (λ (t : Bool). t || any p (drop (i + 1) l)) (or-false b) ∙ gather_miss p l d i b h (sym e) w
+
+  pub join_next : (found n : ℕ) → i < length l → top_bit n ≡ p (get_or l i d) → (top_bit found || any p (drop i l)) ≡ any p l → (top_bit (bit_or found n) || any p (drop (i + 1) l)) ≡ any p l
+  join_next found n h e w = ap (λ (t : Bool). t || any p (drop (i + 1) l)) (top_or found n) ∙ gather_more (top_bit found) (top_bit n) h e w
 
 -- ---- severities
 

@@ -3,11 +3,9 @@ use Rattle.std.specs.Prelude.{ℕ, ◌||◌, List, [], ◌∷◌, length, ℤ, p
 use Rattle.std.specs.Float.{binary64}
 use Rattle.std.specs.Float.Ieee.{of_int}
 use Rattle.buffers.specs.Ranges.{any}
-use Rattle.buffers.specs.Refusal.{Conditions, first, Reply, refused, accepted}
+use Rattle.buffers.specs.Refusal.{Conditions, first}
 use Rattle.float.specs.Arithmetic.{◌⊕◌}
 use Rattle.windows.specs.Refusal.{most_lent, beyond, differ}
-use Rattle.windows.specs.declared.Duration.{Duration}
-use Rattle.windows.specs.declared.Duration.TheVariants.{Seconds, Refused}
 
 -- a window's length in whole seconds, toward zero
 unfoldable pub seconds : ℤ → ℤ → ℤ
@@ -39,8 +37,3 @@ duration_conditions firsts lasts =
 unfoldable pub duration_refusal : List ℤ → List ℤ → ℕ
 unfolding first
 duration_refusal firsts lasts = first (duration_conditions firsts lasts)
-
--- the number and the value of each case of the answer
-unfoldable pub reply_of_duration : Duration → Reply Float
-reply_of_duration (Seconds x) = accepted x
-reply_of_duration (Refused k) = refused k

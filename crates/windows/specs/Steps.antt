@@ -1,11 +1,11 @@
 -- What the private functions of the listings say to one another: which runs a listing gives, and what is left of them from a sample on. No public
 -- contract cites these. Definitions only. Assumes nothing.
-use Rattle.std.specs.Prelude.{◌≡◌, ℕ, suc, ◌+◌, ◌-◌, ◌<◌, ◌≤◌, Bool, true, cond, not, ◌&&◌, List, [], ◌∷◌, map, length, drop, ℤ, nat_le, slice_set, Float}
+use Rattle.std.specs.Prelude.{◌≡◌, ℕ, suc, ◌+◌, ◌-◌, ◌<◌, ◌≤◌, Bool, true, cond, not, ◌&&◌, ◌||◌, List, [], ◌∷◌, map, length, drop, ℤ, nat_le, slice_set, Float}
 use Rattle.buffers.specs.Ranges.{flag}
-use Rattle.buffers.specs.Refusal.{Reply, refused, accepted}
 use Rattle.float.specs.Arithmetic.{zero·0}
 use Rattle.windows.specs.Runs.{Run, run, shut, runs_from, samples_are, filter, rule_v}
 use Rattle.windows.specs.Windows.{Columns, largest, window_of}
+use Rattle.windows.specs.Refusal.{differ, no_room, windows_refusal}
 use Rattle.windows.specs.declared.Window.{Window}
 use Rattle.windows.specs.declared.Listing.{Listing}
 use Rattle.windows.specs.declared.Listing.TheVariants.{Violations, Visibility}
@@ -51,12 +51,24 @@ unfoldable pub windows_left : Listing → List ℕ → List ℤ → List Float �
 unfolding window_of severity_of runs_left
 windows_left l mask times severities i = map (window_of times (severity_of l severities)) (runs_left l mask i)
 
--- the next run of a listing from sample `from` on goes from `first` to `end` - 1; if there is none, both are the row's length
+-- the next run of a listing from sample `from` on goes from `first` to `end` - 1
 pub record IsNextRun (l : Listing) (mask : List ℕ) (from first end : ℕ) : Type 0 where
   pub within : end ≤ length mask
-  pub onward : from < length mask → from < end
-  pub some : first < end → runs_left l mask from ≡ run first (end - 1) ∷ runs_left l mask end
-  pub none : end ≤ first → (runs_left l mask from ≡ []) × (end ≡ length mask)
+  pub onward : from < end
+  pub some : first < end
+  pub left : runs_left l mask from ≡ run first (end - 1) ∷ runs_left l mask end
+
+-- a row's lists differ in length: visibility looks at no severities
+unfoldable pub uneven : Listing → List ℕ → List ℤ → List Float → Bool
+unfolding differ
+uneven Violations mask times severities = differ (length mask ∷ length times ∷ length severities ∷ [])
+uneven Visibility mask times severities = differ (length mask ∷ length times ∷ [])
+
+-- why a listing is refused, 0 for none: `places` are the lengths of the lists that it is lent for windows
+unfoldable pub listing_refusal : Listing → List ℕ → List ℤ → List Float → List ℕ → ℕ
+unfolding uneven differ windows_refusal no_room runs_left
+listing_refusal l mask times severities places =
+    windows_refusal (uneven l mask times severities || differ places) mask times severities (no_room places (length (runs_left l mask 0)))
 
 -- a row of samples that a listing has accepted
 pub record Row (l : Listing) (mask : List ℕ) (times : List ℤ) (severities : List Float) : Type 0 where
@@ -71,11 +83,6 @@ pub record Room (n : ℕ) (c : Columns) : Type 0 where
   pub last_time : n ≤ length c.last_time
   pub severity : n ≤ length c.severity
   pub is_last : n ≤ length c.is_last
-
--- how many windows are written after an answer
-unfoldable pub count_of : Reply ℕ → ℕ
-count_of (refused k) = 0
-count_of (accepted n) = n
 
 -- the columns with a window stored at place k
 unfoldable pub stored : ℕ → Window → Columns → Columns

@@ -1,13 +1,12 @@
 // Windows back to a mask: `_get_constraint_vec`, both branches.
 ghost use Rattle.std.specs.Prelude.{◌≡◌, ◌<◌, ◌≤◌, List, length, drop, pos, int_lt, slice_index_or};
-ghost use Rattle.buffers.specs.Ranges.{flag};
 ghost use Rattle.buffers.specs.Lent.{over};
-ghost use Rattle.buffers.specs.Refusal.{reply_of};
+ghost use Rattle.buffers.specs.Refusal.{found, replied};
 ghost use Rattle.windows.specs.Expand.{Span, spans, in_order, skip, in_first, expanded_in_order, in_some, expanded_reordered, expand_refusal};
 ghost use Rattle.windows.specs.Calls.{expand_reply, expand_mask};
 
 use crate::refusal::{MOST_LENT, any_beyond};
-use buffers::Answer;
+use buffers::Refusal;
 
 // Whether time i of a is before time j of b.
 fn is_earlier(a: &[i64], i: usize, b: &[i64], j: usize) -> bool
@@ -23,18 +22,7 @@ fn is_earlier(a: &[i64], i: usize, b: &[i64], j: usize) -> bool
 fn in_order(times: &[i64]) -> bool
     ensures { result ≡ in_order times.now }
 {
-    let n = times.len();
-    if n == 0 {
-        return true;
-    }
-    let mut i = 0usize;
-    while i < n - 1 {
-        if is_earlier(times, i + 1, times, i) {
-            return false;
-        }
-        i += 1;
-    }
-    true
+    times.is_sorted()
 }
 
 // The first window from number `from` on that did not end before time i.
@@ -43,32 +31,23 @@ fn skip_ended(first: &[i64], last: &[i64], from: usize, times: &[i64], i: usize)
     ensures { let ws : List Span = spans first.now last.now in
         (result ≤ length last.now) × (drop result ws ≡ skip (slice_index_or times.now i (pos 0)) (drop from ws)) }
 {
-    let mut j = from;
-    while j < last.len() {
-        if is_earlier(last, j, times, i) {
-            j += 1;
-        } else {
+    for j in from..last.len() {
+        if !is_earlier(last, j, times, i) {
             return j;
         }
     }
-    j
+    last.len()
 }
 
-// 1 if time i lies in window j, 0 if not or if there is no such window.
-fn mark_in(first: &[i64], last: &[i64], j: usize, times: &[i64], i: usize) -> u8
+// Whether time i lies in window j. If there is no such window, it doesn't.
+fn is_in(first: &[i64], last: &[i64], j: usize, times: &[i64], i: usize) -> bool
     requires { (i < length times.now) × (length last.now ≡ length first.now) }
-    ensures { result ≡ flag (in_first (slice_index_or times.now i (pos 0)) (drop j (spans first.now last.now))) }
+    ensures { result ≡ in_first (slice_index_or times.now i (pos 0)) (drop j (spans first.now last.now)) }
 {
     if last.len() <= j {
-        return 0;
+        return false;
     }
-    if is_earlier(times, i, first, j) {
-        return 0;
-    }
-    if is_earlier(last, j, times, i) {
-        return 0;
-    }
-    1
+    !is_earlier(times, i, first, j) && !is_earlier(last, j, times, i)
 }
 
 // Times in order: windows that have ended are passed once, and not looked at again for later times.
@@ -77,31 +56,26 @@ fn expand_in_order(first: &[i64], last: &[i64], times: &[i64], mask: &mut [u8])
     ensures { mask.new ≡ over (expanded_in_order times.now (spans first.now last.now)) mask.old }
 {
     let mut j = 0usize;
-    let mut i = 0usize;
-    while i < times.len() {
+    for i in 0..times.len() {
         j = skip_ended(first, last, j, times, i);
-        mask[i] = mark_in(first, last, j, times, i);
-        i += 1;
+        mask[i] = u8::from(is_in(first, last, j, times, i));
     }
 }
 
-// 1 if time i lies in a window that stands before the first window that starts after it.
-fn mark_among(first: &[i64], last: &[i64], times: &[i64], i: usize) -> u8
+// Whether time i lies in a window that stands before the first window that starts after it.
+fn is_among(first: &[i64], last: &[i64], times: &[i64], i: usize) -> bool
     requires { (i < length times.now) × (length last.now ≡ length first.now) }
-    ensures { result ≡ flag (in_some (slice_index_or times.now i (pos 0)) (spans first.now last.now)) }
+    ensures { result ≡ in_some (slice_index_or times.now i (pos 0)) (spans first.now last.now) }
 {
-    let mut j = 0usize;
-    while j < last.len() {
+    for j in 0..last.len() {
         if is_earlier(times, i, first, j) {
-            return 0;
+            return false;
         }
-        if is_earlier(last, j, times, i) {
-            j += 1;
-        } else {
-            return 1;
+        if !is_earlier(last, j, times, i) {
+            return true;
         }
     }
-    0
+    false
 }
 
 // Times in any order: the windows are looked through for each.
@@ -109,55 +83,55 @@ fn expand_reordered(first: &[i64], last: &[i64], times: &[i64], mask: &mut [u8])
     requires { (length times.now ≤ length mask.old) × (length last.now ≡ length first.now) }
     ensures { mask.new ≡ over (expanded_reordered times.now (spans first.now last.now)) mask.old }
 {
-    let mut i = 0usize;
-    while i < times.len() {
-        mask[i] = mark_among(first, last, times, i);
-        i += 1;
+    for i in 0..times.len() {
+        mask[i] = u8::from(is_among(first, last, times, i));
     }
 }
 
-// The number that expand refuses with, 0 where it accepts.
-fn expand_refusal(first: &[i64], last: &[i64], times: &[i64], places: usize) -> u64
-    ensures { result ≡ expand_refusal first.now last.now times.now places }
+// Why expand is refused, if it is.
+fn check_expand(first: &[i64], last: &[i64], times: &[i64], places: usize) -> Result<(), Refusal>
+    ensures { found result ≡ expand_refusal first.now last.now times.now places }
 {
     if last.len() != first.len() {
-        return 1;
+        return Err(Refusal::LengthsDoNotFit);
     }
     if MOST_LENT < first.len() {
-        return 2;
+        return Err(Refusal::TooLarge);
     }
     if MOST_LENT < times.len() {
-        return 2;
+        return Err(Refusal::TooLarge);
     }
     if any_beyond(first) {
-        return 8;
+        return Err(Refusal::TimeOutOfRange);
     }
     if any_beyond(last) {
-        return 8;
+        return Err(Refusal::TimeOutOfRange);
     }
     if any_beyond(times) {
-        return 8;
+        return Err(Refusal::TimeOutOfRange);
     }
     if places < times.len() {
-        return 7;
+        return Err(Refusal::OutputTooShort);
     }
-    0
+    Ok(())
 }
 
 // Writes a byte for each time: 1 where a window holds it, else 0. Accepts with 0.
 // Refuses 1, 2, 8, 7 (specs/Expand, `expand_refusal`).
-pub fn expand(first_time: &[i64], last_time: &[i64], times: &[i64], mask: &mut [u8]) -> Answer
-    ensures answer { reply_of result ≡ expand_reply first_time.now last_time.now times.now mask.old }
+pub fn expand(
+    first_time: &[i64],
+    last_time: &[i64],
+    times: &[i64],
+    mask: &mut [u8],
+) -> Result<u64, Refusal>
+    ensures answer { replied result ≡ expand_reply first_time.now last_time.now times.now mask.old }
     ensures mask { mask.new ≡ expand_mask first_time.now last_time.now times.now mask.old }
 {
-    let refused = expand_refusal(first_time, last_time, times, mask.len());
-    if refused != 0 {
-        return Answer::Refused(refused);
-    }
+    check_expand(first_time, last_time, times, mask.len())?;
     if in_order(times) {
         expand_in_order(first_time, last_time, times, mask);
     } else {
         expand_reordered(first_time, last_time, times, mask);
     }
-    Answer::Accepted(0)
+    Ok(0)
 }

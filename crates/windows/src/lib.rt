@@ -1,7 +1,7 @@
 // Windows of a row of samples (document 01, section 5): the listings of violation and of visibility windows, as columns
 // or as records, the expansion of windows back to a mask, and their total duration.
 //
-// A public function refuses by document 01's number and then writes nothing. Its contract gives its whole answer and every
+// A public function refuses by the name of document 01's number and then writes nothing. Its contract gives its whole answer and every
 // lent place by equality with the definitions of specs/.
 #![tactic(auto)]
 
@@ -30,16 +30,18 @@ pub struct Window {
     pub is_last: u64,
 }
 
-// Which windows a listing gives.
+// Which windows a listing gives. It says three things that belong together, the byte of a run, which runs are kept and the severity: as three closures
+// these would go along in every call.
 #[derive(Clone, Copy)]
 pub(crate) enum Listing {
     Violations,
     Visibility,
 }
 
-// What the total duration answers: the seconds, or document 01's number of the refusal.
+// A row of samples: a mask byte and a time of each and, for violation windows, a severity. Visibility windows are listed without severities.
 #[derive(Clone, Copy)]
-pub enum Duration {
-    Seconds(f64),
-    Refused(u64),
+pub(crate) struct Samples<'a> {
+    pub(crate) mask: &'a [u8],
+    pub(crate) times: &'a [i64],
+    pub(crate) severities: &'a [f64],
 }

@@ -1,13 +1,31 @@
-// The same listings, as records: each window comes by value, and is stored into a lent slice of structs.
-ghost use Rattle.std.specs.Prelude.{◌≡◌};
-ghost use Rattle.buffers.specs.Refusal.{reply_of};
+// The same listings, as records: each window is stored by value into a lent slice of structs.
+ghost use Rattle.std.specs.Prelude.{◌≡◌, ℕ, List, [], ◌∷◌, length};
+ghost use Rattle.buffers.specs.Lent.{over};
+ghost use Rattle.buffers.specs.Refusal.{reply, unless_refused, replied};
 ghost use Rattle.windows.specs.Calls.{violation_records_reply, violation_records, visibility_records_reply, visibility_records};
+ghost use Rattle.windows.specs.Steps.{windows_left, listing_refusal};
 
-use crate::Window;
-use crate::listings::{
-    accepted_count, violation_answer, violation_window, visibility_answer, visibility_window,
-};
-use buffers::Answer;
+use crate::listings::{count_windows, run_window};
+use crate::runs::next_run;
+use crate::{Listing, Samples, Window};
+use buffers::Refusal;
+
+// Either listing, as records.
+fn list_records(listing: Listing, row: &Samples, out: &mut [Window]) -> Result<u64, Refusal>
+    ensures { let left : List Window = windows_left listing row.now.mask.now row.now.times.now row.now.severities.now 0 in
+        let why : ℕ = listing_refusal listing row.now.mask.now row.now.times.now row.now.severities.now (length out.old ∷ []) in
+        (replied result ≡ reply why (length left))
+        × (out.new ≡ unless_refused why (over left out.old) out.old) }
+{
+    let count = count_windows(listing, row, &[out.len()])?;
+    let mut from = 0usize;
+    for k in 0..count {
+        let run = next_run(listing, row.mask, from).unwrap();
+        from = run.end;
+        out[k] = run_window(listing, row, run.start, from - 1);
+    }
+    Ok(count as u64)
+}
 
 // The violation windows of a row, as records. Answers how many there are.
 // Refuses 1, 2, 8, 14, 7 (specs/Refusal, `violation_refusal`).
@@ -16,38 +34,28 @@ pub fn violation_records(
     times: &[i64],
     severities: &[f64],
     out: &mut [Window],
-) -> Answer
-    ensures { (reply_of result ≡ violation_records_reply mask.now times.now severities.now out.old)
+) -> Result<u64, Refusal>
+    ensures { (replied result ≡ violation_records_reply mask.now times.now severities.now out.old)
         × (out.new ≡ violation_records mask.now times.now severities.now out.old) }
 {
-    let answer = violation_answer(mask, times, severities, false, out.len());
-    let count = accepted_count(answer);
-    let mut k = 0usize;
-    let mut from = 0usize;
-    while k < count {
-        let w = violation_window(mask, times, severities, from);
-        from = w.last as usize + 1;
-        out[k] = w;
-        k += 1;
-    }
-    answer
+    let row = Samples {
+        mask,
+        times,
+        severities,
+    };
+    list_records(Listing::Violations, &row, out)
 }
 
 // The visibility windows of a row, as records. Answers how many there are.
 // Refuses 1, 2, 8, 14, 7 (specs/Refusal, `visibility_refusal`).
-pub fn visibility_records(mask: &[u8], times: &[i64], out: &mut [Window]) -> Answer
-    ensures { (reply_of result ≡ visibility_records_reply mask.now times.now out.old)
+pub fn visibility_records(mask: &[u8], times: &[i64], out: &mut [Window]) -> Result<u64, Refusal>
+    ensures { (replied result ≡ visibility_records_reply mask.now times.now out.old)
         × (out.new ≡ visibility_records mask.now times.now out.old) }
 {
-    let answer = visibility_answer(mask, times, false, out.len());
-    let count = accepted_count(answer);
-    let mut k = 0usize;
-    let mut from = 0usize;
-    while k < count {
-        let w = visibility_window(mask, times, from);
-        from = w.last as usize + 1;
-        out[k] = w;
-        k += 1;
-    }
-    answer
+    let row = Samples {
+        mask,
+        times,
+        severities: &[],
+    };
+    list_records(Listing::Visibility, &row, out)
 }

@@ -1,7 +1,7 @@
 // What the window calls look at before they write: lengths, times, mask bytes and severities. Each scan looks at its whole
 // list, without a way out of the loop, so that it can run over many elements at a time. Of elements of 64 bits it joins one
 // number each by |, whose top bit says what is found: that costs less than comparisons of 64 bits.
-ghost use Rattle.std.specs.Prelude.{◌≡◌, [], ◌∷◌, int_lt};
+ghost use Rattle.std.specs.Prelude.{◌≡◌, int_lt};
 ghost use Rattle.buffers.specs.Ranges.{any};
 ghost use Rattle.windows.specs.Refusal.{beyond, bad_mark, bad_severity, differ};
 ghost use Rattle.windows.specs.Steps.{top_bit};
@@ -44,11 +44,8 @@ pub(crate) fn any_beyond(times: &[i64]) -> bool
     ensures { result ≡ any beyond times.now }
 {
     let mut found = 0u64;
-    let mut i = 0usize;
-    while i < times.len() {
-        let bit = beyond_bit(times[i]);
-        i += 1;
-        found |= bit;
+    for t in times {
+        found |= beyond_bit(*t);
     }
     0x8000_0000_0000_0000 <= found
 }
@@ -57,13 +54,8 @@ pub(crate) fn any_bad_mark(mask: &[u8]) -> bool
     ensures { result ≡ any bad_mark mask.now }
 {
     let mut found = false;
-    let mut i = 0usize;
-    while i < mask.len() {
-        let byte = mask[i];
-        i += 1;
-        if 1 < byte {
-            found = true;
-        }
+    for byte in mask {
+        found |= 1 < *byte;
     }
     found
 }
@@ -72,45 +64,18 @@ pub(crate) fn any_bad_severity(severities: &[f64]) -> bool
     ensures { result ≡ any bad_severity severities.now }
 {
     let mut found = 0u64;
-    let mut i = 0usize;
-    while i < severities.len() {
-        let bit = bad_severity_bit(severities[i]);
-        i += 1;
-        found |= bit;
+    for severity in severities {
+        found |= bad_severity_bit(*severity);
     }
     0x8000_0000_0000_0000 <= found
 }
 
-// Whether two lengths differ.
-pub(crate) fn differ_two(a: usize, b: usize) -> bool
-    ensures { result ≡ differ (a ∷ b ∷ []) }
+// Whether lengths differ: one of them is not the first.
+pub(crate) fn differ(lengths: &[usize]) -> bool
+    ensures { result ≡ differ lengths.now }
 {
-    b != a
-}
-
-pub(crate) fn differ_three(a: usize, b: usize, c: usize) -> bool
-    ensures { result ≡ differ (a ∷ b ∷ c ∷ []) }
-{
-    if b != a {
-        return true;
+    match lengths.split_first() {
+        Some((first, rest)) => rest.iter().any(|length| *length != *first),
+        None => false,
     }
-    c != a
-}
-
-pub(crate) fn differ_six(a: usize, b: usize, c: usize, d: usize, e: usize, f: usize) -> bool
-    ensures { result ≡ differ (a ∷ b ∷ c ∷ d ∷ e ∷ f ∷ []) }
-{
-    if b != a {
-        return true;
-    }
-    if c != a {
-        return true;
-    }
-    if d != a {
-        return true;
-    }
-    if e != a {
-        return true;
-    }
-    f != a
 }

@@ -1,19 +1,12 @@
 // The runs of a mask, one after the other.
-ghost use Rattle.std.specs.Prelude.{◌≡◌, ℕ, ◌+◌, ◌-◌, ◌<◌, ◌≤◌, false, not, ◌&&◌, length, drop, ◌==◌, nat_eq};
-ghost use Rattle.buffers.specs.Ranges.{flag};
+ghost use Rattle.std.specs.Prelude.{◌≡◌, ℕ, ◌+◌, ◌-◌, ◌<◌, ◌≤◌, false, not, ◌&&◌, [], length, drop, ◌==◌, nat_eq, MatchOption};
 ghost use Rattle.windows.specs.Runs.{run, samples_are};
 ghost use Rattle.windows.specs.Refusal.{most_lent};
 ghost use Rattle.windows.specs.Steps.{leading, starts, byte_of, keeps, runs_left, IsNextRun};
 
 use crate::Listing;
 use crate::refusal::MOST_LENT;
-
-// The samples from first to end - 1.
-#[derive(Clone, Copy)]
-pub(crate) struct Stretch {
-    pub(crate) first: usize,
-    pub(crate) end: usize,
-}
+use std::ops::Range;
 
 // The byte whose runs are listed.
 fn byte_of(listing: Listing) -> u8
@@ -57,10 +50,11 @@ fn end_of_run(mask: &[u8], v: u8, from: usize) -> usize
     i
 }
 
-// The next run that is listed from sample `from` on, where no run is open. If there is none, it is empty at the end of the row.
-pub(crate) fn next_run(listing: Listing, mask: &[u8], from: usize) -> Stretch
+// The next run that is listed from sample `from` on, where no run is open: its samples' numbers.
+pub(crate) fn next_run(listing: Listing, mask: &[u8], from: usize) -> Option<Range<usize>>
     requires { from ≤ length mask.now }
-    ensures { IsNextRun listing mask.now from result.first result.end }
+    ensures { MatchOption result (runs_left listing mask.now from ≡ [])
+        (λ r. IsNextRun listing mask.now from r.start r.end) }
 {
     let samples = mask.len();
     let v = byte_of(listing);
@@ -71,14 +65,11 @@ pub(crate) fn next_run(listing: Listing, mask: &[u8], from: usize) -> Stretch
         if mask[first] == v {
             at = end_of_run(mask, v, at);
             if is_listed(listing, first, at, samples) {
-                return Stretch { first, end: at };
+                return Some(first..at);
             }
         }
     }
-    Stretch {
-        first: samples,
-        end: samples,
-    }
+    None
 }
 
 // How many runs are listed, one after the other.
@@ -87,24 +78,18 @@ fn count_listed(listing: Listing, mask: &[u8]) -> usize
 {
     let mut count = 0usize;
     let mut from = 0usize;
-    while from < mask.len() {
-        let run = next_run(listing, mask, from);
+    while let Some(run) = next_run(listing, mask, from) {
         from = run.end;
-        if run.first < run.end {
-            count += 1;
-        }
+        count += 1;
     }
     count
 }
 
-// 1 if a run of marked samples starts at this byte.
-fn start_at(before: u8, byte: u8) -> u32
-    ensures { result ≡ flag (byte == 1 && not (before == 1)) }
+// Whether a run of marked samples starts at this byte.
+fn is_start(before: u8, byte: u8) -> bool
+    ensures { result ≡ (byte == 1 && not (before == 1)) }
 {
-    if byte != 1 {
-        return 0;
-    }
-    if before == 1 { 0 } else { 1 }
+    byte == 1 && before != 1
 }
 
 // How many runs of marked samples start in a row. No turn of the loop waits for the one before it, so that it can run over many
@@ -117,14 +102,10 @@ fn count_starts(mask: &[u8]) -> u32
         return 0;
     }
     let mut count = 0u32;
-    let mut i = 1usize;
-    while i < mask.len() {
-        let before = mask[i - 1];
-        let byte = mask[i];
-        i += 1;
-        count += start_at(before, byte);
+    for i in 1..mask.len() {
+        count += u32::from(is_start(mask[i - 1], mask[i]));
     }
-    count + start_at(0, mask[0])
+    count + u32::from(is_start(0, mask[0]))
 }
 
 // How many runs are listed. Every run of marked samples is, so that it is enough to count their starts.

@@ -2,12 +2,13 @@
 ghost use Rattle.std.specs.Prelude.{◌≡◌, ◌<◌, false, length, pos, slice_index_or};
 ghost use Rattle.std.specs.Float.{binary64};
 ghost use Rattle.std.specs.Float.Ieee.{of_int};
+ghost use Rattle.buffers.specs.Refusal.{found, replied};
 ghost use Rattle.windows.specs.Refusal.{beyond};
-ghost use Rattle.windows.specs.Seconds.{seconds, total_seconds, duration_refusal, reply_of_duration};
+ghost use Rattle.windows.specs.Seconds.{seconds, total_seconds, duration_refusal};
 ghost use Rattle.windows.specs.Calls.{duration_reply};
 
-use crate::Duration;
 use crate::refusal::{MOST_LENT, any_beyond};
+use buffers::Refusal;
 
 // Window k's length in whole seconds, toward zero.
 fn window_seconds(first: &[i64], last: &[i64], k: usize) -> f64
@@ -28,41 +29,36 @@ fn sum_seconds(first: &[i64], last: &[i64]) -> f64
     ensures { result ≡ of_int binary64 (total_seconds first.now last.now) }
 {
     let mut total = 0.0;
-    let mut k = 0usize;
-    while k < last.len() {
-        total = total + window_seconds(first, last, k);
-        k += 1;
+    for k in 0..last.len() {
+        total += window_seconds(first, last, k);
     }
     total
 }
 
-// The number that the total duration refuses with, 0 where it accepts.
-fn duration_refusal(first: &[i64], last: &[i64]) -> u64
-    ensures { result ≡ duration_refusal first.now last.now }
+// Why the total duration is refused, if it is.
+fn check_windows(first: &[i64], last: &[i64]) -> Result<(), Refusal>
+    ensures { found result ≡ duration_refusal first.now last.now }
 {
     if last.len() != first.len() {
-        return 1;
+        return Err(Refusal::LengthsDoNotFit);
     }
     if MOST_LENT < first.len() {
-        return 2;
+        return Err(Refusal::TooLarge);
     }
     if any_beyond(first) {
-        return 8;
+        return Err(Refusal::TimeOutOfRange);
     }
     if any_beyond(last) {
-        return 8;
+        return Err(Refusal::TimeOutOfRange);
     }
-    0
+    Ok(())
 }
 
 // The total duration of the windows in seconds: the whole-number sum, as an f64.
 // Refuses 1, 2, 8 (specs/Seconds, `duration_refusal`).
-pub fn total_violation_duration(first_time: &[i64], last_time: &[i64]) -> Duration
-    ensures { reply_of_duration result ≡ duration_reply first_time.now last_time.now }
+pub fn total_violation_duration(first_time: &[i64], last_time: &[i64]) -> Result<f64, Refusal>
+    ensures { replied result ≡ duration_reply first_time.now last_time.now }
 {
-    let refused = duration_refusal(first_time, last_time);
-    if refused != 0 {
-        return Duration::Refused(refused);
-    }
-    Duration::Seconds(sum_seconds(first_time, last_time))
+    check_windows(first_time, last_time)?;
+    Ok(sum_seconds(first_time, last_time))
 }

@@ -1,12 +1,9 @@
 -- `windows::expansion::expand_in_order` meets its contract. The invariant: i marks are written, and the rest comes from the windows from number j on. Assumes
 -- nothing.
-use Rattle.std.proofs.Common.{◌≡◌, ℕ, ◌-◌, ◌≤◌, List, ◌++◌, length, drop}
+use Rattle.std.proofs.Common.{◌≡◌, ℕ, ◌≤◌, List, ◌++◌, length, drop}
 use Rattle.buffers.specs.Lent.{over}
 use Rattle.windows.specs.Expand.{spans, expanded_in_order}
 use Rattle.windows.proofs.expansion.expand_in_order.Given as goal
 
 abbrev pub invariant-loop-i : goal.invariant-loop-i
-invariant-loop-i l = (l.i ≤ length l.times) × (l.j ≤ length l.last) × (done : List ℕ) × (length done ≡ l.i) × (l.mask ≡ over done l.initial.mask) × (done ++ expanded_in_order (drop l.i l.times) (drop l.j (spans l.first l.last)) ≡ expanded_in_order l.times (spans l.first l.last))
-
-abbrev pub decreases-loop-i : goal.decreases-loop-i
-decreases-loop-i l = length l.times - l.i
+invariant-loop-i l = (l.j ≤ length l.last) × (done : List ℕ) × (length done ≡ l.i) × (l.mask ≡ over done l.initial.mask) × (done ++ expanded_in_order (drop l.i l.times) (drop l.j (spans l.first l.last)) ≡ expanded_in_order l.times (spans l.first l.last))

@@ -1,16 +1,18 @@
--- `windows::expansion::skip_ended` meets its contract. The invariant: the windows passed ended before the time. Assumes nothing.
-use Rattle.std.proofs.Common.{get_or, pos, sym, refl, ◌∙◌, arith}
+-- `windows::expansion::skip_ended` meets its contract. Assumes nothing.
+use Rattle.std.proofs.Common.{◌≡◌, ℕ, length, get_or, drop, pos, sym, ap, ◌∙◌, arith}
+use Rattle.windows.specs.Expand.{spans, skip}
 use Rattle.windows.proofs.Spread.{skip_on, skip_stop, skip_end}
 use Rattle.windows.proofs.expansion.skip_ended.Goals as goal
 
-pub loop-j-init : goal.loop-j-init
-loop-j-init c = (omega arith, refl)
-
 pub loop-j-preserved : goal.loop-j-preserved
-loop-j-preserved c = (omega arith, sym (skip_on c.args.first.now c.args.last.now c.requires.2 c.loop-j.j (get_or c.args.times.now c.args.i (pos 0)) c.loop-j-test.true (sym c.is_earlier.ensures ∙ c.if-is_earlier.true)) ∙ c.loop-j.invariant.1)
+loop-j-preserved c = sym (skip_on c.args.first.now c.args.last.now c.requires.2 c.loop-j.j (get_or c.args.times.now c.args.i (pos 0)) c.loop-j-test.true (sym c.is_earlier.ensures ∙ c.if-not-is_earlier.false)) ∙ c.loop-j.invariant
 
-pub returns-else-is_earlier : goal.returns-else-is_earlier
-returns-else-is_earlier c = (c.loop-j.invariant.0, sym (skip_stop c.args.first.now c.args.last.now c.requires.2 c.loop-j.j (get_or c.args.times.now c.args.i (pos 0)) c.loop-j-test.true (sym c.is_earlier.ensures ∙ c.if-is_earlier.false)) ∙ c.loop-j.invariant.1)
+pub returns-then-not-is_earlier : goal.returns-then-not-is_earlier
+returns-then-not-is_earlier c = (omega arith, sym (skip_stop c.args.first.now c.args.last.now c.requires.2 c.loop-j.j (get_or c.args.times.now c.args.i (pos 0)) c.loop-j-test.true (sym c.is_earlier.ensures ∙ c.if-not-is_earlier.true)) ∙ c.loop-j.invariant)
 
 pub returns : goal.returns
-returns c = (c.loop-j.invariant.0, sym (skip_end c.args.first.now c.args.last.now c.requires.2 c.loop-j.j (get_or c.args.times.now c.args.i (pos 0)) c.loop-j-test.false) ∙ c.loop-j.invariant.1)
+returns c =
+    let t = get_or c.args.times.now c.args.i (pos 0) in
+    let n = length c.args.last.now in
+    let e : c.loop-j.j ≡ n = omega (arith, c.loop-j.auto.j-end c.requires.1) in
+    (omega arith, sym (skip_end c.args.first.now c.args.last.now c.requires.2 n t (omega arith)) ∙ ap (λ (j : ℕ). skip t (drop j (spans c.args.first.now c.args.last.now))) (sym e) ∙ c.loop-j.invariant)

@@ -1,10 +1,7 @@
 -- `windows::expansion::skip_ended` meets its contract. The invariant: the windows passed ended before the time. Assumes nothing.
-use Rattle.std.proofs.Common.{◌≡◌, ◌-◌, ◌≤◌, length, get_or, drop, pos}
+use Rattle.std.proofs.Common.{◌≡◌, get_or, drop, pos}
 use Rattle.windows.specs.Expand.{spans, skip}
 use Rattle.windows.proofs.expansion.skip_ended.Given as goal
 
 abbrev pub invariant-loop-j : goal.invariant-loop-j
-invariant-loop-j l = (l.j ≤ length l.last) × (skip (get_or l.times l.i (pos 0)) (drop l.j (spans l.first l.last)) ≡ skip (get_or l.times l.i (pos 0)) (drop l.from (spans l.first l.last)))
-
-abbrev pub decreases-loop-j : goal.decreases-loop-j
-decreases-loop-j l = length l.last - l.j
+invariant-loop-j l = skip (get_or l.times l.i (pos 0)) (drop l.j (spans l.first l.last)) ≡ skip (get_or l.times l.i (pos 0)) (drop l.from (spans l.first l.last))

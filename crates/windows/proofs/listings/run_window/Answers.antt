@@ -7,4 +7,4 @@ use Rattle.windows.proofs.listings.run_window.Goals as goal
 
 pub returns : goal.returns
 unfolding window_of
-returns c = c.window_at.ensures ∙ ap (λ (x : Float). window_of c.args.times.now (λ (_ : Run). x) (run c.args.first c.args.last)) c.severity_of-severity.ensures
+returns c = c.window_at.ensures ∙ ap (λ (x : Float). window_of c.args.row.now.times.now (λ (_ : Run). x) (run c.args.first c.args.last)) c.severity_of-severity.ensures

@@ -1,28 +1,7 @@
 -- `windows::records::visibility_records` meets its contract. Assumes nothing.
-use Rattle.std.proofs.Common.{[], false, ◌<◌, length, arith, rules}
-use Rattle.windows.specs.declared.Listing.TheVariants.{Visibility}
-use Rattle.windows.proofs.WindowLists.{Storable, visibility, records_ready, records_left, records_none, records_ask, records_next, records_last}
+use Rattle.buffers.specs.Lent.{over}
+use Rattle.windows.proofs.WindowLists.{visibility, listed}
 use Rattle.windows.proofs.records.visibility_records.Goals as goal
-use Rattle.windows.proofs.records.visibility_records.Goals.{After-accepted_count-count}
-
--- the count of windows that the answer says may be stored
-ready : (c : After-accepted_count-count) → Storable Visibility c.args.mask.now c.args.times.now [] false c.accepted_count-count.result (length c.args.out.now)
-ready c = records_ready (visibility c.args.mask.now c.args.times.now []) _ _ _ c.accepted_count-count.ensures c.visibility_answer-answer.ensures
-
-pub loop-k-init : goal.loop-k-init
-loop-k-init c = (omega arith, records_none _ _ _ _ _)
-
-pub visibility_window-w-requires : goal.visibility_window-w-requires
-visibility_window-w-requires c = records_ask _ _ _ _ _ _ _ _ _ (ready (goal.at.visibility_window-w-requires c).After-accepted_count-count) c.loop-k.invariant.0 c.loop-k.invariant.1 c.loop-k-test.true
-
-pub offset_bounds-out-k : goal.offset_bounds-out-k
-offset_bounds-out-k c = let b : c.loop-k.k < length c.args.out.now = omega (arith, (ready (goal.at.offset_bounds-out-k c).After-accepted_count-count).room) in search rules
-
-pub bounds-out-k : goal.bounds-out-k
-bounds-out-k c = omega (arith, (ready (goal.at.bounds-out-k c).After-accepted_count-count).room)
-
-pub loop-k-preserved : goal.loop-k-preserved
-loop-k-preserved c = (omega arith, records_next _ _ _ _ _ _ _ _ _ (ready (goal.at.loop-k-preserved c).After-accepted_count-count) c.loop-k.invariant.0 c.loop-k.invariant.1 c.loop-k-test.true _ c.visibility_window-w.ensures)
 
 pub returns : goal.returns
-returns c = records_left (visibility c.args.mask.now c.args.times.now []) _ _ _ c.accepted_count-count.ensures c.visibility_answer-answer.ensures _ (records_last _ _ _ _ _ _ _ _ _ (ready (goal.at.returns c).After-accepted_count-count) c.loop-k.invariant.0 c.loop-k.invariant.1 c.loop-k-test.false)
+returns c = listed (visibility c.args.mask.now c.args.times.now) (λ ws. over ws c.args.out.now) _ _ _ _ c.list_records.ensures

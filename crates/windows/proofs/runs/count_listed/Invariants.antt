@@ -3,8 +3,8 @@ use Rattle.std.proofs.Common.{◌≡◌, ◌+◌, ◌-◌, ◌≤◌, length}
 use Rattle.windows.specs.Steps.{runs_left}
 use Rattle.windows.proofs.runs.count_listed.Given as goal
 
-abbrev pub invariant-loop-from : goal.invariant-loop-from
-invariant-loop-from l = (l.from ≤ length l.mask) × (l.count + length (runs_left l.listing l.mask l.from) ≡ length (runs_left l.listing l.mask 0)) × (l.count ≤ l.from)
+abbrev pub invariant-loop-run : goal.invariant-loop-run
+invariant-loop-run l = (l.from ≤ length l.mask) × (l.count + length (runs_left l.listing l.mask l.from) ≡ length (runs_left l.listing l.mask 0)) × (l.count ≤ l.from)
 
-abbrev pub decreases-loop-from : goal.decreases-loop-from
-decreases-loop-from l = length l.mask - l.from
+abbrev pub decreases-loop-run : goal.decreases-loop-run
+decreases-loop-run l = length l.mask - l.from

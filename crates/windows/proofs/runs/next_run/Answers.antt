@@ -45,4 +45,4 @@ loop-at-preserved c = let l = c.loop-at in
     (omega (arith, l.invariant.0), omega (arith, c.loop-at-test.true), sym (left_clear c.args.listing c.args.mask.now l.at c.loop-at-test.true (ap (eqb (get_or c.args.mask.now l.at 0)) (sym c.byte_of-v.ensures) ∙ ne_eqb _ _ c.if-mask-first.false)) ∙ l.invariant.2)
 
 pub returns : goal.returns
-returns c = next_none _ _ _ _ _ refl c.loop-at-test.false c.loop-at.invariant.2
+returns c = next_none _ _ _ _ c.loop-at-test.false c.loop-at.invariant.2

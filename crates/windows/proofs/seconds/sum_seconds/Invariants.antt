@@ -1,10 +1,6 @@
 -- `windows::seconds::sum_seconds` meets its contract. The invariant: the total is the sum of the first k windows. Assumes nothing.
-use Rattle.std.proofs.Common.{◌-◌, length}
 use Rattle.windows.proofs.Durations.{Summed}
 use Rattle.windows.proofs.seconds.sum_seconds.Given as goal
 
 abbrev pub invariant-loop-k : goal.invariant-loop-k
 invariant-loop-k l = Summed l.first l.last l.k l.total
-
-abbrev pub decreases-loop-k : goal.decreases-loop-k
-decreases-loop-k l = length l.last - l.k

@@ -1,10 +1,10 @@
--- `windows::seconds::duration_refusal` meets its contract: each return is the number of the first condition that holds. Assumes nothing.
+-- `windows::seconds::check_windows` meets its contract: each return is the number of the first condition that holds. Assumes nothing.
 use Rattle.std.proofs.Common.{sym, ◌∙◌, le-ltb, lt-ltb, eq-eqb, ne_eqb}
 use Rattle.buffers.specs.Ranges.{any}
 use Rattle.buffers.specs.Refusal.{first}
 use Rattle.windows.specs.Refusal.{differ}
 use Rattle.windows.specs.Seconds.{duration_refusal}
-use Rattle.windows.proofs.seconds.duration_refusal.Goals as goal
+use Rattle.windows.proofs.seconds.check_windows.Goals as goal
 
 pub returns-then-last-first : goal.returns-then-last-first
 unfolding duration_refusal first differ any

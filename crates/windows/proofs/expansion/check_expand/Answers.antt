@@ -1,10 +1,10 @@
--- `windows::expansion::expand_refusal` meets its contract: each return is the number of the first condition that holds. Assumes nothing.
+-- `windows::expansion::check_expand` meets its contract: each return is the number of the first condition that holds. Assumes nothing.
 use Rattle.std.proofs.Common.{sym, ◌∙◌, le-ltb, lt-ltb, eq-eqb, ne_eqb}
 use Rattle.buffers.specs.Ranges.{any}
 use Rattle.buffers.specs.Refusal.{first}
 use Rattle.windows.specs.Refusal.{differ}
 use Rattle.windows.specs.Expand.{expand_refusal}
-use Rattle.windows.proofs.expansion.expand_refusal.Goals as goal
+use Rattle.windows.proofs.expansion.check_expand.Goals as goal
 
 pub returns-then-last-first : goal.returns-then-last-first
 unfolding expand_refusal first differ any
