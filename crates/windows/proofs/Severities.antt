@@ -1,8 +1,7 @@
 -- Severities: which floats are none, by their bits; and that a run's severity is the largest of its samples', one of them with none above it. Assumes
 -- nothing.
-use Rattle.std.proofs.Common.{◌≡◌, ℕ, zero, suc, ◌+◌, ◌-◌, ◌*◌, ◌/◌, ◌%◌, ◌<◌, ◌≤◌, Bool, true, false, cond, ◌||◌, T, eqb, leb, List, length, get_or, take, drop, sym, refl, ap, ◌∙◌, subst, ⊎_elim, true≢false, eq-or-lt_of_le, add-one, arith, ltb-false, ltb-true, le-ltb, eq-eqb, ne_eqb, le-leb}
+use Rattle.std.proofs.Common.{◌≡◌, ℕ, zero, suc, ◌+◌, ◌-◌, ◌*◌, ◌/◌, ◌%◌, ◌<◌, ◌≤◌, Bool, true, false, cond, ◌||◌, T, eqb, leb, List, get_or, sym, refl, ap, ◌∙◌, subst, ⊎_elim, true≢false, eq-or-lt_of_le, add-one, arith, ltb-false, ltb-true, le-ltb, eq-eqb, ne_eqb, le-leb}
 use native.Mathlib.Decide.{dec_le}
-use Rattle.std.proofs.lemmas.Grind.{elements}
 use mathlib.Core.Bool.{or-true, or-false}
 use lib.Ieee as Ieee
 use lib.Ieee.{Float, nan, inf, fin, binary64, odd, of_fields, of_bits, to_bits, fits, low, hid, up, down}
@@ -62,15 +61,18 @@ severity_bits x f = by_bits (to_bits binary64 x) ∙ sym (of_bits_lem (to_bits b
 
 -- ---- a loop that looks for the largest: one sample more
 
--- the samples that it looks at
-pub sample_at : (xs : List Float) (s t n : ℕ) → n < length (take (t + 1 - (s + 1)) (drop (s + 1) xs)) → get_or (take (t + 1 - (s + 1)) (drop (s + 1) xs)) n nan ≡ get_or xs (s + suc n) nan
-sample_at xs s t n h = grind (arith, elements)
-
-pub largest_next : (xs : List Float) (s n : ℕ) (m x y : Float) (b : Bool) → x ≡ get_or xs (s + suc n) nan → Ieee.lt m x ≡ b → y ≡ cond b x m → m ≡ largest_from xs s n → y ≡ largest_from xs s (n + 1)
+largest_next : (xs : List Float) (s n : ℕ) (m x y : Float) (b : Bool) → x ≡ get_or xs (s + suc n) nan → Ieee.lt m x ≡ b → y ≡ cond b x m → m ≡ largest_from xs s n → y ≡ largest_from xs s (n + 1)
 unfolding largest_from larger
 largest_next xs s n m x y b e t q h =
     rw (add-one n)
     (q ∙ ap (λ (c : Bool). cond c x m) (sym t) ∙ ap (λ (z : Float). larger z x) h ∙ ap (larger (largest_from xs s n)) e)
+
+-- the same by the sample's number
+pub largest_on : (xs : List Float) (s i : ℕ) (m y : Float) (b : Bool) → s + 1 ≤ i → Ieee.lt m (get_or xs i nan) ≡ b → y ≡ cond b (get_or xs i nan) m → m ≡ largest_from xs s (i - (s + 1)) → y ≡ largest_from xs s (i + 1 - (s + 1))
+largest_on xs s i m y b k t q h =
+    let e : i ≡ s + suc (i - (s + 1)) = omega arith in
+    let n : i - (s + 1) + 1 ≡ i + 1 - (s + 1) = omega arith in
+    largest_next xs s (i - (s + 1)) m (get_or xs i nan) y b (ap (λ (j : ℕ). get_or xs j nan) e) t q h ∙ ap (largest_from xs s) n
 
 -- ---- the largest: one of them, with none above it
 

@@ -18,9 +18,9 @@ fn largest_severity(severities: &[f64], first: usize, last: usize) -> f64
     ensures { result ≡ largest severities.now (run first last) }
 {
     let mut most = severities[first];
-    for severity in &severities[first + 1..last + 1] {
-        if most < *severity {
-            most = *severity;
+    for i in first + 1..last + 1 {
+        if most < severities[i] {
+            most = severities[i];
         }
     }
     most
@@ -135,6 +135,7 @@ fn store(
 }
 
 // Either listing, into columns.
+#[inline(always)]
 fn list_windows(
     listing: Listing,
     row: &Samples,

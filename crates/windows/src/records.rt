@@ -11,6 +11,7 @@ use crate::{Listing, Samples, Window};
 use buffers::Refusal;
 
 // Either listing, as records.
+#[inline(always)]
 fn list_records(listing: Listing, row: &Samples, out: &mut [Window]) -> Result<u64, Refusal>
     ensures { let left : List Window = windows_left listing row.now.mask.now row.now.times.now row.now.severities.now 0 in
         let why : ℕ = listing_refusal listing row.now.mask.now row.now.times.now row.now.severities.now (length out.old ∷ []) in
