@@ -95,19 +95,10 @@ fn check_expand(first: &[i64], last: &[i64], times: &[i64], places: usize) -> Re
     if last.len() != first.len() {
         return Err(Refusal::LengthsDoNotFit);
     }
-    if MOST_LENT < first.len() {
+    if MOST_LENT < first.len() || MOST_LENT < times.len() {
         return Err(Refusal::TooLarge);
     }
-    if MOST_LENT < times.len() {
-        return Err(Refusal::TooLarge);
-    }
-    if any_beyond(first) {
-        return Err(Refusal::TimeOutOfRange);
-    }
-    if any_beyond(last) {
-        return Err(Refusal::TimeOutOfRange);
-    }
-    if any_beyond(times) {
+    if any_beyond(first) || any_beyond(last) || any_beyond(times) {
         return Err(Refusal::TimeOutOfRange);
     }
     if places < times.len() {

@@ -81,10 +81,7 @@ pub(crate) fn count_windows(
         ≡ reply (listing_refusal listing row.now.mask.now row.now.times.now row.now.severities.now places.now)
         (length (runs_left listing row.now.mask.now 0)) }
 {
-    if is_uneven(listing, row) {
-        return Err(Refusal::LengthsDoNotFit);
-    }
-    if differ(places) {
+    if is_uneven(listing, row) || differ(places) {
         return Err(Refusal::LengthsDoNotFit);
     }
     if MOST_LENT < row.mask.len() {
@@ -93,10 +90,7 @@ pub(crate) fn count_windows(
     if any_beyond(row.times) {
         return Err(Refusal::TimeOutOfRange);
     }
-    if any_bad_mark(row.mask) {
-        return Err(Refusal::SampleInvalid);
-    }
-    if any_bad_severity(row.severities) {
+    if any_bad_mark(row.mask) || any_bad_severity(row.severities) {
         return Err(Refusal::SampleInvalid);
     }
     let count = count_runs(listing, row.mask);

@@ -45,10 +45,7 @@ fn check_windows(first: &[i64], last: &[i64]) -> Result<(), Refusal>
     if MOST_LENT < first.len() {
         return Err(Refusal::TooLarge);
     }
-    if any_beyond(first) {
-        return Err(Refusal::TimeOutOfRange);
-    }
-    if any_beyond(last) {
+    if any_beyond(first) || any_beyond(last) {
         return Err(Refusal::TimeOutOfRange);
     }
     Ok(())

@@ -7,14 +7,14 @@ use Rattle.buffers.proofs.Refusals.{err_replied, ok_replied}
 use Rattle.windows.specs.Steps.{listing_refusal}
 use Rattle.windows.proofs.Refusals.{refuses_1, refuses_2, refuses_8, refuses_14, refuses_7, accepts, short_is}
 use Rattle.windows.proofs.listings.count_windows.Goals as goal
+use Rattle.windows.proofs.listings.count_windows.Goals.{then-is_uneven-via-then-is_uneven, then-is_uneven-via-else-is_uneven+then-differ, then-any_bad_mark-via-then-any_bad_mark, then-any_bad_mark-via-else-any_bad_mark+then-any_bad_severity}
 
 pub returns-then-is_uneven : goal.returns-then-is_uneven
 unfolding listing_refusal
-returns-then-is_uneven c = err_replied why.LengthsDoNotFit _ _ (sym (refuses_1 _ _ _ _ _ (or_here _ _ (sym c.is_uneven.ensures ∙ c.if-is_uneven.true))))
-
-pub returns-then-differ : goal.returns-then-differ
-unfolding listing_refusal
-returns-then-differ c = err_replied why.LengthsDoNotFit _ _ (sym (refuses_1 _ _ _ _ _ (or_skip _ _ (sym c.is_uneven.ensures ∙ c.if-is_uneven.false) ∙ (sym c.differ.ensures ∙ c.if-differ.true))))
+returns-then-is_uneven c = elim c.then-is_uneven.branch [
+  | then-is_uneven-via-then-is_uneven w ↦ err_replied why.LengthsDoNotFit _ _ (sym (refuses_1 _ _ _ _ _ (or_here _ _ (sym c.is_uneven.ensures ∙ w.if-is_uneven.true))))
+  | then-is_uneven-via-else-is_uneven+then-differ w ↦ err_replied why.LengthsDoNotFit _ _ (sym (refuses_1 _ _ _ _ _ (or_skip _ _ (sym c.is_uneven.ensures ∙ w.if-is_uneven.false) ∙ (sym w.differ.ensures ∙ w.if-differ.true))))
+]
 
 pub returns-then-row-gt-MOST_LENT : goal.returns-then-row-gt-MOST_LENT
 unfolding listing_refusal
@@ -26,11 +26,10 @@ returns-then-any_beyond c = err_replied why.TimeOutOfRange _ _ (sym (refuses_8 _
 
 pub returns-then-any_bad_mark : goal.returns-then-any_bad_mark
 unfolding listing_refusal
-returns-then-any_bad_mark c = err_replied why.SampleInvalid _ _ (sym (refuses_14 _ _ _ _ _ (or_none _ _ (sym c.is_uneven.ensures ∙ c.if-is_uneven.false) (sym c.differ.ensures ∙ c.if-differ.false)) c.if-row-gt-MOST_LENT.false (sym c.any_beyond.ensures ∙ c.if-any_beyond.false) (or_here _ _ (sym c.any_bad_mark.ensures ∙ c.if-any_bad_mark.true))))
-
-pub returns-then-any_bad_severity : goal.returns-then-any_bad_severity
-unfolding listing_refusal
-returns-then-any_bad_severity c = err_replied why.SampleInvalid _ _ (sym (refuses_14 _ _ _ _ _ (or_none _ _ (sym c.is_uneven.ensures ∙ c.if-is_uneven.false) (sym c.differ.ensures ∙ c.if-differ.false)) c.if-row-gt-MOST_LENT.false (sym c.any_beyond.ensures ∙ c.if-any_beyond.false) (or_skip _ _ (sym c.any_bad_mark.ensures ∙ c.if-any_bad_mark.false) ∙ (sym c.any_bad_severity.ensures ∙ c.if-any_bad_severity.true))))
+returns-then-any_bad_mark c = elim c.then-any_bad_mark.branch [
+  | then-any_bad_mark-via-then-any_bad_mark w ↦ err_replied why.SampleInvalid _ _ (sym (refuses_14 _ _ _ _ _ (or_none _ _ (sym c.is_uneven.ensures ∙ c.if-is_uneven.false) (sym c.differ.ensures ∙ c.if-differ.false)) c.if-row-gt-MOST_LENT.false (sym c.any_beyond.ensures ∙ c.if-any_beyond.false) (or_here _ _ (sym c.any_bad_mark.ensures ∙ w.if-any_bad_mark.true))))
+  | then-any_bad_mark-via-else-any_bad_mark+then-any_bad_severity w ↦ err_replied why.SampleInvalid _ _ (sym (refuses_14 _ _ _ _ _ (or_none _ _ (sym c.is_uneven.ensures ∙ c.if-is_uneven.false) (sym c.differ.ensures ∙ c.if-differ.false)) c.if-row-gt-MOST_LENT.false (sym c.any_beyond.ensures ∙ c.if-any_beyond.false) (or_skip _ _ (sym c.any_bad_mark.ensures ∙ w.if-any_bad_mark.false) ∙ (sym w.any_bad_severity.ensures ∙ w.if-any_bad_severity.true))))
+]
 
 pub returns-then-unwrap_or-count : goal.returns-then-unwrap_or-count
 unfolding listing_refusal

@@ -5,6 +5,7 @@ use Rattle.buffers.specs.Refusal.{first}
 use Rattle.windows.specs.Refusal.{differ}
 use Rattle.windows.specs.Seconds.{duration_refusal}
 use Rattle.windows.proofs.seconds.check_windows.Goals as goal
+use Rattle.windows.proofs.seconds.check_windows.Goals.{then-any_beyond-via-then-any_beyond, then-any_beyond-via-else-any_beyond+then-any_beyond-2}
 
 pub returns-then-last-first : goal.returns-then-last-first
 unfolding duration_refusal first differ any
@@ -16,12 +17,12 @@ returns-then-first-gt-MOST_LENT c = rw (eq-eqb _ _ c.if-last-first.false, lt-ltb
 
 pub returns-then-any_beyond : goal.returns-then-any_beyond
 unfolding duration_refusal first differ any
-returns-then-any_beyond c = rw (eq-eqb _ _ c.if-last-first.false, le-ltb _ _ c.if-first-gt-MOST_LENT.false, sym c.any_beyond.ensures ∙ c.if-any_beyond.true)
-
-pub returns-then-any_beyond-2 : goal.returns-then-any_beyond-2
-unfolding duration_refusal first differ any
-returns-then-any_beyond-2 c = rw (eq-eqb _ _ c.if-last-first.false, le-ltb _ _ c.if-first-gt-MOST_LENT.false, sym c.any_beyond.ensures ∙ c.if-any_beyond.false, sym c.any_beyond-2.ensures ∙ c.if-any_beyond-2.true)
+returns-then-any_beyond c = elim c.then-any_beyond.branch [
+  | then-any_beyond-via-then-any_beyond w ↦ rw (eq-eqb _ _ c.if-last-first.false, le-ltb _ _ c.if-first-gt-MOST_LENT.false, sym c.any_beyond.ensures ∙ w.if-any_beyond.true)
+  | then-any_beyond-via-else-any_beyond+then-any_beyond-2 w ↦
+      rw (eq-eqb _ _ c.if-last-first.false, le-ltb _ _ c.if-first-gt-MOST_LENT.false, sym c.any_beyond.ensures ∙ w.if-any_beyond.false, sym w.any_beyond-else-any_beyond.ensures ∙ w.if-any_beyond-2.true)
+]
 
 pub returns : goal.returns
 unfolding duration_refusal first differ any
-returns c = rw (eq-eqb _ _ c.if-last-first.false, le-ltb _ _ c.if-first-gt-MOST_LENT.false, sym c.any_beyond.ensures ∙ c.if-any_beyond.false, sym c.any_beyond-2.ensures ∙ c.if-any_beyond-2.false)
+returns c = rw (eq-eqb _ _ c.if-last-first.false, le-ltb _ _ c.if-first-gt-MOST_LENT.false, sym c.any_beyond.ensures ∙ c.if-any_beyond.false, sym c.any_beyond-else-any_beyond.ensures ∙ c.if-any_beyond-2.false)
