@@ -4,7 +4,7 @@ use crate::words::{
     UNWRITTEN, accepted, marks, numbers, same_marks, same_numbers, same_times, same_words, times,
 };
 use float::{bits, of_bits};
-use windows::{Duration, expand, total_violation_duration, violation_windows, visibility_windows};
+use windows::{expand, total_violation_duration, violation_windows, visibility_windows};
 
 // About the samples.
 pub(crate) fn samples(given: &[u64; 256], asked: &[u64; 256]) -> bool {
@@ -134,7 +134,7 @@ fn result(asked: &[u64; 256], first: &[i64], last: &[i64], instants: &[i64]) -> 
 // The seconds.
 fn seconds(asked: &[u64; 256], first: &[i64], last: &[i64]) -> bool {
     match total_violation_duration(first, last) {
-        Duration::Seconds(total) => bits(total) == asked[3],
-        Duration::Refused(_) => false,
+        Ok(total) => bits(total) == asked[3],
+        Err(_) => false,
     }
 }

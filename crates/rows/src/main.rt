@@ -2,9 +2,8 @@
 // Every place of a column holds 7 before a call, so that a place that stays is seen.
 #![tactic(auto)]
 
-use buffers::Answer;
+use buffers::Refusal;
 use std::io;
-use windows::Duration;
 
 fn text(rt: &impl Print, s: &[u8]) -> io::Result<()> {
     rt.write_all(s)
@@ -24,29 +23,29 @@ fn show_float(rt: &impl Print, x: f64) -> io::Result<()> {
     print!(rt; "{word:016x}")
 }
 
-fn show_answer(rt: &impl Print, answer: Answer) -> io::Result<()> {
+fn show_answer(rt: &impl Print, answer: Result<u64, Refusal>) -> io::Result<()> {
     match answer {
-        Answer::Accepted(n) => {
+        Ok(n) => {
             text(rt, b" accepted ")?;
             number(rt, n)?;
         }
-        Answer::Refused(k) => {
+        Err(refusal) => {
             text(rt, b" refused ")?;
-            number(rt, k)?;
+            number(rt, refusal.number())?;
         }
     }
     text(rt, b"\n")
 }
 
-fn show_duration(rt: &impl Print, duration: Duration) -> io::Result<()> {
+fn show_duration(rt: &impl Print, duration: Result<f64, Refusal>) -> io::Result<()> {
     match duration {
-        Duration::Seconds(x) => {
+        Ok(x) => {
             text(rt, b" seconds ")?;
             show_float(rt, x)?;
         }
-        Duration::Refused(k) => {
+        Err(refusal) => {
             text(rt, b" refused ")?;
-            number(rt, k)?;
+            number(rt, refusal.number())?;
         }
     }
     text(rt, b"\n")

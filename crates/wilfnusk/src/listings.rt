@@ -6,7 +6,7 @@ ghost use Rattle.windows.specs.Windows.{Columns, columns};
 ghost use Rattle.wilfnusk.specs.Answers.{int64, number_answer, number_written};
 
 use crate::answers::{int64, minus};
-use windows::{Duration, total_violation_duration};
+use windows::total_violation_duration;
 
 // Refuses 1, 2, 8, 14, 7 (windows: specs/Refusal, `violation_refusal`).
 #[unsafe(no_mangle)]
@@ -80,10 +80,10 @@ pub extern "C" fn wilfnusk_total_violation_duration(
         (result ≡ int64 (number_answer total)) × (seconds.new ≡ number_written total seconds.old) }
 {
     match total_violation_duration(first_time, last_time) {
-        Duration::Seconds(total) => {
+        Ok(total) => {
             *seconds = total;
             0
         }
-        Duration::Refused(k) => minus(k),
+        Err(refusal) => minus(refusal.number()),
     }
 }

