@@ -1,6 +1,6 @@
 -- The top bit of a number of 64 bits, by which the scans of times and of severities say what they find: of two numbers joined by |; of a loop that
 -- joins one number for each element of a list; of a severity's number, and of a time's. Assumes nothing.
-use Rattle.std.proofs.Common.{◌≡◌, ℕ, suc, ◌+◌, ◌-◌, ◌%◌, ◌^◌, ◌<◌, ◌≤◌, Bool, true, false, cond, ◌||◌, T, ltb, leb, List, length, get_or, drop, ℤ, pos, negsuc, ◌-ℤ◌, nat_abs, sym, refl, ap, ◌∙◌, subst, true≢false, arith, w64, Fits, SFits, to_z, of_z, le-ltb, lt-ltb, le-leb}
+use Rattle.std.proofs.Common.{◌≡◌, ℕ, suc, ◌+◌, ◌-◌, ◌%◌, ◌^◌, ◌<◌, ◌≤◌, Bool, true, false, cond, ◌||◌, T, ltb, leb, List, length, get_or, drop, ℤ, pos, negsuc, ◌-ℤ◌, nat_abs, sym, refl, ap, ◌∙◌, subst, true≢false, arith, w64, Fits, SFits, to_z, of_z, drop_of_length-le, le-ltb, lt-ltb, le-leb}
 use native.Mathlib.Decide.{dec_le}
 use mathlib.Core.Bool.{or-true, or-false}
 use lib.Bits.{bit_or, or_add_and, and_le_r, or_comm, or_lt}
@@ -38,6 +38,11 @@ module _ {A : Type 0} (p : A → Bool) (l : List A) (d : A) (i : ℕ) where
 
   pub join_next : (found n : ℕ) → i < length l → top_bit n ≡ p (get_or l i d) → (top_bit found || any p (drop i l)) ≡ any p l → (top_bit (bit_or found n) || any p (drop (i + 1) l)) ≡ any p l
   join_next found n h e w = ap (λ (t : Bool). t || any p (drop (i + 1) l)) (top_or found n) ∙ gather_more (top_bit found) (top_bit n) h e w
+
+-- and its end
+pub gather_all : {A : Type 0} (p : A → Bool) (l : List A) (i : ℕ) (b : Bool) → length l ≤ i → (b || any p (drop i l)) ≡ any p l → b ≡ any p l
+unfolding any
+gather_all p l i b h w = sym (or-false b) ∙ ap (λ (t : List _). b || any p t) (sym (drop_of_length-le l h)) ∙ w
 
 -- ---- severities
 

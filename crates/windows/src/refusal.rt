@@ -1,7 +1,7 @@
 // What the window calls look at before they write: lengths, times, mask bytes and severities. Each scan looks at its whole
 // list, without a way out of the loop, so that it can run over many elements at a time. Of elements of 64 bits it joins one
 // number each by |, whose top bit says what is found: that costs less than comparisons of 64 bits.
-ghost use Rattle.std.specs.Prelude.{◌≡◌, int_lt};
+ghost use Rattle.std.specs.Prelude.{◌≡◌, ℕ, Bool, int_lt};
 ghost use Rattle.buffers.specs.Ranges.{any};
 ghost use Rattle.windows.specs.Refusal.{beyond, bad_mark, bad_severity, differ};
 ghost use Rattle.windows.specs.Steps.{top_bit};
@@ -40,16 +40,25 @@ fn bad_severity_bit(x: f64) -> u64
     bits | wrapping_add_u64(bits, 0x0010_0000_0000_0000)
 }
 
-pub(crate) fn any_beyond(times: &[i64]) -> bool
-    ensures { result ≡ any beyond times.now }
+// Whether an element has a property p, if the top bit of its number says so.
+fn any_top<T: Copy, F: Fn(T) -> u64>(list: &[T], number: F) -> bool
+    requires { F.IsAlwaysCallable number }
+    ensures { (p : T → Bool) → ((x : T) (n : ℕ) → F.post number x n → top_bit n ≡ p x) → result ≡ any p list.now }
 {
     let mut found = 0u64;
-    for t in times {
-        found |= beyond_bit(*t);
+    for x in list {
+        found |= number(*x);
     }
     0x8000_0000_0000_0000 <= found
 }
 
+pub(crate) fn any_beyond(times: &[i64]) -> bool
+    ensures { result ≡ any beyond times.now }
+{
+    any_top(times, beyond_bit)
+}
+
+// Bytes are compared as bytes, and not by `any_top`: of numbers of 64 bits an eighth as many are looked at together.
 pub(crate) fn any_bad_mark(mask: &[u8]) -> bool
     ensures { result ≡ any bad_mark mask.now }
 {
@@ -63,11 +72,7 @@ pub(crate) fn any_bad_mark(mask: &[u8]) -> bool
 pub(crate) fn any_bad_severity(severities: &[f64]) -> bool
     ensures { result ≡ any bad_severity severities.now }
 {
-    let mut found = 0u64;
-    for severity in severities {
-        found |= bad_severity_bit(*severity);
-    }
-    0x8000_0000_0000_0000 <= found
+    any_top(severities, bad_severity_bit)
 }
 
 // Whether lengths differ: one of them is not the first.
