@@ -7,9 +7,8 @@ use native.Mathlib.Omega.{arith}
 use lib.Dec.{leb, ltb, eqb}
 use lib.ListN.{length, get_or, take, drop}
 use lib.Seq.{take-take, take_at, length-take-le}
-use borrow.Author.Tests.{ltb-true, ltb-false, leb-true, leb-false, le-ltb, ne_eqb, eqb-true, eqb-false, not-true, not-false}
+use borrow.Author.Tests.{ltb-true, ltb-false, leb-true, leb-false, le-ltb, ne_eqb, not-false}
 use Rattle.buffers.specs.Lent.{put}
-use Rattle.buffers.specs.Ranges.{flag}
 use Rattle.buffers.specs.Refusal.{reply_of}
 use Rattle.buffers.specs.declared.Answer.{Answer}
 use Rattle.buffers.proofs.Lent.{length_put}
@@ -20,9 +19,10 @@ use Rattle.journal.specs.Lines.{line_length, line_of, has_chunk}
 use Rattle.journal.specs.Right.{whole_lines, torn, right}
 use Rattle.journal.specs.Calls.{wrong, work_refusal, work_reply, work_bytes}
 use Rattle.journal.specs.Pass.{most_chunks, Tables, Passed, Ready}
+use Rattle.journal.specs.declared.plan.PassedPlan.{PassedPlan}
 use Rattle.journal.specs.Range.{Ran, ran_to, one_more, ran, Ranged}
 use Rattle.journal.proofs.Chains.{work_9, work_10, work_7, work_0, work_clear, work_refused, work_accepted, range_refused, range_accepted, range_one_refusal}
-use Rattle.journal.proofs.Scan.{chunks_le, flag_zero, flag_some}
+use Rattle.journal.proofs.Scan.{chunks_le}
 use Rattle.journal.proofs.Written.{SweepFacts, length_line}
 use Rattle.journal.proofs.Appended.{torn_more, length_more, has_more, right_more}
 
@@ -116,7 +116,7 @@ range_one s c b u old r o d q = go (work_refusal s c b u) refl
 
 -- ---- what the loop keeps: after the chunks from `from` to c, of a journal b₀ with u₀ bytes used, b is left with u, and of m chunks `left` are to come
 
-pub record Along (s : Sweep) (from m : ℕ) (seen b₀ : List ℕ) (u₀ c left : ℕ) (b : List ℕ) (u : ℕ) : Type 0 where
+pub record Along (s : Sweep) (from m : ℕ) (seen : List Bool) (b₀ : List ℕ) (u₀ c left : ℕ) (b : List ℕ) (u : ℕ) : Type 0 where
   pub since : from ≤ c
   pub used : u ≡ u₀ + line_length * (c - from)
   pub within : u ≤ length b
@@ -125,20 +125,20 @@ pub record Along (s : Sweep) (from m : ℕ) (seen b₀ : List ℕ) (u₀ c left 
   pub whole : torn u ≡ false
   -- the flags of the chunks to come
   pub count : length seen ≡ most_chunks
-  pub flags : (d : ℕ) → c ≤ d → d < most_chunks → get_or seen d 0 ≡ flag (has_chunk b (whole_lines u) d)
+  pub flags : (d : ℕ) → c ≤ d → d < most_chunks → get_or seen d false ≡ has_chunk b (whole_lines u) d
   pub rest : ran s left (ran_to b u c) ≡ ran s m (ran_to b₀ u₀ from)
 
 -- the journal after work's checks
-pub ready : (s : Sweep) (n k : ℕ) (h b : List ℕ) (u c : ℕ) (seen masks : List ℕ) → Passed s n k h (length b) u → work_refusal s c b u ≡ 0 → Tables b (whole_lines u) seen masks → Ready s b u seen masks
-ready s n k h b u c seen masks p e f =
+pub ready : (s : Sweep) (p : PassedPlan) (b : List ℕ) (u c : ℕ) (seen : List Bool) (masks : List ℕ) → Passed s p (length b) u → work_refusal s c b u ≡ 0 → Tables b (whole_lines u) seen masks → Ready s b u seen masks
+ready s p b u c seen masks r e f =
     let q = work_clear s b u c e in
-    record { plan = q.plan; one = omega (arith, p.one, p.samples); most = omega (arith, p.most, p.samples); right = q.right; whole = q.whole; tables = f }
+    record { plan = q.plan; one = omega (arith, r.one, r.samples); most = omega (arith, r.most, r.samples); right = q.right; whole = q.whole; tables = f }
 
 -- work refuses the next chunk: it does not exist, it has a line, or there is no room
-abbrev pub is_refused : ℕ → List ℕ → ℕ → ℕ → Bool
-is_refused m seen free c = leb m c || (not (eqb (get_or seen c 0) 0) || ltb free line_length)
+abbrev pub is_refused : ℕ → List Bool → ℕ → ℕ → Bool
+is_refused m seen free c = leb m c || (get_or seen c false || ltb free line_length)
 
-module _ (s : Sweep) (a : SweepFacts s) (from m : ℕ) (seen b₀ : List ℕ) (u₀ : ℕ) where
+module _ (s : Sweep) (a : SweepFacts s) (from m : ℕ) (seen : List Bool) (b₀ : List ℕ) (u₀ : ℕ) where
   pub along_start : (masks : List ℕ) → Ready s b₀ u₀ seen masks → u₀ ≤ length b₀ → Along s from m seen b₀ u₀ from m b₀ u₀
   unfolding wrong
   along_start masks r h = record {
@@ -162,19 +162,19 @@ module _ (s : Sweep) (a : SweepFacts s) (from m : ℕ) (seen b₀ : List ℕ) (u
     not_wrong = ap not t.is_right
 
     -- the flag of the next chunk, where it exists
-    next_flag : c < chunks (cells s) → get_or seen c 0 ≡ flag (has_chunk b (whole_lines u) c)
+    next_flag : c < chunks (cells s) → get_or seen c false ≡ has_chunk b (whole_lines u) c
     next_flag h = t.flags c (omega arith) (omega (arith, chunks_le (cells s) a.few))
 
     -- the next chunk is refused
-    refused_by : (x y z : Bool) → leb (chunks (cells s)) c ≡ x → not (eqb (get_or seen c 0) 0) ≡ y → ltb (length b - u) line_length ≡ z → x || (y || z) ≡ true → 0 < work_refusal s c b u
+    refused_by : (x y z : Bool) → leb (chunks (cells s)) c ≡ x → get_or seen c false ≡ y → ltb (length b - u) line_length ≡ z → x || (y || z) ≡ true → 0 < work_refusal s c b u
     refused_by true y z ex ey ez h = omega (arith, work_9 s b u c plan_passes (leb-true (chunks (cells s)) c ex))
     refused_by false true z ex ey ez h =
         let g = leb-false (chunks (cells s)) c ex in
-        let has = flag_some (has_chunk b (whole_lines u) c) (λ f. eqb-false (get_or seen c 0) 0 (not-true (eqb (get_or seen c 0) 0) ey) (next_flag g ∙ f)) in
+        let has = sym (next_flag g) ∙ ey in
         omega (arith, work_10 s b u c plan_passes g not_wrong t.whole has)
     refused_by false false true ex ey ez h =
         let g = leb-false (chunks (cells s)) c ex in
-        let new = flag_zero (has_chunk b (whole_lines u) c) (sym (next_flag g) ∙ eqb-true (get_or seen c 0) 0 (not-false (eqb (get_or seen c 0) 0) ey)) in
+        let new = sym (next_flag g) ∙ ey in
         omega (arith, work_7 s b u c plan_passes g not_wrong t.whole new (omega (arith, ltb-true (length b - u) line_length ez, t.within)))
     refused_by false false false ex ey ez h = absurd (false≢true h)
 
@@ -184,18 +184,17 @@ module _ (s : Sweep) (a : SweepFacts s) (from m : ℕ) (seen b₀ : List ℕ) (u
     -- the next chunk is not refused
     module _ (h : is_refused (chunks (cells s)) seen (length b - u) c ≡ false) where
       pub next_exists : c < chunks (cells s)
-      next_exists = leb-false (chunks (cells s)) c (or_left (leb (chunks (cells s)) c) (not (eqb (get_or seen c 0) 0) || ltb (length b - u) line_length) h)
+      next_exists = leb-false (chunks (cells s)) c (or_left (leb (chunks (cells s)) c) (get_or seen c false || ltb (length b - u) line_length) h)
 
       pub next_room : u + line_length ≤ length b
       next_room =
-          let r = or_right (leb (chunks (cells s)) c) (not (eqb (get_or seen c 0) 0) || ltb (length b - u) line_length) h in
-          omega (arith, ltb-false (length b - u) line_length (or_right (not (eqb (get_or seen c 0) 0)) (ltb (length b - u) line_length) r), t.within)
+          let r = or_right (leb (chunks (cells s)) c) (get_or seen c false || ltb (length b - u) line_length) h in
+          omega (arith, ltb-false (length b - u) line_length (or_right (get_or seen c false) (ltb (length b - u) line_length) r), t.within)
 
       next_new : has_chunk b (whole_lines u) c ≡ false
       next_new =
-          let r = or_right (leb (chunks (cells s)) c) (not (eqb (get_or seen c 0) 0) || ltb (length b - u) line_length) h in
-          flag_zero (has_chunk b (whole_lines u) c)
-          (sym (next_flag next_exists) ∙ eqb-true (get_or seen c 0) 0 (not-false (eqb (get_or seen c 0) 0) (or_left (not (eqb (get_or seen c 0) 0)) (ltb (length b - u) line_length) r)))
+          let r = or_right (leb (chunks (cells s)) c) (get_or seen c false || ltb (length b - u) line_length) h in
+          sym (next_flag next_exists) ∙ or_left (get_or seen c false) (ltb (length b - u) line_length) r
 
       -- its line is appended
       pub along_next : (o : List ℕ) → 0 < left → o ≡ put u (line_of s c) b → Along s from m seen b₀ u₀ (c + 1) (left - 1) o (u + line_length)
@@ -209,10 +208,9 @@ module _ (s : Sweep) (a : SweepFacts s) (from m : ℕ) (seen b₀ : List ℕ) (u
         count = t.count;
         flags = λ d g k.
             t.flags d (omega arith) k
-            ∙ ap flag
-            (sym (or-false (has_chunk b (whole_lines u) d))
+            ∙ sym (or-false (has_chunk b (whole_lines u) d))
             ∙ ap (λ (x : Bool). has_chunk b (whole_lines u) d || x) (sym (ne_eqb c d (λ z. omega arith)))
-            ∙ sym (has_more s a b u c t.whole next_exists next_room d));
+            ∙ sym (has_more s a b u c t.whole next_exists next_room d);
         rest =
             let n : left ≡ suc (left - 1) = omega arith in
             sym (ran_next s b u c (left - 1) (work_0 s b u c plan_passes next_exists not_wrong t.whole next_new next_room))

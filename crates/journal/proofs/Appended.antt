@@ -16,7 +16,8 @@ use Rattle.buffers.proofs.Tests.{and_left, and_right, and_both, or_left, or_righ
 use Rattle.roll_sweep.specs.Sweep.{Sweep, cells, chunks}
 use Rattle.journal.specs.Hex.{are_digits, hex_value, digit_value, is_digit}
 use Rattle.journal.specs.Lines.{line_length, header_length, line_of, line_start, chunk_at, mask_at, probes_at, has_chunk}
-use Rattle.journal.specs.Right.{whole_lines, torn, agree, possible, line_at, fits, line_fits, line_right, lines_right, right}
+use Rattle.journal.specs.Right.{whole_lines, torn, agree, possible, framed, line_fits, line_right, lines_right, right}
+use Rattle.journal.proofs.Scan.{line_fits_is}
 use Rattle.journal.proofs.Written.{SweepFacts, length_line, LineAt, read_line, line_right_lem}
 
 -- ---- two buffers with the same first m bytes
@@ -48,7 +49,7 @@ module _ (m : ℕ) (b d : List ℕ) (e : Same m b d) where
     has_same c h = any_ext l _ (λ j. eqb (chunk_at d j) c) (λ j g. ap (λ (x : ℕ). eqb x c) (value_same (header_length + line_length * j) 8 (omega arith)))
 
     fits_same : (n k : ℕ) → line_start (l + 1) ≤ m → line_fits n k b l ≡ line_fits n k d l
-    unfolding fits line_at chunk_at mask_at probes_at line_start
+    unfolding framed chunk_at mask_at probes_at line_start
     fits_same n k h =
         let at : ℕ = header_length + line_length * l in
         let digits : are_digits b at 32 ≡ are_digits d at 32 = digits_same at 32 (omega arith) in
@@ -56,7 +57,9 @@ module _ (m : ℕ) (b d : List ℕ) (e : Same m b d) where
         let chunk : hex_value b at 8 ≡ hex_value d at 8 = value_same at 8 (omega arith) in
         let mask : hex_value b (at + 8) 16 ≡ hex_value d (at + 8) 16 = value_same (at + 8) 16 (omega arith) in
         let probes : hex_value b (at + 24) 8 ≡ hex_value d (at + 24) 8 = value_same (at + 24) 8 (omega arith) in
-        λ i. digits i && eqb (newline i) 10 && ltb (chunk i) (chunks n) && possible n k (chunk i) (mask i) (probes i)
+        line_fits_is n k b l
+        ∙ (λ i. (digits i && eqb (newline i) 10) && (ltb (chunk i) (chunks n) && possible n k (chunk i) (mask i) (probes i)))
+        ∙ sym (line_fits_is n k d l)
 
     line_same : (n k : ℕ) → line_start (l + 1) ≤ m → line_right n k b l ≡ line_right n k d l
     unfolding line_right line_start

@@ -8,14 +8,17 @@ use lib.Dec.{ltb, leb}
 use lib.ListN.{length}
 use borrow.Author.Tests.{lt-ltb, le-ltb, le-leb, lt-leb, eq-eqb, ne_eqb, leb-false, ltb-false}
 use Rattle.buffers.specs.Lent.{filled, put}
-use Rattle.buffers.specs.Refusal.{Conditions, first, carried, reply_of}
+use Rattle.std.specs.Prelude.{Ok, Err}
+use Rattle.buffers.specs.Refusal.{Conditions, first, carried, reply_of, replied, number_of}
+use Rattle.buffers.specs.declared.reasons.Refusal.{Refusal}
 use Rattle.buffers.specs.declared.Answer.{Answer}
 use Rattle.buffers.specs.declared.Answer.TheVariants.{Accepted, Refused}
-use Rattle.buffers.proofs.Refusals.{first_here, first_skip, first_clear, first_clears, carried_here, carried_skip, carried_clear, carried_last, written_none, accepted_with, refused_leaves, accepted_leaves}
+use Rattle.buffers.proofs.Refusals.{first_here, first_skip, first_clear, first_clears, carried_here, carried_skip, carried_clear, carried_last, written_none, accepted_with, refused_leaves, accepted_leaves, err_replied, ok_replied, err_unless, ok_unless}
 use Rattle.roll_sweep.specs.Sweep.{Sweep, cells, chunks}
 use Rattle.journal.specs.Lines.{header_length, line_length, line_of, has_chunk, has_chunks, held_probes}
 use Rattle.journal.specs.Right.{whole_lines, torn, right}
 use Rattle.journal.specs.Pass.{Passed}
+use Rattle.journal.specs.declared.plan.PassedPlan.{PassedPlan}
 use Rattle.journal.specs.Calls.{after_plan, wrong, begin_short, begin_refusal, begin_reply, begin_bytes, work_conditions, work_refusal, work_reply, work_bytes, kept, recover_refusal, recover_reply, collect_refusal, collect_reply, held_bit, collect_mask}
 use Rattle.journal.specs.Range.{Ran, ran_to, ran, range_conditions, range_refusal, range_ran, range_reply, range_bytes, range_stopped, Ranged}
 
@@ -43,9 +46,9 @@ pub record WorkClear (s : Sweep) (c : ℕ) (b : List ℕ) (u : ℕ) : Type 0 whe
   pub room : u + line_length ≤ length b
 
 -- by the sweep's cells, samples and header
-pub wrong_of : (s : Sweep) (n k : ℕ) (h b : List ℕ) (u : ℕ) (t : Bool) → Passed s n k h (length b) u → right n k h b u ≡ t → wrong s b u ≡ not t
+pub wrong_of : (s : Sweep) (p : PassedPlan) (b : List ℕ) (u : ℕ) (t : Bool) → Passed s p (length b) u → right p.cells p.samples p.header b u ≡ t → wrong s b u ≡ not t
 unfolding wrong
-wrong_of s n k h b u t p e = ap not ((λ i. right (p.all i) (p.samples i) (p.header i) b u) ∙ e)
+wrong_of s p b u t q e = ap not ((λ i. right (q.all i) (q.samples i) (q.header i) b u) ∙ e)
 
 module _ (s : Sweep) (b : List ℕ) (u : ℕ) where
   -- ---- begin
@@ -140,9 +143,13 @@ module _ (s : Sweep) (b : List ℕ) (u : ℕ) where
   unfolding recover_reply
   recover_refused k e h = (refused_leaves k _ (kept u) b b e h).0
 
-  pub recover_accepted : (k : ℕ) → k ≡ kept u → recover_refusal s b u ≡ 0 → reply_of (Accepted k) ≡ recover_reply s b u
+  pub recover_err : (e : Refusal) → number_of e ≡ recover_refusal s b u → replied (Err e) ≡ recover_reply s b u
   unfolding recover_reply
-  recover_accepted k f e = accepted_with k _ _ e f
+  recover_err e h = err_replied e _ _ h
+
+  pub recover_ok : (k : ℕ) → k ≡ kept u → recover_refusal s b u ≡ 0 → replied (Ok k) ≡ recover_reply s b u
+  unfolding recover_reply
+  recover_ok k f e = ok_replied _ _ _ (sym e) f
 
   -- ---- collect
 
@@ -175,10 +182,14 @@ module _ (s : Sweep) (b : List ℕ) (u : ℕ) where
     unfolding collect_reply collect_mask
     collect_refused k e h = refused_leaves k _ (held_probes b (whole_lines u)) (filled (cells s) (held_bit b u) o) o e h
 
-    pub collect_accepted : (q : ℕ) (m : List ℕ) → q ≡ held_probes b (whole_lines u) → m ≡ filled (cells s) (held_bit b u) o → collect_refusal s b u o ≡ 0
-        → (reply_of (Accepted q) ≡ collect_reply s b u o) × (m ≡ collect_mask s b u o)
+    pub collect_err : (e : Refusal) → number_of e ≡ collect_refusal s b u o → (replied (Err e) ≡ collect_reply s b u o) × (o ≡ collect_mask s b u o)
     unfolding collect_reply collect_mask
-    collect_accepted q m f g e = (accepted_with q _ _ e f, g ∙ sym (written_none _ _ o e))
+    collect_err e h = (err_replied e _ _ h, err_unless e _ _ o h)
+
+    pub collect_ok : (q : ℕ) (m : List ℕ) → q ≡ held_probes b (whole_lines u) → m ≡ filled (cells s) (held_bit b u) o → collect_refusal s b u o ≡ 0
+        → (replied (Ok q) ≡ collect_reply s b u o) × (m ≡ collect_mask s b u o)
+    unfolding collect_reply collect_mask
+    collect_ok q m f g e = (ok_replied _ _ _ (sym e) f, ok_unless _ _ o m (sym e) g)
 
 -- ---- work over a range
 

@@ -17,7 +17,7 @@ use Rattle.roll_sweep.specs.Rolls.{bad_roll, table_refusal}
 use Rattle.roll_sweep.specs.Sweep.{chunks, cells_in}
 use Rattle.journal.specs.Hex.{hex_text, are_digits, hex_value}
 use Rattle.journal.specs.Lines.{header_length, line_text, line_start, chunk_at, mask_at, probes_at, has_chunk, has_chunks, held_mask, held_probes}
-use Rattle.journal.specs.Right.{whole_lines, torn, agree, possible, line_at, fits, line_right, lines_right, right}
+use Rattle.journal.specs.Right.{whole_lines, torn, agree, possible, framed, line_at, fits, line_right, lines_right, right}
 use Rattle.journal.specs.Plan.{sweep_of, even_sweep, table_sweep}
 use Rattle.journal.specs.Calls.{kept, begin_short, begin_refusal, begin_reply}
 
@@ -98,7 +98,7 @@ pub rights :
     (right_up_to 140 (line_text 1 2 3) ≡ false) ×
     (right_up_to 140 (hex_text 7 0 ++ (65 ∷ []) ++ hex_text 16 2 ++ hex_text 8 4 ++ (10 ∷ [])) ≡ false) ×
     (right_up_to 140 (hex_text 8 1 ++ hex_text 16 2 ++ hex_text 8 4 ++ (7 ∷ [])) ≡ false)
-unfolding right agree lines_right line_right fits possible line_at chunks cells_in ones whole_lines line_text hex_text hex_value are_digits line_start chunk_at mask_at probes_at has_chunk all_below any_below
+unfolding right agree lines_right line_right fits possible framed line_at chunks cells_in ones whole_lines line_text hex_text hex_value are_digits line_start chunk_at mask_at probes_at has_chunk all_below any_below
 rights = (refl, refl, refl, refl, refl, refl, refl, refl, refl)
 
 -- ---- rolls

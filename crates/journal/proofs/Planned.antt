@@ -95,7 +95,7 @@ module _ (p : Plan) (rolls : List Float) (said : ℕ) where
     -- the plan's sweep, by the header that was written: over a blank array of its length
     pub passed_with : Says said n → (h : List ℕ) (room u : ℕ) → (sweep_of p rolls said).refusal (ltb room u) ≡ 0
         → h ≡ over (settings_header (rows_of p) (times_of p) n (head_tolerance p) p.configured (head_panel p)) (replicate header_length 0)
-        → Passed (sweep_of p rolls said) (rows_of p * times_of p) n h room u
+        → Passed (sweep_of p rolls said) (record { header = h; cells = rows_of p * times_of p; samples = n }) room u
     unfolding sweep_of header_of
     passed_with says h room u e w =
         let f = passed room u e in

@@ -6,11 +6,12 @@ use Prim.Native.Nat.{ℕ, zero, suc, ◌+◌, ◌*◌, ◌/◌, ◌%◌, ◌^◌
 use native.Mathlib.Nat.{add-suc, add_assoc, add-zero, pow-suc, div-lt_iff_lt-mul, lt_of_lt_of_le, pow-le-pow_right}
 use native.Mathlib.Numerals.{add-one}
 use native.Mathlib.Omega.{arith}
-use lib.ListN.{length, get_or, length-append}
-use lib.Seq.{get_or-append-add, get_or_at}
+use lib.ListN.{length, get_or, take, drop, length-append, length-drop}
+use lib.Seq.{get_or-append-add, get_or_at, get_or-take, get_or-drop, length-take-le}
 use lib.Dec.{ltb}
 use borrow.Author.Tests.{lt-ltb, le-ltb, le-leb, lt-leb, ltb-true, ltb-false}
 use Rattle.buffers.proofs.Tests.{and_left, and_right, and_both}
+use Rattle.buffers.proofs.Ranges.{all_ext}
 use Rattle.journal.specs.Hex.{hex_digit, digit_value, is_digit, hex_text, are_digits, hex_value}
 
 -- ---- a digit
@@ -96,13 +97,58 @@ unfolding hex_value
 value_lt b i zero = omega arith
 value_lt b i (suc w) = subst (λ (n : ℕ). hex_value b i w * 16 + digit_value (get_or b (i + w) 0) < n) (sym (pow-suc 16 w)) (omega (arith, value_lt b i w, digit_lt (get_or b (i + w) 0)))
 
-pub value_step : (b : List ℕ) (i j : ℕ) → hex_value b i (j + 1) ≡ hex_value b i j * 16 + digit_value (get_or b (i + j) 0)
+pub value_step : (b : List ℕ) (j : ℕ) → hex_value b 0 (j + 1) ≡ hex_value b 0 j * 16 + digit_value (get_or b j 0)
 unfolding hex_value
-value_step b i j = ap (hex_value b i) (add-one j)
+value_step b j =
+    let z : 0 + j ≡ j = omega arith in
+    ap (hex_value b 0) (add-one j) ∙ ap (λ (i : ℕ). hex_value b 0 j * 16 + digit_value (get_or b i 0)) z
 
 pub value_fits : (b : List ℕ) (i j : ℕ) → j < 16 → hex_value b i j < 16 ^ 15
 value_fits b i j h = lt_of_lt_of_le (value_lt b i j) (pow-le-pow_right {n = 16} (omega arith) {i = j} {j = 15} (omega arith))
 
-pub digits_step : (b : List ℕ) (i j : ℕ) → are_digits b i (j + 1) ≡ (are_digits b i j && is_digit (get_or b (i + j) 0))
+pub digits_step : (b : List ℕ) (j : ℕ) → are_digits b 0 (j + 1) ≡ (are_digits b 0 j && is_digit (get_or b j 0))
 unfolding are_digits
-digits_step b i j = ap (are_digits b i) (add-one j)
+digits_step b j =
+    let z : 0 + j ≡ j = omega arith in
+    ap (are_digits b 0) (add-one j) ∙ ap (λ (i : ℕ). are_digits b 0 j && is_digit (get_or b i 0)) z
+
+-- ---- the same bytes in another list, or at another place
+
+pub value_alike : (a b : List ℕ) (i j w : ℕ) → ((k : ℕ) → k < w → get_or a (i + k) 0 ≡ get_or b (j + k) 0) → hex_value a i w ≡ hex_value b j w
+unfolding hex_value
+value_alike a b i j zero e = refl
+value_alike a b i j (suc w) e = ap₂ (λ (v x : ℕ). v * 16 + digit_value x) (value_alike a b i j w (λ k h. e k (omega arith))) (e w (omega arith))
+
+pub digits_alike : (a b : List ℕ) (i j w : ℕ) → ((k : ℕ) → k < w → get_or a (i + k) 0 ≡ get_or b (j + k) 0) → are_digits a i w ≡ are_digits b j w
+unfolding are_digits
+digits_alike a b i j w e = all_ext w (λ k. is_digit (get_or a (i + k) 0)) (λ k. is_digit (get_or b (j + k) 0)) (λ k h. ap is_digit (e k h))
+
+-- a byte of the part of w bytes from byte i on
+pub part_at : (b : List ℕ) (i w k : ℕ) → k < w → get_or (take w (drop i b)) k 0 ≡ get_or b (i + k) 0
+part_at b i w k h = get_or-take w (drop i b) k 0 h ∙ get_or-drop i b k 0
+
+pub length_part : (b : List ℕ) (i w : ℕ) → i + w ≤ length b → length (take w (drop i b)) ≡ w
+length_part b i w h = length-take-le w (drop i b) (omega (arith, length-drop i b))
+
+-- the digits of a whole part
+pub digits_part : (b : List ℕ) (i w : ℕ) → i + w ≤ length b → are_digits (take w (drop i b)) 0 (length (take w (drop i b))) ≡ are_digits b i w
+digits_part b i w h =
+    let z : (k : ℕ) → 0 + k ≡ k = λ k. omega arith in
+    ap (are_digits (take w (drop i b)) 0) (length_part b i w h)
+    ∙ digits_alike (take w (drop i b)) b 0 i w (λ k l. ap (λ (j : ℕ). get_or (take w (drop i b)) j 0) (z k) ∙ part_at b i w k l)
+
+-- and the number that they write, of a part of a part too
+value_whole : (b : List ℕ) (i w : ℕ) → i + w ≤ length b → hex_value (take w (drop i b)) 0 (length (take w (drop i b))) ≡ hex_value b i w
+value_whole b i w h =
+    let z : (k : ℕ) → 0 + k ≡ k = λ k. omega arith in
+    ap (hex_value (take w (drop i b)) 0) (length_part b i w h)
+    ∙ value_alike (take w (drop i b)) b 0 i w (λ k l. ap (λ (j : ℕ). get_or (take w (drop i b)) j 0) (z k) ∙ part_at b i w k l)
+
+pub value_part : (b : List ℕ) (i n j w v : ℕ) → i + n ≤ length b → j + v ≤ n → w ≡ v
+    → hex_value (take w (drop j (take n (drop i b)))) 0 (length (take w (drop j (take n (drop i b))))) ≡ hex_value b (i + j) v
+value_part b i n j w v h g e =
+    let d : List ℕ = take n (drop i b) in
+    let z : (k : ℕ) → i + (j + k) ≡ i + j + k = λ k. omega arith in
+    ap (λ (u : ℕ). hex_value (take u (drop j d)) 0 (length (take u (drop j d)))) e
+    ∙ value_whole d j v (omega (arith, length_part b i n h))
+    ∙ value_alike d b j (i + j) v (λ k l. part_at b i n (j + k) (omega arith) ∙ ap (λ (m : ℕ). get_or b m 0) (z k))

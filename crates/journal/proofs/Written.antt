@@ -16,7 +16,8 @@ use Rattle.roll_sweep.specs.Sweep.{Sweep, cells, chunks, chunk_mask, chunk_probe
 use Rattle.roll_sweep.proofs.Chunks.{cells_le, mask_lt, probes_low, probes_high}
 use Rattle.journal.specs.Hex.{hex_text, are_digits, hex_value}
 use Rattle.journal.specs.Lines.{line_length, header_length, line_text, line_of, line_start, chunk_at, mask_at, probes_at, has_chunk}
-use Rattle.journal.specs.Right.{possible, fits, line_at, line_right}
+use Rattle.journal.specs.Right.{possible, framed, line_right}
+use Rattle.journal.proofs.Scan.{line_fits_is}
 use Rattle.journal.proofs.Text.{value_hex, digits_hex, digits_add}
 
 -- what is known of the sweep of an accepted plan
@@ -93,10 +94,11 @@ read_line s a c l p q h n =
 
 -- and it is right, where no line before it is its chunk's
 pub line_right_lem : (s : Sweep) → SweepFacts s → (b : List ℕ) (l c : ℕ) → LineAt s b l c → c < chunks (cells s) → has_chunk b l c ≡ false → line_right (cells s) s.samples b l ≡ true
-unfolding line_right fits line_at
+unfolding line_right framed
 line_right_lem s a b l c n h f =
     let new : not (has_chunk b l (chunk_at b l)) ≡ true = ap not (ap (has_chunk b l) n.chunk ∙ f) in
     let exists : ltb (chunk_at b l) (chunks (cells s)) ≡ true = ap (λ (x : ℕ). ltb x (chunks (cells s))) n.chunk ∙ lt-ltb c (chunks (cells s)) h in
     let can : possible (cells s) s.samples (chunk_at b l) (mask_at b l) (probes_at b l) ≡ true =
     (λ i. possible (cells s) s.samples (n.chunk i) (n.mask i) (n.probes i)) ∙ possible_line s a c in
-    and_both _ _ (and_both _ _ (and_both _ _ (and_both _ _ n.digits (eq-eqb _ _ n.newline)) exists) can) new
+    let fit = line_fits_is (cells s) s.samples b l ∙ and_both _ _ (and_both _ _ n.digits (eq-eqb _ _ n.newline)) (and_both _ _ exists can) in
+    and_both _ _ fit new

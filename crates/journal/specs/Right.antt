@@ -1,6 +1,6 @@
 -- Section 4: when a journal is right. b is the lent buffer, u its used length, l a line's number; n is how many cells the plan has, k how many
 -- samples, h its header. Definitions only. Assumes nothing.
-use Rattle.std.specs.Prelude.{Bool, ◌&&◌, ◌||◌, not, List, ℕ, ◌+◌, ◌-◌, ◌*◌, ◌/◌, ◌%◌, ◌^◌, min, leb, ltb, eqb, get_or}
+use Rattle.std.specs.Prelude.{Bool, false, cond, ◌&&◌, ◌||◌, not, List, ℕ, ◌+◌, ◌-◌, ◌*◌, ◌/◌, ◌%◌, ◌^◌, min, leb, ltb, eqb, get_or, Option, Some, None}
 use Rattle.std.specs.Int.Count.{ones}
 use Rattle.buffers.specs.Ranges.{all_below}
 use Rattle.roll_sweep.specs.Sweep.{chunks, cells_in}
@@ -26,21 +26,21 @@ unfoldable pub possible : ℕ → ℕ → ℕ → ℕ → ℕ → Bool
 unfolding cells_in
 possible n k c m p = ltb m (2 ^ cells_in n c) && leb (cells_in n c - ones m + k * ones m) p && leb p (k * cells_in n c)
 
--- line l, as it is read: it is framed if it has 32 digits and 0a
-unfoldable pub line_at : List ℕ → ℕ → Line
-unfolding are_digits line_start chunk_at mask_at probes_at
-line_at b l =
-    record {
-      framed = are_digits b (line_start l) 32 && eqb (get_or b (line_start l + 32) 0) 10;
-      chunk = chunk_at b l;
-      mask = mask_at b l;
-      probes = probes_at b l;
-    }
+-- line l has 32 digits and 0a
+unfoldable pub framed : List ℕ → ℕ → Bool
+unfolding are_digits line_start
+framed b l = are_digits b (line_start l) 32 && eqb (get_or b (line_start l + 32) 0) 10
+
+-- line l, as it is read: none where it is not framed
+unfoldable pub line_at : List ℕ → ℕ → Option Line
+unfolding framed chunk_at mask_at probes_at
+line_at b l = cond (framed b l) (Some (record { chunk = chunk_at b l; mask = mask_at b l; probes = probes_at b l })) None
 
 -- a line has 32 digits and 0a, a chunk that exists, and a possible mask and probes
-unfoldable pub fits : ℕ → ℕ → Line → Bool
+unfoldable pub fits : ℕ → ℕ → Option Line → Bool
 unfolding chunks possible
-fits n k line = line.framed && ltb line.chunk (chunks n) && possible n k line.chunk line.mask line.probes
+fits n k None = false
+fits n k (Some line) = ltb line.chunk (chunks n) && possible n k line.chunk line.mask line.probes
 
 abbrev pub line_fits : ℕ → ℕ → List ℕ → ℕ → Bool
 line_fits n k b l = fits n k (line_at b l)

@@ -1,6 +1,6 @@
 // Begin, work, work over a range, recover and collect on a plan. Each tries its refusals in their order, and writes nothing until all have passed.
 ghost use Rattle.std.specs.Prelude.{◌≡◌, List, Float, length};
-ghost use Rattle.buffers.specs.Refusal.{reply_of};
+ghost use Rattle.buffers.specs.Refusal.{reply_of, replied};
 ghost use Rattle.solar_roll.specs.Plan.{Plan, plan_of};
 ghost use Rattle.roll_sweep.specs.Sweep.{Sweep};
 ghost use Rattle.journal.specs.Calls.{begin_reply, begin_bytes, work_reply, work_bytes, recover_reply, collect_reply, collect_mask};
@@ -11,8 +11,19 @@ use crate::accepted::{collect_lines, recover_used};
 use crate::header::{HEADER_LENGTH, write_header};
 use crate::plan::lent_plan;
 use crate::range::work_even;
-use buffers::Answer;
+use buffers::{Answer, Refusal};
 use solar_roll::{ConfiguredRoll, plan_refusal, samples_refusal};
+
+// The answer of a call, by what it found.
+#[tactic(auto, unfolding(buffers::specs::Refusal::reply_of))]
+fn answer_of(found: Result<u64, Refusal>) -> Answer
+    ensures { reply_of result ≡ replied found }
+{
+    match found {
+        Ok(n) => Answer::Accepted(n),
+        Err(refusal) => Answer::Refused(refusal.number()),
+    }
+}
 
 // Begin, over any rolls of this number, of which `said` is said in the place of 3.
 pub(crate) fn begin_samples(
@@ -171,14 +182,14 @@ pub(crate) fn recover_samples(
         ((rolls : List Float) → length rolls ≡ samples → reply_of result ≡ recover_reply (sweep_of p rolls said) journal.now used) }
 {
     let room = journal.len() as u64;
-    let plan = lent_plan(
+    let lent = lent_plan(
         targets, suns, observers, tolerances, configured, panels, said, samples, room, used,
     );
-    if plan.refusal != 0 {
-        return Answer::Refused(plan.refusal);
+    if lent.refusal != 0 {
+        return Answer::Refused(lent.refusal);
     }
-    let header = plan.header;
-    recover_used(&header, plan.cells, samples, journal, used)
+    let plan = lent.plan;
+    answer_of(recover_used(&plan, journal, used))
 }
 
 // Gives the used length that is left after a power failure.
@@ -225,14 +236,14 @@ pub(crate) fn collect_samples(
         × (mask.new ≡ collect_mask (sweep_of p rolls said) journal.now used mask.old)) }
 {
     let room = journal.len() as u64;
-    let plan = lent_plan(
+    let lent = lent_plan(
         targets, suns, observers, tolerances, configured, panels, said, samples, room, used,
     );
-    if plan.refusal != 0 {
-        return Answer::Refused(plan.refusal);
+    if lent.refusal != 0 {
+        return Answer::Refused(lent.refusal);
     }
-    let header = plan.header;
-    collect_lines(&header, plan.cells, samples, journal, used, mask)
+    let plan = lent.plan;
+    answer_of(collect_lines(&plan, journal, used, mask))
 }
 
 // Writes the mask that the journal's lines hold, and gives the sum of their probes.

@@ -6,7 +6,7 @@ ghost use Rattle.solar_roll.specs.Plan.{triple};
 ghost use Rattle.journal.specs.Lines.{header_length};
 ghost use Rattle.journal.specs.Header.{header_text, has_roll, roll_bits, settings_header};
 
-use crate::hex::write_fields;
+use crate::hex::write_hex;
 use float::bits;
 use solar_roll::{ConfiguredRoll, triple};
 
@@ -29,10 +29,16 @@ fn write_numbers(
     requires { header_length ≤ length out.old }
     ensures { out.new ≡ over (header_text targets times n tolerance configured roll x y z) out.old }
 {
-    write_fields(out, 0, 8, targets, 8, times, 8, n);
-    write_fields(out, 24, 16, tolerance, 2, configured, 16, roll);
-    write_fields(out, 58, 16, x, 16, y, 16, z);
-    out[106] = 10;
+    write_hex(&mut out[..8], targets);
+    write_hex(&mut out[8..16], times);
+    write_hex(&mut out[16..24], n);
+    write_hex(&mut out[24..40], tolerance);
+    write_hex(&mut out[40..42], configured);
+    write_hex(&mut out[42..58], roll);
+    write_hex(&mut out[58..74], x);
+    write_hex(&mut out[74..90], y);
+    write_hex(&mut out[90..106], z);
+    out[106] = b'\n';
 }
 
 // 1 for a configured roll, else 0.

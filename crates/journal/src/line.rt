@@ -5,15 +5,14 @@ ghost use Rattle.journal.specs.Lines.{header_length, line_length, line_text};
 ghost use Rattle.journal.specs.Right.{line_at};
 
 use crate::header::HEADER_LENGTH;
-use crate::hex::{are_digits, hex_value, write_fields};
+use crate::hex::{are_digits, hex_value, write_hex};
 
 // How many bytes a line has, with its 0a.
 pub const LINE_LENGTH: usize = 33;
 
-// What stands in the place of a line. It is framed if it has 32 digits and 0a; else its numbers mean nothing.
+// The numbers of a line.
 #[derive(Clone, Copy)]
 pub struct Line {
-    pub framed: bool,
     pub chunk: u64,
     pub mask: u64,
     pub probes: u64,
@@ -24,8 +23,10 @@ fn write_line(tail: &mut [u8], chunk: u64, mask: u64, probes: u64)
     requires { line_length ≤ length tail.old }
     ensures { tail.new ≡ over (line_text chunk mask probes) tail.old }
 {
-    write_fields(tail, 0, 8, chunk, 16, mask, 8, probes);
-    tail[32] = 10;
+    write_hex(&mut tail[..8], chunk);
+    write_hex(&mut tail[8..24], mask);
+    write_hex(&mut tail[24..32], probes);
+    tail[32] = b'\n';
 }
 
 // Appends a line to the used bytes of the journal.
@@ -36,21 +37,19 @@ pub(crate) fn append_line(journal: &mut [u8], used: usize, chunk: u64, mask: u64
     write_line(&mut journal[used..], chunk, mask, probes);
 }
 
-// Reads line l.
-pub(crate) fn read_line(journal: &[u8], l: usize) -> Line
+// Reads line l: none if it lacks its 32 digits or 0a.
+pub(crate) fn read_line(journal: &[u8], l: usize) -> Option<Line>
     requires { header_length + line_length * l + line_length ≤ length journal.now }
     ensures { result ≡ line_at journal.now l }
 {
     let at = HEADER_LENGTH + LINE_LENGTH * l;
-    let digits = are_digits(journal, at, 32);
-    let end = journal[at + 32];
-    let chunk = hex_value(journal, at, 8);
-    let mask = hex_value(journal, at + 8, 16);
-    let probes = hex_value(journal, at + 24, 8);
-    Line {
-        framed: digits & (end == 10),
-        chunk: chunk,
-        mask: mask,
-        probes: probes,
+    let digits = &journal[at..at + 32];
+    if !are_digits(digits) || journal[at + 32] != b'\n' {
+        return None;
     }
+    Some(Line {
+        chunk: hex_value(&digits[..8]),
+        mask: hex_value(&digits[8..24]),
+        probes: hex_value(&digits[24..]),
+    })
 }

@@ -1,48 +1,35 @@
 // What collect writes: the masks of the table, one byte a cell.
-ghost use Rattle.std.specs.Prelude.{◌≡◌, not, ◌+◌, ◌*◌, ◌/◌, ◌%◌, ◌≤◌, eqb, length, get_or};
-ghost use Rattle.buffers.specs.Ranges.{tab, all_below};
-ghost use Rattle.buffers.specs.Lent.{filled, put};
+ghost use Rattle.std.specs.Prelude.{◌≡◌, ◌*◌, ◌/◌, ◌%◌, ◌≤◌, length, get_or};
+ghost use Rattle.std.specs.List.{list_all};
+ghost use Rattle.buffers.specs.Ranges.{tab};
 ghost use Rattle.journal.specs.Lines.{bit_of};
 
-// Each of the first m chunks has its flag.
-pub(crate) fn all_seen(seen: &[u8], m: usize) -> bool
-    requires { m ≤ length seen.now }
-    ensures { result ≡ all_below m (λ c. not (eqb (get_or seen.now c 0) 0)) }
+// Each of the chunks has its flag.
+pub(crate) fn all_seen(seen: &[bool]) -> bool
+    ensures { result ≡ list_all (λ flag. flag) seen.now }
 {
-    let mut c = 0;
-    while c < m {
-        if seen[c] == 0 {
-            return false;
-        }
-        c += 1;
-    }
-    true
+    seen.iter().all(|flag| *flag)
 }
 
-// Writes the w low bits of a word, one byte each, from index at on.
-fn write_bits(out: &mut [u8], at: usize, w: usize, word: u64)
-    requires { at + w ≤ length out.old }
-    ensures { out.new ≡ put at (tab w (bit_of word)) out.old }
+// Writes the low bits of a word, one byte each.
+fn write_bits(out: &mut [u8], word: u64)
+    ensures { out.new ≡ tab (length out.old) (bit_of word) }
 {
-    let mut v = word;
-    let mut k = 0;
-    while k < w {
-        out[at + k] = (v % 2) as u8;
-        v = v / 2;
-        k += 1;
+    let mut left = word;
+    for bit in out.iter_mut() {
+        *bit = (left % 2) as u8;
+        left = left / 2;
     }
 }
 
-// Writes the bits of the first cells, which the masks hold.
-pub(crate) fn write_cells(out: &mut [u8], cells: usize, masks: &[u64])
-    requires { (cells ≤ length out.old) × (cells ≤ 64 * length masks.now) }
-    ensures { out.new ≡ filled cells (λ i. bit_of (get_or masks.now (i / 64) 0) (i % 64)) out.old }
+// Writes the bits of the cells, which the masks hold. Over the words by their number: once `chunks_mut` has lent its parts, a proof knows no byte of them.
+pub(crate) fn write_cells(out: &mut [u8], masks: &[u64])
+    requires { length out.old ≤ 64 * length masks.now }
+    ensures { out.new ≡ tab (length out.old) (λ i. bit_of (get_or masks.now (i / 64) 0) (i % 64)) }
 {
-    let mut at = 0;
-    while at < cells {
-        let left = cells - at;
-        let w = if left < 64 { left } else { 64 };
-        write_bits(out, at, w, masks[at / 64]);
-        at += w;
+    let cells = out.len();
+    for c in 0..cells.div_ceil(64) {
+        let end = cells.min(64 * c + 64);
+        write_bits(&mut out[64 * c..end], masks[c]);
     }
 }

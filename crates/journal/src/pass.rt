@@ -1,35 +1,25 @@
 // The pass that work, recover and collect make over a journal: whether it is right, which chunks have a line, and what their masks are.
-ghost use Rattle.std.specs.Prelude.{◌≡◌, true, List, ℕ, ◌+◌, ◌*◌, ◌^◌, ◌≤◌, ◌<◌, ltb, length, replicate};
+ghost use Rattle.std.specs.Prelude.{◌≡◌, true, List, ℕ, ◌+◌, ◌*◌, ◌^◌, ◌≤◌, ◌<◌, ltb, length, Some};
 ghost use Rattle.solar_roll.specs.Plan.{most_cells, most_samples};
 ghost use Rattle.journal.specs.Lines.{header_length, line_length, held_probes};
-ghost use Rattle.journal.specs.Right.{whole_lines, torn, agree, possible, fits, lines_right, right};
+ghost use Rattle.journal.specs.Right.{whole_lines, torn, possible, fits, lines_right, right};
 ghost use Rattle.journal.specs.Calls.{kept};
-ghost use Rattle.journal.specs.Pass.{most_chunks, checked_of, Tables};
+ghost use Rattle.journal.specs.Pass.{checked_of, Tables, Blank, Bounded};
 
 use crate::header::HEADER_LENGTH;
 use crate::line::{LINE_LENGTH, Line, read_line};
-use buffers::smaller;
+use crate::plan::PassedPlan;
 use roll_sweep::cells_in;
 
 // How many chunks a plan can have, so how long the tables are: 1,048,576 cells make 16,384.
 pub(crate) const MOST_CHUNKS: usize = 16_384;
-
-// Whether a journal is right, with the sum of its lines' probes.
-#[derive(Clone, Copy)]
-pub enum Checked {
-    Right(u64),
-    Wrong,
-}
 
 // The mask has no bit from bit k on.
 fn no_bit_from(mask: u64, k: u64) -> bool
     requires { k ≤ 64 }
     ensures { result ≡ ltb mask (2 ^ k) }
 {
-    if k == 64 {
-        return true;
-    }
-    mask >> k == 0
+    k == 64 || mask >> k == 0
 }
 
 // The chunk can have this mask and these probes.
@@ -41,97 +31,71 @@ fn is_possible(cells: u64, n: u64, chunk: u64, mask: u64, probes: u64) -> bool
     if !no_bit_from(mask, all) {
         return false;
     }
-    let marked = u64::count_ones(mask) as u64;
-    if probes < all - marked + n * marked {
-        return false;
-    }
-    probes <= n * all
+    let marked = u64::from(mask.count_ones());
+    let least = all - marked + n * marked;
+    least <= probes && probes <= n * all
 }
 
 // A line fits, whether or not its chunk has a line before it.
 fn line_fits(line: Line, cells: u64, n: u64) -> bool
     requires { (cells ≤ most_cells) × (n ≤ most_samples) }
-    ensures { result ≡ fits cells n line }
+    ensures { result ≡ fits cells n (Some line) }
 {
-    if !line.framed {
-        return false;
-    }
-    if (cells + 63) / 64 <= line.chunk {
-        return false;
-    }
-    is_possible(cells, n, line.chunk, line.mask, line.probes)
+    line.chunk < cells.div_ceil(64) && is_possible(cells, n, line.chunk, line.mask, line.probes)
 }
 
-// Whether each of the first lines is right. The tables come blank, and are filled if they all are.
+// The sum of the first lines' probes, if each of these lines is right. The tables come blank, and are then filled.
 fn check_lines(
+    plan: &PassedPlan,
     journal: &[u8],
     lines: usize,
-    cells: u64,
-    n: u64,
-    seen: &mut [u8],
+    seen: &mut [bool],
     masks: &mut [u64],
-) -> Checked
-    requires { ((l : ℕ) → l < lines → header_length + line_length * l + line_length ≤ length journal.now) × (cells ≤ most_cells) × (n ≤ most_samples)
-        × (seen.old ≡ replicate most_chunks 0) × (masks.old ≡ replicate most_chunks 0) }
-    ensures { let b : List ℕ = journal.now in
-        (result ≡ checked_of (lines_right cells n b lines) (held_probes b lines))
-        × (lines_right cells n b lines ≡ true → Tables b lines seen.new masks.new) }
+) -> Option<u64>
+    requires within { (l : ℕ) → l < lines → header_length + line_length * l + line_length ≤ length journal.now }
+    requires few { plan.now.cells ≤ most_cells }
+    requires most { plan.now.samples ≤ most_samples }
+    requires blank { Blank seen.old masks.old }
+    ensures checked { let b : List ℕ = journal.now in
+        result ≡ checked_of (lines_right plan.now.cells plan.now.samples b lines) (held_probes b lines) }
+    ensures tables { let b : List ℕ = journal.now in
+        lines_right plan.now.cells plan.now.samples b lines ≡ true → Tables b lines seen.new masks.new }
 {
-    let mut probes: u64 = 0;
-    let mut l: usize = 0;
-    while l < lines {
-        let line = read_line(journal, l);
-        if !line_fits(line, cells, n) {
-            return Checked::Wrong;
+    let mut probes = 0;
+    for l in 0..lines {
+        let line = read_line(journal, l)?;
+        if !line_fits(line, plan.cells, plan.samples) {
+            return None;
         }
         let c = line.chunk as usize;
-        if seen[c] != 0 {
-            return Checked::Wrong;
+        if seen[c] {
+            return None;
         }
-        seen[c] = 1;
+        seen[c] = true;
         masks[c] = line.mask;
         probes += line.probes;
-        l += 1;
     }
-    Checked::Right(probes)
-}
-
-// The first m bytes of the journal are the header's.
-fn agrees(journal: &[u8], header: &[u8], m: usize) -> bool
-    requires { (m ≤ length journal.now) × (m ≤ length header.now) }
-    ensures { result ≡ agree journal.now header.now m }
-{
-    let mut j = 0;
-    while j < m {
-        if journal[j] != header[j] {
-            return false;
-        }
-        j += 1;
-    }
-    true
+    Some(probes)
 }
 
 // How many whole lines the used bytes hold.
+#[tactic(auto, unfolding(crate::specs::Right::whole_lines))]
 fn whole_lines(used: usize) -> usize
     ensures { result ≡ whole_lines used }
 {
-    if used < HEADER_LENGTH {
-        return 0;
-    }
-    (used - HEADER_LENGTH) / LINE_LENGTH
+    used.saturating_sub(HEADER_LENGTH) / LINE_LENGTH
 }
 
 // The header is incomplete, or a tail shorter than a line follows the last whole line.
+#[tactic(auto, unfolding(crate::specs::Right::torn))]
 pub(crate) fn is_torn(used: usize) -> bool
     ensures { result ≡ torn used }
 {
-    if used < HEADER_LENGTH {
-        return true;
-    }
-    (used - HEADER_LENGTH) % LINE_LENGTH != 0
+    used < HEADER_LENGTH || (used - HEADER_LENGTH) % LINE_LENGTH != 0
 }
 
 // What recover keeps of the used bytes of a journal that is right.
+#[tactic(auto, unfolding(crate::specs::Calls::kept, crate::specs::Right::whole_lines))]
 pub(crate) fn kept_length(used: usize) -> usize
     ensures { result ≡ kept used }
 {
@@ -141,25 +105,24 @@ pub(crate) fn kept_length(used: usize) -> usize
     HEADER_LENGTH + LINE_LENGTH * whole_lines(used)
 }
 
-// Whether the used bytes are right. The tables come blank, and are filled if they are.
+// The sum of the lines' probes, if the used bytes are right. The tables come blank, and are then filled.
 pub(crate) fn check_journal(
-    header: &[u8],
-    cells: u64,
-    n: u64,
+    plan: &PassedPlan,
     journal: &[u8],
     used: usize,
-    seen: &mut [u8],
+    seen: &mut [bool],
     masks: &mut [u64],
-) -> Checked
-    requires { (length header.now ≡ header_length) × (cells ≤ most_cells) × (n ≤ most_samples) × (used ≤ length journal.now)
-        × (seen.old ≡ replicate most_chunks 0) × (masks.old ≡ replicate most_chunks 0) }
-    ensures { let b : List ℕ = journal.now in
-        (result ≡ checked_of (right cells n header.now b used) (held_probes b (whole_lines used)))
-        × (right cells n header.now b used ≡ true → Tables b (whole_lines used) seen.new masks.new) }
+) -> Option<u64>
+    requires bounded { Bounded plan.now journal.now used }
+    requires blank { Blank seen.old masks.old }
+    ensures checked { let b : List ℕ = journal.now in
+        result ≡ checked_of (right plan.now.cells plan.now.samples plan.now.header b used) (held_probes b (whole_lines used)) }
+    ensures tables { let b : List ℕ = journal.now in
+        right plan.now.cells plan.now.samples plan.now.header b used ≡ true → Tables b (whole_lines used) seen.new masks.new }
 {
-    let m = smaller(used, HEADER_LENGTH);
-    if !agrees(journal, header, m) {
-        return Checked::Wrong;
+    let m = used.min(HEADER_LENGTH);
+    if journal[..m] != plan.header[..m] {
+        return None;
     }
-    check_lines(journal, whole_lines(used), cells, n, seen, masks)
+    check_lines(plan, journal, whole_lines(used), seen, masks)
 }

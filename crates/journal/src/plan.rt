@@ -7,12 +7,19 @@ ghost use Rattle.journal.specs.Plan.{sweep_of, Says};
 use crate::header::{HEADER_LENGTH, write_header};
 use solar_roll::{ConfiguredRoll, plan_refusal};
 
-// The number of the plan's refusal, 0 for none; and where it is 0, how many cells the plan has, and its header.
+// What work, recover and collect see of a plan that has passed: its header, how many cells it has, and how many samples.
+#[derive(Clone, Copy)]
+pub struct PassedPlan {
+    pub header: [u8; HEADER_LENGTH],
+    pub cells: u64,
+    pub samples: u64,
+}
+
+// The number of the plan's refusal, 0 for none; and the plan, where it is 0.
 #[derive(Clone, Copy)]
 pub struct LentPlan {
     pub refusal: u64,
-    pub cells: u64,
-    pub header: [u8; HEADER_LENGTH],
+    pub plan: PassedPlan,
 }
 
 // Tries *Plan*, for any rolls of this number, of which `said` is said in the place of 3, and a journal of `room` bytes.
@@ -31,7 +38,7 @@ pub(crate) fn lent_plan(
     requires { Says said samples }
     ensures { let p : Plan = plan_of targets.now suns.now observers.now tolerances.now configured panels.now in
         ((rolls : List Float) → length rolls ≡ samples → (result.refusal ≡ (sweep_of p rolls said).refusal (ltb room used))
-        × (result.refusal ≡ 0 → Passed (sweep_of p rolls said) result.cells samples result.header room used)) }
+        × (result.refusal ≡ 0 → Passed (sweep_of p rolls said) result.plan room used)) }
 {
     let refusal = plan_refusal(
         targets,
@@ -47,8 +54,11 @@ pub(crate) fn lent_plan(
     if refusal != 0 {
         return LentPlan {
             refusal: refusal,
-            cells: 0,
-            header: header,
+            plan: PassedPlan {
+                header: header,
+                cells: 0,
+                samples: 0,
+            },
         };
     }
     let rows = (targets.len() / 3) as u64;
@@ -65,7 +75,10 @@ pub(crate) fn lent_plan(
     let cells = rows * times;
     LentPlan {
         refusal: 0,
-        cells: cells,
-        header: header,
+        plan: PassedPlan {
+            header: header,
+            cells: cells,
+            samples: samples,
+        },
     }
 }

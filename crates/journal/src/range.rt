@@ -1,6 +1,6 @@
 // Work over a range of chunks, over any slice of rolls. The journal is checked once; even rolls are a table that is filled once, and so are the Sun's units
 // where that pays.
-ghost use Rattle.std.specs.Prelude.{◌≡◌, true, not, ◌||◌, List, ℕ, ◌+◌, ◌-◌, ◌*◌, ◌%◌, ◌≤◌, ◌<◌, leb, ltb, eqb, length, get_or, take};
+ghost use Rattle.std.specs.Prelude.{◌≡◌, true, false, ◌||◌, List, ℕ, ◌+◌, ◌-◌, ◌*◌, ◌%◌, ◌≤◌, ◌<◌, leb, ltb, length, get_or, take};
 ghost use Rattle.buffers.specs.Ranges.{tab};
 ghost use Rattle.solar_roll.specs.Vectors.{Vector};
 ghost use Rattle.solar_roll.specs.Roll.{sun_unit};
@@ -14,7 +14,7 @@ ghost use Rattle.journal.specs.Pass.{most_chunks, Ready};
 ghost use Rattle.journal.specs.Plan.{sweep_of, even_sweep, Says, UnitsOf, table_times};
 ghost use Rattle.journal.specs.Range.{ran_to, ran, Ranged};
 
-use crate::accepted::work_refusal;
+use crate::accepted::check_work;
 use crate::line::{LINE_LENGTH, append_line};
 use crate::pass::MOST_CHUNKS;
 use crate::plan::lent_plan;
@@ -93,18 +93,14 @@ fn sweep_rolls(
 }
 
 // Work refuses the chunk: it does not exist, it has a line, or there is no room for one.
-fn is_refused(seen: &[u8], chunks: u64, free: usize, chunk: u64) -> bool
+fn is_refused(seen: &[bool], chunks: u64, free: usize, chunk: u64) -> bool
     requires { (length seen.now ≡ most_chunks) × (chunks ≤ most_chunks) }
-    ensures { result ≡ (leb chunks chunk || (not (eqb (get_or seen.now chunk 0) 0) || ltb free line_length)) }
+    ensures { result ≡ (leb chunks chunk || (get_or seen.now chunk false || ltb free line_length)) }
 {
     if chunks <= chunk {
         return true;
     }
-    let flag = seen[chunk as usize];
-    if flag != 0 {
-        return true;
-    }
-    free < LINE_LENGTH
+    seen[chunk as usize] || free < LINE_LENGTH
 }
 
 // Appends the lines of up to `limit` chunks from `from` on, stopping at the first that work refuses. Gives the chunk at which it stopped.
@@ -121,7 +117,7 @@ fn append_swept(
     limit: u64,
     journal: &mut [u8],
     used: u64,
-    seen: &[u8],
+    seen: &[bool],
 ) -> u64
     requires { let p : Plan = plan_of targets.now suns.now observers.now tolerances.now configured panels.now in
         UnitsOf p units.now × ((masks : List ℕ) × Ready (sweep_of p rolls.now 0) journal.old used seen.now masks) }
@@ -173,7 +169,7 @@ fn append_by_units(
     limit: u64,
     journal: &mut [u8],
     used: u64,
-    seen: &[u8],
+    seen: &[bool],
 ) -> u64
     requires { let p : Plan = plan_of targets.now suns.now observers.now tolerances.now configured panels.now in
         (count suns.now ≤ table_times) × ((masks : List ℕ) × Ready (sweep_of p rolls.now 0) journal.old used seen.now masks) }
@@ -214,7 +210,7 @@ fn append_lines(
     limit: u64,
     journal: &mut [u8],
     used: u64,
-    seen: &[u8],
+    seen: &[bool],
 ) -> u64
     requires { let p : Plan = plan_of targets.now suns.now observers.now tolerances.now configured panels.now in
         ((masks : List ℕ) × Ready (sweep_of p rolls.now 0) journal.old used seen.now masks) }
@@ -260,23 +256,20 @@ pub(crate) fn work_over(
 {
     let room = journal.len() as u64;
     let samples = rolls.len() as u64;
-    let plan = lent_plan(
+    let lent = lent_plan(
         targets, suns, observers, tolerances, configured, panels, said, samples, room, used,
     );
-    if plan.refusal != 0 {
-        return Answer::Refused(plan.refusal);
+    if lent.refusal != 0 {
+        return Answer::Refused(lent.refusal);
     }
     if limit == 0 {
         return Answer::Refused(9);
     }
-    let header = plan.header;
-    let mut seen = [0u8; MOST_CHUNKS];
+    let plan = lent.plan;
+    let mut seen = [false; MOST_CHUNKS];
     let mut masks = [0u64; MOST_CHUNKS];
-    let refusal = work_refusal(
-        &header, plan.cells, samples, from, journal, used, &mut seen, &mut masks,
-    );
-    if refusal != 0 {
-        return Answer::Refused(refusal);
+    if let Err(refusal) = check_work(&plan, from, journal, used, &mut seen, &mut masks) {
+        return Answer::Refused(refusal.number());
     }
     let next = append_lines(
         targets, suns, observers, tolerances, configured, panels, rolls, from, limit, journal,

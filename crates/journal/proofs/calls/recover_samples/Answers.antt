@@ -1,5 +1,5 @@
 -- `journal::calls::recover_samples` meets its contract. Assumes nothing.
-use mathlib.Core.Path.{◌≡◌}
+use mathlib.Core.Path.{◌≡◌, ◌∙◌}
 use mathlib.Core.List.{List}
 use lib.Ieee.{Float}
 use lib.ListN.{length}
@@ -12,29 +12,29 @@ use Rattle.journal.specs.Pass.{Passed}
 use Rattle.journal.specs.Plan.{sweep_of}
 use Rattle.journal.proofs.Chains.{plan_refused, recover_refused}
 use Rattle.journal.proofs.calls.recover_samples.Goals as goal
-use Rattle.journal.proofs.calls.recover_samples.Goals.{After-lent_plan-plan, Else-plan-ne0}
+use Rattle.journal.proofs.calls.recover_samples.Goals.{After-lent_plan-lent, Else-lent-ne0}
 
-abbrev sweep : After-lent_plan-plan → List Float → Sweep
+abbrev sweep : After-lent_plan-lent → List Float → Sweep
 sweep c rolls = let a = c.args in sweep_of (plan_of a.targets.now a.suns.now a.observers.now a.tolerances.now a.configured a.panels.now) rolls a.said
 
 -- the plan has passed
-passes : (c : Else-plan-ne0) (rolls : List Float) →
+passes : (c : Else-lent-ne0) (rolls : List Float) →
     let a = c.args in
-    let p = c.lent_plan-plan.result in
-    length rolls ≡ a.samples → Passed ((λ (rolls : List Float). let a = c.args in sweep_of (plan_of a.targets.now a.suns.now a.observers.now a.tolerances.now a.configured a.panels.now) rolls a.said) rolls) p.cells a.samples p.header (length a.journal.now) a.used
-passes c rolls size = (c.lent_plan-plan.ensures rolls size).1 c.if-plan-ne0.false
+    let p = c.lent_plan-lent.result in
+    length rolls ≡ a.samples → Passed ((λ (rolls : List Float). let a = c.args in sweep_of (plan_of a.targets.now a.suns.now a.observers.now a.tolerances.now a.configured a.panels.now) rolls a.said) rolls) p.plan (length a.journal.now) a.used
+passes c rolls size = (c.lent_plan-lent.ensures rolls size).1 c.if-lent-ne0.false
 
-pub returns-then-plan-ne0 : goal.returns-then-plan-ne0
+pub returns-then-lent-ne0 : goal.returns-then-lent-ne0
 unfolding recover_refusal
-returns-then-plan-ne0 c rolls size = let a = c.args in
+returns-then-lent-ne0 c rolls size = let a = c.args in
     let b = a.journal.now in
     let u = a.used in
-    recover_refused (sweep (goal.at.returns-then-plan-ne0 c).After-lent_plan-plan rolls) b u _ (plan_refused (sweep (goal.at.returns-then-plan-ne0 c).After-lent_plan-plan rolls) b u (recover_conditions (sweep (goal.at.returns-then-plan-ne0 c).After-lent_plan-plan rolls) b u) _ (c.lent_plan-plan.ensures rolls size).0 c.if-plan-ne0.true) c.if-plan-ne0.true
+    recover_refused (sweep (goal.at.returns-then-lent-ne0 c).After-lent_plan-lent rolls) b u _ (plan_refused (sweep (goal.at.returns-then-lent-ne0 c).After-lent_plan-lent rolls) b u (recover_conditions (sweep (goal.at.returns-then-lent-ne0 c).After-lent_plan-lent rolls) b u) _ (c.lent_plan-lent.ensures rolls size).0 c.if-lent-ne0.true) c.if-lent-ne0.true
 
 pub recover_used-requires : goal.recover_used-requires
 recover_used-requires c = let n = c.args.samples in
-    let q = passes (goal.at.recover_used-requires c).Else-plan-ne0 (even_rolls n) (length_even n) in
-    (q.size, q.few, q.most, q.used)
+    let q = passes (goal.at.recover_used-requires c).Else-lent-ne0 (even_rolls n) (length_even n) in
+    record { size = q.size; few = q.few; most = q.most; used = q.used }
 
 pub returns : goal.returns
-returns c rolls size = c.recover_used.ensures _ (passes (goal.at.returns c).Else-plan-ne0 rolls size)
+returns c rolls size = c.answer_of.ensures ∙ c.recover_used.ensures _ (passes (goal.at.returns c).Else-lent-ne0 rolls size)

@@ -1,7 +1,15 @@
 -- `journal::line::write_line` meets its contract. Assumes nothing.
-use Rattle.journal.proofs.Write.{line_written}
+use mathlib.Core.Path.{refl}
+use native.Mathlib.Omega.{arith}
+use lib.ListN.{length-append}
+use Rattle.journal.proofs.Text.{length_hex}
+use Rattle.journal.proofs.Write.{field_first, field_next, line_written}
 use Rattle.journal.proofs.line.write_line.Goals as goal
 
 pub returns : goal.returns
 returns c = let a = c.args in
-    (line_written a.tail.now _ a.chunk a.mask a.probes c.requires c.write_fields.ensures).0
+    let o = a.tail.now in
+    let first = field_first o _ 8 a.chunk (omega arith) c.write_hex.ensures in
+    let second = field_next o _ _ _ 8 16 a.mask first (length_hex 8 a.chunk) (omega arith) c.write_hex-2.ensures in
+    line_written o _ a.chunk a.mask a.probes c.requires
+    (field_next o _ _ _ 24 8 a.probes second (simp (length-append, length_hex) refl) (omega arith) c.write_hex-3.ensures)

@@ -4,144 +4,109 @@ use mathlib.Core.Path.{◌≡◌, sym, ap, ◌∙◌, subst}
 use Prim.Native.Nat.{ℕ, ◌<◌}
 use native.Mathlib.Omega.{arith}
 use Rattle.journal.specs.Lines.{chunk_at, mask_at, probes_at, has_chunk, held_probes}
-use Rattle.journal.specs.Right.{line_at, fits, line_fits, lines_right}
+use Rattle.journal.specs.Right.{fits, line_fits, lines_right}
 use Rattle.journal.specs.Pass.{most_chunks, Tables}
 use Rattle.journal.specs.declared.line.Line.{Line}
-use Rattle.journal.proofs.Scan.{fits_exists, chunks_le, lines_zero, lines_next, lines_unfit, lines_repeat, lines_few, probes_zero, probes_next, probes_lt, probes_fit, tables_zero, tables_next, unseen, has_line, is_wrong, is_right, blank_length}
+use Rattle.journal.proofs.Scan.{chunks_le, chunk_within, none_unfit, some_read, lines_zero, lines_next, lines_unfit, lines_repeat, lines_few, probes_zero, probes_next, probes_lt, probes_fit, tables_zero, tables_next, is_wrong, is_right}
 use Rattle.journal.proofs.pass.check_lines.Goals as goal
-use Rattle.journal.proofs.pass.check_lines.Goals.{After-slice_known-in-loop-l-1}
+use Rattle.journal.proofs.pass.check_lines.Goals.{Else-not-line_fits}
 
 -- the line fits, so its chunk is one of 16,384
-fitting : (c : After-slice_known-in-loop-l-1) →
-    line_fits c.args.cells c.args.n c.args.journal.now c.loop-l.l ≡ true
-fitting c =
-    let a = c.args in
-    let p = c.loop-l in
-    ap (fits a.cells a.n) (sym c.read_line-line.ensures)
-    ∙ sym c.line_fits.ensures
-    ∙ c.if-not-line_fits.false
+fitting : (c : Else-not-line_fits) → line_fits c.args.plan.now.cells c.args.plan.now.samples c.args.journal.now c.loop-l.l ≡ true
+fitting c = let p = c.args.plan.now in ap (fits p.cells p.samples) (sym c.in_ok-line.ensures) ∙ sym c.line_fits.ensures ∙ c.if-not-line_fits.false
 
-chunk_read : (c : After-slice_known-in-loop-l-1) →
-    c.read_line-line.result.chunk ≡ chunk_at c.args.journal.now c.loop-l.l
-unfolding line_at
-chunk_read c = ap (λ (x : Line). x.chunk) c.read_line-line.ensures
+within : (c : Else-not-line_fits) → c.in_ok-line.line.chunk < most_chunks
+within c = let p = c.args.plan.now in chunk_within p.cells p.samples c.args.journal.now c.loop-l.l c.in_ok-line.line c.requires.few c.in_ok-line.ensures (fitting c)
 
-mask_read : (c : After-slice_known-in-loop-l-1) →
-    c.read_line-line.result.mask ≡ mask_at c.args.journal.now c.loop-l.l
-unfolding line_at
-mask_read c = ap (λ (x : Line). x.mask) c.read_line-line.ensures
+-- these are its numbers
+chunk_read : (c : Else-not-line_fits) → c.in_ok-line.line.chunk ≡ chunk_at c.args.journal.now c.loop-l.l
+chunk_read c = ap (λ (x : Line). x.chunk) (some_read _ _ _ c.in_ok-line.ensures)
 
-probes_read : (c : After-slice_known-in-loop-l-1) →
-    c.read_line-line.result.probes ≡ probes_at c.args.journal.now c.loop-l.l
-unfolding line_at
-probes_read c = ap (λ (x : Line). x.probes) c.read_line-line.ensures
+mask_read : (c : Else-not-line_fits) → c.in_ok-line.line.mask ≡ mask_at c.args.journal.now c.loop-l.l
+mask_read c = ap (λ (x : Line). x.mask) (some_read _ _ _ c.in_ok-line.ensures)
 
-within : (c : After-slice_known-in-loop-l-1) → c.read_line-line.result.chunk < most_chunks
-within c =
-    let a = c.args in
-    let p = c.loop-l in
-    omega (arith, chunk_read c, fits_exists a.cells a.n a.journal.now p.l (fitting c), chunks_le a.cells c.requires.1)
+probes_read : (c : Else-not-line_fits) → c.in_ok-line.line.probes ≡ probes_at c.args.journal.now c.loop-l.l
+probes_read c = ap (λ (x : Line). x.probes) (some_read _ _ _ c.in_ok-line.ensures)
 
 pub loop-l-init : goal.loop-l-init
-loop-l-init c = (omega arith, lines_zero _ _ _, sym (probes_zero c.args.journal.now), tables_zero c.args.journal.now _ _ c.requires.3 c.requires.4)
+loop-l-init c = record {
+  right = lines_zero _ _ _;
+  probes = sym (probes_zero c.args.journal.now);
+  tables = tables_zero c.args.journal.now _ _ c.requires.blank;
+}
 
-pub read_line-line-requires : goal.read_line-line-requires
-read_line-line-requires c = c.requires.0 c.loop-l.l (omega arith)
-
-pub line_fits-requires : goal.line_fits-requires
-line_fits-requires c = (c.requires.1, c.requires.2)
-
-pub shape_of-seen-then-not-line_fits : goal.shape_of-seen-then-not-line_fits
-shape_of-seen-then-not-line_fits c = let p = c.loop-l in
-    blank_length p.seen c.args.seen.now p.invariant.3.flags.count c.requires.3
-
-pub shape_of-masks-then-not-line_fits : goal.shape_of-masks-then-not-line_fits
-shape_of-masks-then-not-line_fits c = let p = c.loop-l in
-    blank_length p.masks c.args.masks.now p.invariant.3.words c.requires.4
+pub returns-in_err-line : goal.returns-in_err-line
+returns-in_err-line c = let a = c.args in
+    let p = a.plan.now in
+    let q = is_wrong _ _ _ (lines_unfit p.cells p.samples a.journal.now c.loop-l.l a.lines (omega arith) (none_unfit p.cells p.samples a.journal.now c.loop-l.l c.in_err-line.ensures)) in
+    record { checked = c.from_residual.ensures ∙ q.0; tables = q.1 }
 
 pub returns-then-not-line_fits : goal.returns-then-not-line_fits
 returns-then-not-line_fits c = let a = c.args in
-    let p = c.loop-l in
-    let u : line_fits a.cells a.n a.journal.now p.l ≡ false =
-    ap (fits a.cells a.n) (sym c.read_line-line.ensures)
-    ∙ sym c.line_fits.ensures
-    ∙ c.if-not-line_fits.true in
-    is_wrong _ _ _ (lines_unfit a.cells a.n a.journal.now p.l a.lines (omega arith) u)
+    let p = a.plan.now in
+    let u : line_fits p.cells p.samples a.journal.now c.loop-l.l ≡ false = ap (fits p.cells p.samples) (sym c.in_ok-line.ensures) ∙ sym c.line_fits.ensures ∙ c.if-not-line_fits.true in
+    let q = is_wrong _ _ _ (lines_unfit p.cells p.samples a.journal.now c.loop-l.l a.lines (omega arith) u) in
+    record { checked = q.0; tables = q.1 }
 
 pub bounds-seen-c : goal.bounds-seen-c
-unfolding line_at
-bounds-seen-c c = let a = c.args in
-    let p = c.loop-l in
-    let read : c.read_line-line.result.chunk ≡ chunk_at a.journal.now p.l = ap (λ (x : Line). x.chunk) c.read_line-line.ensures in
-    let fit : line_fits a.cells a.n a.journal.now p.l ≡ true = ap (fits a.cells a.n) (sym c.read_line-line.ensures) ∙ sym c.line_fits.ensures ∙ c.if-not-line_fits.false in
-    omega (arith, read, fits_exists a.cells a.n a.journal.now p.l fit, chunks_le a.cells c.requires.1, p.invariant.3.flags.count)
+bounds-seen-c c = omega (arith, within (goal.at.bounds-seen-c c).Else-not-line_fits, c.loop-l.invariant.tables.flags.count)
 
-pub shape_of-seen-then-seen-c-ne0 : goal.shape_of-seen-then-seen-c-ne0
-shape_of-seen-then-seen-c-ne0 c = let p = c.loop-l in
-    blank_length p.seen c.args.seen.now p.invariant.3.flags.count c.requires.3
-
-pub shape_of-masks-then-seen-c-ne0 : goal.shape_of-masks-then-seen-c-ne0
-shape_of-masks-then-seen-c-ne0 c = let p = c.loop-l in
-    blank_length p.masks c.args.masks.now p.invariant.3.words c.requires.4
-
-pub returns-then-seen-c-ne0 : goal.returns-then-seen-c-ne0
-returns-then-seen-c-ne0 c = let a = c.args in
-    let p = c.loop-l in
+pub returns-then-seen-c : goal.returns-then-seen-c
+returns-then-seen-c c = let a = c.args in
+    let p = a.plan.now in
     let b = a.journal.now in
-    let r : has_chunk b p.l (chunk_at b p.l) ≡ true =
-    ap (has_chunk b p.l) (sym (chunk_read (goal.at.returns-then-seen-c-ne0 c).After-slice_known-in-loop-l-1)) ∙ has_line b p.seen p.l c.read_line-line.result.chunk p.invariant.3.flags (within (goal.at.returns-then-seen-c-ne0 c).After-slice_known-in-loop-l-1) c.if-seen-c-ne0.true in
-    is_wrong _ _ _ (lines_repeat a.cells a.n b p.l a.lines (omega arith) (fitting (goal.at.returns-then-seen-c-ne0 c).After-slice_known-in-loop-l-1) r)
+    let l = c.loop-l in
+    let at = (goal.at.returns-then-seen-c c).Else-not-line_fits in
+    let r : has_chunk b l.l (chunk_at b l.l) ≡ true =
+    ap (has_chunk b l.l) (sym (chunk_read at)) ∙ sym (l.invariant.tables.flags.chunk c.in_ok-line.line.chunk (within at)) ∙ c.if-seen-c.true in
+    let q = is_wrong _ _ _ (lines_repeat p.cells p.samples b l.l a.lines (omega arith) (fitting at) r) in
+    record { checked = q.0; tables = q.1 }
 
 pub bounds-seen-c-in-loop-l : goal.bounds-seen-c-in-loop-l
-bounds-seen-c-in-loop-l c = omega (arith, within (goal.at.bounds-seen-c-in-loop-l c).After-slice_known-in-loop-l-1, c.loop-l.invariant.3.flags.count)
+bounds-seen-c-in-loop-l c = omega (arith, within (goal.at.bounds-seen-c-in-loop-l c).Else-not-line_fits, c.loop-l.invariant.tables.flags.count)
 
 pub offset_bounds-masks-c : goal.offset_bounds-masks-c
-offset_bounds-masks-c c = omega (arith, within (goal.at.offset_bounds-masks-c c).After-slice_known-in-loop-l-1)
+offset_bounds-masks-c c = omega (arith, within (goal.at.offset_bounds-masks-c c).Else-not-line_fits)
 
 pub bounds-masks-c : goal.bounds-masks-c
-bounds-masks-c c = omega (arith, within (goal.at.bounds-masks-c c).After-slice_known-in-loop-l-1, c.loop-l.invariant.3.words)
+bounds-masks-c c = omega (arith, within (goal.at.bounds-masks-c c).Else-not-line_fits, c.loop-l.invariant.tables.words)
 
 pub overflow_add-probes : goal.overflow_add-probes
-overflow_add-probes c = let a = c.args in
-    let p = c.loop-l in
-    let b = a.journal.now in
+overflow_add-probes c = let p = c.args.plan.now in
+    let b = c.args.journal.now in
+    let l = c.loop-l in
     omega (
       arith,
-      p.invariant.2,
-      probes_read (goal.at.overflow_add-probes c).After-slice_known-in-loop-l-1,
-      probes_lt b p.l,
-      probes_fit b p.l,
-      lines_few a.cells a.n b p.l p.invariant.1,
-      chunks_le a.cells c.requires.1,
+      l.invariant.probes,
+      probes_read (goal.at.overflow_add-probes c).Else-not-line_fits,
+      probes_lt b l.l,
+      probes_fit b l.l,
+      lines_few p.cells p.samples b l.l l.invariant.right,
+      chunks_le p.cells c.requires.few,
     )
 
 pub loop-l-preserved : goal.loop-l-preserved
-loop-l-preserved c = let a = c.args in
-    let p = c.loop-l in
-    let b = a.journal.now in
-    let d = c.read_line-line.result in
-    let new : has_chunk b p.l (chunk_at b p.l) ≡ false =
-    ap (has_chunk b p.l) (sym (chunk_read (goal.at.loop-l-preserved c).After-slice_known-in-loop-l-1)) ∙ unseen b p.seen p.l d.chunk p.invariant.3.flags (within (goal.at.loop-l-preserved c).After-slice_known-in-loop-l-1) c.if-seen-c-ne0.false in (
-      omega arith,
-      lines_next a.cells a.n b p.l p.invariant.1 (fitting (goal.at.loop-l-preserved c).After-slice_known-in-loop-l-1) new,
-      omega (arith, p.invariant.2, probes_read (goal.at.loop-l-preserved c).After-slice_known-in-loop-l-1, probes_next b p.l),
-      tables_next b p.seen p.masks p.l d.chunk d.mask (chunk_read (goal.at.loop-l-preserved c).After-slice_known-in-loop-l-1) (mask_read (goal.at.loop-l-preserved c).After-slice_known-in-loop-l-1) (within (goal.at.loop-l-preserved c).After-slice_known-in-loop-l-1) p.invariant.3,
-    )
-
-pub shape_of-seen : goal.shape_of-seen
-shape_of-seen c = let p = c.loop-l in
-    blank_length p.seen c.args.seen.now p.invariant.3.flags.count c.requires.3
-
-pub shape_of-masks : goal.shape_of-masks
-shape_of-masks c = let p = c.loop-l in
-    blank_length p.masks c.args.masks.now p.invariant.3.words c.requires.4
+loop-l-preserved c = let p = c.args.plan.now in
+    let b = c.args.journal.now in
+    let l = c.loop-l in
+    let d = c.in_ok-line.line in
+    let at = (goal.at.loop-l-preserved c).Else-not-line_fits in
+    let new : has_chunk b l.l (chunk_at b l.l) ≡ false =
+    ap (has_chunk b l.l) (sym (chunk_read at)) ∙ sym (l.invariant.tables.flags.chunk d.chunk (within at)) ∙ c.if-seen-c.false in
+    record {
+      right = lines_next p.cells p.samples b l.l l.invariant.right (fitting at) new;
+      probes = omega (arith, l.invariant.probes, probes_read at, probes_next b l.l);
+      tables = tables_next b l.seen l.masks l.l d.chunk d.mask (chunk_read at) (mask_read at) (within at) l.invariant.tables;
+    }
 
 pub returns : goal.returns
 returns c = let a = c.args in
-    let p = c.loop-l in
+    let p = a.plan.now in
     let b = a.journal.now in
-    let e : p.l ≡ a.lines = omega arith in
-    is_right _ _ _ _
-    (ap (lines_right a.cells a.n b) (sym e) ∙ p.invariant.1)
-    (p.invariant.2 ∙ ap (held_probes b) e)
-    (subst (λ (l : ℕ). Tables b l p.seen p.masks) e p.invariant.3)
+    let l = c.loop-l in
+    let e : l.l ≡ a.lines = omega arith in
+    let q = is_right _ _ _ _
+    (ap (lines_right p.cells p.samples b) (sym e) ∙ l.invariant.right)
+    (l.invariant.probes ∙ ap (held_probes b) e)
+    (subst (λ (n : ℕ). Tables b n l.seen l.masks) e l.invariant.tables) in
+    record { checked = q.0; tables = q.1 }

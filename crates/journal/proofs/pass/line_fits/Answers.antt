@@ -1,27 +1,22 @@
 -- `journal::pass::line_fits` meets its contract. Assumes nothing.
 use mathlib.Core.Bool.{Bool, ◌&&◌}
-use mathlib.Core.Path.{sym, ap, ap₂, ◌∙◌}
+use mathlib.Core.Path.{◌≡◌, sym, ap, ap₂, ◌∙◌}
+use Prim.Native.Nat.{◌<◌, ◌≤◌}
+use native.Mathlib.Omega.{arith}
 use lib.Dec.{ltb}
-use borrow.Author.Tests.{lt-ltb, le-ltb, not-true, not-false}
+use borrow.Author.Tests.{lt-ltb, le-ltb}
 use Rattle.roll_sweep.specs.Sweep.{chunks}
 use Rattle.journal.specs.Right.{possible, fits}
 use Rattle.journal.proofs.pass.line_fits.Goals as goal
 
-pub returns-then-not-line : goal.returns-then-not-line
-unfolding fits
-returns-then-not-line c = let a = c.args in
-    let l = a.line in
-    sym (ap (λ (t : Bool). t && ltb l.chunk (chunks a.cells) && possible a.cells a.n l.chunk l.mask l.probes) (not-true l.framed c.if-not-line.true))
-
-pub returns-then-cells-line : goal.returns-then-cells-line
+pub returns-then-line-div_ceil : goal.returns-then-line-div_ceil
 unfolding fits chunks
-returns-then-cells-line c = let a = c.args in
-    let l = a.line in
-    sym (ap₂ (λ (t u : Bool). t && u && possible a.cells a.n l.chunk l.mask l.probes) (not-false l.framed c.if-not-line.false) (le-ltb _ _ c.if-cells-line.true))
-
-pub returns : goal.returns
-unfolding fits chunks
-returns c = let a = c.args in
-    let l = a.line in
+returns-then-line-div_ceil c = let a = c.args in
     c.is_possible.ensures
-    ∙ sym (ap₂ (λ (t u : Bool). t && u && possible a.cells a.n l.chunk l.mask l.probes) (not-false l.framed c.if-not-line.false) (lt-ltb _ _ c.if-cells-line.false))
+    ∙ ap (λ (t : Bool). t && possible a.cells a.n a.line.chunk a.line.mask a.line.probes) (sym (lt-ltb a.line.chunk (chunks a.cells) (omega (arith, c.if-line-div_ceil.true, c.div_ceil.ensures))))
+
+pub returns-else-line-div_ceil : goal.returns-else-line-div_ceil
+unfolding fits chunks
+returns-else-line-div_ceil c = let a = c.args in
+    le-ltb _ _ c.if-line-div_ceil.false
+    ∙ ap (λ (t : Bool). t && possible a.cells a.n a.line.chunk a.line.mask a.line.probes) (sym (le-ltb a.line.chunk (chunks a.cells) (omega (arith, c.if-line-div_ceil.false, c.div_ceil.ensures))))
