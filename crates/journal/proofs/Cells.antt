@@ -16,7 +16,7 @@ use Rattle.buffers.proofs.Ranges.{tab_ext, length_tab}
 use Rattle.buffers.proofs.Lent.{filled_put, filled_over, length_filled, over_all}
 use Rattle.journal.proofs.Write.{placed}
 use Rattle.solar_roll.specs.Plan.{most_cells}
-use Rattle.journal.specs.Lines.{bit_of, has_chunk, has_chunks, held_mask}
+use Rattle.journal.specs.Lines.{bit_of, has_chunks, held_mask}
 use Rattle.journal.specs.Pass.{most_chunks, Tables}
 
 -- one bit less

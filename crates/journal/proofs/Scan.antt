@@ -8,7 +8,7 @@ use native.Mathlib.Numerals.{add-one}
 use Rattle.std.specs.Str.{bytes_eq}
 use Rattle.std.proofs.lemmas.Slice.Eq.{bytes_eq-Decides}
 use Rattle.std.proofs.lemmas.List.{ext_get_or}
-use lib.ListN.{length, get_or, take, set, replicate, get_or-replicate, length-replicate, length-set}
+use lib.ListN.{length, get_or, take, set, get_or-replicate, length-replicate, length-set}
 use Rattle.std.specs.Prelude.{Option, Some, None, Ok, Err}
 use Rattle.std.specs.Option.{ok_or}
 use Rattle.buffers.specs.declared.reasons.Refusal.{Refusal}
@@ -23,7 +23,7 @@ use Rattle.solar_roll.specs.Plan.{most_cells}
 use Rattle.roll_sweep.specs.Sweep.{chunks}
 use Rattle.journal.specs.Lines.{header_length, line_start, chunk_at, mask_at, probes_at, has_chunk, held_mask, held_probes}
 use Rattle.journal.specs.Right.{whole_lines, agree, possible, framed, line_at, fits, line_fits, line_right, lines_right, right}
-use Rattle.journal.specs.Pass.{most_chunks, checked_of, Blank, Flags, Tables}
+use Rattle.journal.specs.Pass.{most_chunks, checked_of, Blank, Tables}
 use Rattle.journal.specs.declared.line.Line.{Line}
 use Rattle.journal.proofs.Text.{value_lt}
 
@@ -219,8 +219,8 @@ first_bytes b h m p q = go (agree b h m) refl
     equal e =
         ext_get_or 0 (take m b) (take m h) (length-take-le m b p ∙ sym (length-take-le m h q))
         (λ k l.
-          let g : k < m = omega (arith, length-take-le m b p) in
-          get_or-take m b k 0 g ∙ eqb-true (get_or b k 0) (get_or h k 0) ((all_iff m (λ j. eqb (get_or b j 0) (get_or h j 0))).0 e k g) ∙ sym (get_or-take m h k 0 g))
+        let g : k < m = omega (arith, length-take-le m b p) in
+        get_or-take m b k 0 g ∙ eqb-true (get_or b k 0) (get_or h k 0) ((all_iff m (λ j. eqb (get_or b j 0) (get_or h j 0))).0 e k g) ∙ sym (get_or-take m h k 0 g))
 
     back : take m b ≡ take m h → agree b h m ≡ true
     back e =

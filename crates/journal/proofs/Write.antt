@@ -6,7 +6,7 @@ use native.Mathlib.Omega.{arith}
 use lib.ListN.{length, get_or, take, drop, set, length-append, length-drop}
 use lib.Seq.{drop-cons, set-append_left, take_at, get_or_at, get_or-take, take-take, take-length, drop-length, take-suc-set, take-set-lt, length-take-le, append_snoc, drop-drop}
 use Rattle.buffers.specs.Lent.{over, put}
-use Rattle.buffers.proofs.Lent.{over_nil, over_put, over_next, length_over}
+use Rattle.buffers.proofs.Lent.{over_put, over_next, length_over}
 use Rattle.journal.specs.Hex.{hex_digit, hex_text}
 use Rattle.journal.specs.Lines.{line_length, header_length, line_text}
 use Rattle.journal.specs.Header.{header_text}

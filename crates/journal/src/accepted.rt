@@ -49,7 +49,9 @@ pub(crate) fn recover_used(plan: &PassedPlan, journal: &[u8], used: u64) -> Resu
 {
     let mut seen = [false; MOST_CHUNKS];
     let mut masks = [0u64; MOST_CHUNKS];
-    check_journal(plan, journal, used as usize, &mut seen, &mut masks).ok_or(Refusal::JournalNotRight)?;
+    check_journal(plan, journal, used as usize, &mut seen, &mut masks).ok_or(
+        Refusal::JournalNotRight,
+    )?;
     Ok(kept_length(used as usize) as u64)
 }
 
@@ -67,7 +69,9 @@ pub(crate) fn collect_lines(
 {
     let mut seen = [false; MOST_CHUNKS];
     let mut masks = [0u64; MOST_CHUNKS];
-    let probes = check_journal(plan, journal, used as usize, &mut seen, &mut masks).ok_or(Refusal::JournalNotRight)?;
+    let probes = check_journal(plan, journal, used as usize, &mut seen, &mut masks).ok_or(
+        Refusal::JournalNotRight,
+    )?;
     if is_torn(used as usize) {
         return Err(Refusal::JournalTorn);
     }

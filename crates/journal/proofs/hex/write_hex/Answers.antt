@@ -1,6 +1,6 @@
 -- `journal::hex::write_hex` meets its contract. Assumes nothing.
 use native.Mathlib.Omega.{arith}
-use Rattle.journal.proofs.Write.{written_none, written_length, written_step, written_all}
+use Rattle.journal.proofs.Write.{written_none, written_step, written_all}
 use Rattle.journal.proofs.hex.write_hex.Goals as goal
 
 pub loop-j-init : goal.loop-j-init

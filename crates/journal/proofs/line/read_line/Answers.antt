@@ -1,5 +1,4 @@
 -- `journal::line::read_line` meets its contract. Assumes nothing.
-use mathlib.Core.Bool.{true, false}
 use mathlib.Core.Path.{◌≡◌, refl, sym, ap, ◌∙◌}
 use Prim.Native.Nat.{ℕ, ◌+◌, ◌*◌, ◌-◌}
 use native.Mathlib.Omega.{arith}
@@ -28,8 +27,8 @@ returns-then-not-are_digits c = let b = c.args.journal.now in
     let w = width_is l in
     let digits : c.are_digits.result ≡ are_digits b (at l) 32 = c.are_digits.ensures ∙ digits_part b (at l) (width l) (omega arith) ∙ ap (are_digits b (at l)) w in
     elim c.then-not-are_digits.branch [
-      then-not-are_digits-via-then-not-are_digits w ↦ no_digits b l (sym digits ∙ w.if-not-are_digits.true)
-    | then-not-are_digits-via-else-not-are_digits+then-journal-at-ne10 w ↦ no_newline b l w.if-journal-at-ne10.true
+      | then-not-are_digits-via-then-not-are_digits w ↦ no_digits b l (sym digits ∙ w.if-not-are_digits.true)
+      | then-not-are_digits-via-else-not-are_digits+then-journal-at-ne10 w ↦ no_newline b l w.if-journal-at-ne10.true
     ]
 
 pub returns : goal.returns

@@ -1,9 +1,7 @@
 -- `journal::pass::line_fits` meets its contract. Assumes nothing.
 use mathlib.Core.Bool.{Bool, ◌&&◌}
-use mathlib.Core.Path.{◌≡◌, sym, ap, ap₂, ◌∙◌}
-use Prim.Native.Nat.{◌<◌, ◌≤◌}
+use mathlib.Core.Path.{sym, ap, ◌∙◌}
 use native.Mathlib.Omega.{arith}
-use lib.Dec.{ltb}
 use borrow.Author.Tests.{lt-ltb, le-ltb}
 use Rattle.roll_sweep.specs.Sweep.{chunks}
 use Rattle.journal.specs.Right.{possible, fits}

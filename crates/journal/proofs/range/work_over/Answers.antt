@@ -1,13 +1,12 @@
 -- `journal::range::work_over` meets its contract. Assumes nothing.
 use mathlib.Core.List.{List}
 use mathlib.Core.Path.{◌≡◌, refl, sym, ap, ◌∙◌, subst}
-use Prim.Native.Nat.{ℕ, ◌+◌, ◌-◌, ◌*◌, ◌^◌, ◌≤◌, ◌<◌}
+use Prim.Native.Nat.{ℕ, ◌≤◌, ◌<◌}
 use native.Mathlib.Omega.{arith}
 use lib.ListN.{length}
 use Rattle.buffers.proofs.Refusals.{number_positive}
 use Rattle.solar_roll.specs.Plan.{plan_of}
 use Rattle.roll_sweep.specs.Sweep.{Sweep}
-use Rattle.journal.specs.Lines.{line_length}
 use Rattle.journal.specs.Calls.{work_refusal}
 use Rattle.journal.specs.Pass.{Passed}
 use Rattle.journal.specs.Plan.{sweep_of}
