@@ -9,10 +9,11 @@ use lib.ListN.{length, get_or, take, drop}
 use lib.Seq.{take-take, take_at, length-take-le}
 use borrow.Author.Tests.{ltb-true, ltb-false, leb-true, leb-false, le-ltb, ne_eqb, not-false}
 use Rattle.buffers.specs.Lent.{put}
-use Rattle.buffers.specs.Refusal.{reply_of}
-use Rattle.buffers.specs.declared.Answer.{Answer}
+use Rattle.std.specs.Prelude.{Result}
+use Rattle.buffers.specs.Refusal.{refused, replied}
+use Rattle.buffers.specs.declared.reasons.Refusal.{Refusal}
 use Rattle.buffers.proofs.Lent.{length_put}
-use Rattle.buffers.proofs.Refusals.{written_none, written_some}
+use Rattle.buffers.proofs.Refusals.{reply_some, written_none, written_some}
 use Rattle.buffers.proofs.Tests.{or_left, or_right}
 use Rattle.roll_sweep.specs.Sweep.{Sweep, cells, chunks}
 use Rattle.journal.specs.Lines.{line_length, line_of, has_chunk}
@@ -20,8 +21,8 @@ use Rattle.journal.specs.Right.{whole_lines, torn, right}
 use Rattle.journal.specs.Calls.{wrong, work_refusal, work_reply, work_bytes}
 use Rattle.journal.specs.Pass.{most_chunks, Tables, Passed, Ready}
 use Rattle.journal.specs.declared.plan.PassedPlan.{PassedPlan}
-use Rattle.journal.specs.Range.{Ran, ran_to, one_more, ran, Ranged}
-use Rattle.journal.proofs.Chains.{work_9, work_10, work_7, work_0, work_clear, work_refused, work_accepted, range_refused, range_accepted, range_one_refusal}
+use Rattle.journal.specs.Range.{Ran, ran_to, one_more, ran, range_refusal, range_reply, range_bytes, Ranged}
+use Rattle.journal.proofs.Chains.{work_9, work_10, work_7, work_0, work_clear, work_ok, range_ok, range_one_refusal}
 use Rattle.journal.proofs.Scan.{chunks_le}
 use Rattle.journal.proofs.Written.{SweepFacts, length_line}
 use Rattle.journal.proofs.Appended.{torn_more, length_more, has_more, right_more}
@@ -99,20 +100,24 @@ unfolding ran one_more
 ran_one s b u c e = written_none (work_refusal s c b u) (one_more s (ran_to b u c)) (ran_to b u c) e
 
 -- so it answers and leaves as work does
-pub range_one : (s : Sweep) (c : ℕ) (b : List ℕ) (u old : ℕ) (r : Answer) (o : List ℕ) (d : ℕ) → Ranged s c (c + 1) b u old r o d → (reply_of r ≡ work_reply s c b u) × (o ≡ work_bytes s c b u)
+pub range_one : (s : Sweep) (c : ℕ) (b : List ℕ) (u old : ℕ) (r : Result ℕ Refusal) (o : List ℕ) (d : ℕ) → Ranged s c (c + 1) b u old r o d → (replied r ≡ work_reply s c b u) × (o ≡ work_bytes s c b u)
+unfolding range_reply range_bytes work_reply work_bytes
 range_one s c b u old r o d q = go (work_refusal s c b u) refl
   where
     one : c + 1 - c ≡ 1
     one = omega arith
 
-    go : (k : ℕ) → k ≡ work_refusal s c b u → (reply_of r ≡ work_reply s c b u) × (o ≡ work_bytes s c b u)
+    same : range_refusal s c (c + 1) b u ≡ work_refusal s c b u
+    same = range_one_refusal s c b u
+
+    go : (k : ℕ) → k ≡ work_refusal s c b u → (replied r ≡ work_reply s c b u) × (o ≡ work_bytes s c b u)
     go zero e =
-        let x = range_accepted s c (c + 1) b u old _ _ _ (sym (ap (λ (m : ℕ). ran s m (ran_to b u c)) one ∙ ran_one s b u c (sym e))) (range_one_refusal s c b u ∙ sym e) in
-        (q.0 ∙ sym x.0 ∙ work_accepted s b u c (sym e), q.1 ∙ sym x.1)
+        let x = range_ok s c (c + 1) b u old _ _ _ (sym (ap (λ (m : ℕ). ran s m (ran_to b u c)) one ∙ ran_one s b u c (sym e))) (same ∙ sym e) in
+        (q.0 ∙ sym x.0 ∙ work_ok s b u c (sym e), q.1 ∙ sym x.1)
     go (suc k) e =
-        let x = range_refused s c (c + 1) b u old (suc k) (e ∙ sym (range_one_refusal s c b u)) (λ z. omega arith) in
-        let y = work_refused s b u c (suc k) e (λ z. omega arith) in
-        (q.0 ∙ sym x.0 ∙ y.0, q.1 ∙ sym x.1 ∙ y.1)
+        let f : 0 < work_refusal s c b u = omega (arith, e) in
+        let g : 0 < range_refusal s c (c + 1) b u = omega (arith, e, same) in
+        (q.0 ∙ reply_some _ _ g ∙ ap refused same ∙ sym (reply_some _ _ f), q.1 ∙ written_some _ _ _ g ∙ sym (written_some _ _ _ f))
 
 -- ---- what the loop keeps: after the chunks from `from` to c, of a journal b₀ with u₀ bytes used, b is left with u, and of m chunks `left` are to come
 

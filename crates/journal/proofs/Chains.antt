@@ -8,27 +8,27 @@ use lib.Dec.{ltb, leb}
 use lib.ListN.{length}
 use borrow.Author.Tests.{lt-ltb, le-ltb, le-leb, lt-leb, eq-eqb, ne_eqb, leb-false, ltb-false}
 use Rattle.buffers.specs.Lent.{filled, put}
-use Rattle.std.specs.Prelude.{Ok, Err}
-use Rattle.buffers.specs.Refusal.{Conditions, first, carried, reply_of, replied, number_of}
+use Rattle.std.specs.Prelude.{Result, Ok, Err}
+use Rattle.buffers.specs.Refusal.{Conditions, first, carried, refused, replied, number_of}
 use Rattle.buffers.specs.declared.reasons.Refusal.{Refusal}
-use Rattle.buffers.specs.declared.Answer.{Answer}
-use Rattle.buffers.specs.declared.Answer.TheVariants.{Accepted, Refused}
-use Rattle.buffers.proofs.Refusals.{first_here, first_skip, first_clear, first_clears, carried_here, carried_skip, carried_clear, carried_last, written_none, accepted_with, refused_leaves, accepted_leaves, err_replied, ok_replied, err_unless, ok_unless}
+use Rattle.buffers.proofs.Refusals.{first_here, first_skip, first_clear, first_clears, carried_here, carried_skip, carried_clear, carried_last, reply_some, written_none, written_some, number_positive, err_replied, ok_replied, err_unless, ok_unless}
 use Rattle.roll_sweep.specs.Sweep.{Sweep, cells, chunks}
-use Rattle.journal.specs.Lines.{header_length, line_length, line_of, has_chunk, has_chunks, held_probes}
+use Rattle.journal.specs.Lines.{header_length, line_length, has_chunk, has_chunks, held_probes}
 use Rattle.journal.specs.Right.{whole_lines, torn, right}
 use Rattle.journal.specs.Pass.{Passed}
 use Rattle.journal.specs.declared.plan.PassedPlan.{PassedPlan}
-use Rattle.journal.specs.Calls.{after_plan, wrong, begin_short, begin_refusal, begin_reply, begin_bytes, work_conditions, work_refusal, work_reply, work_bytes, kept, recover_refusal, recover_reply, collect_refusal, collect_reply, held_bit, collect_mask}
+use Rattle.journal.specs.Calls.{after_plan, wrong, begin_short, begin_refusal, begin_reply, begin_bytes, work_conditions, work_refusal, work_reply, kept, recover_refusal, recover_reply, collect_refusal, collect_reply, held_bit, collect_mask}
 use Rattle.journal.specs.Range.{Ran, ran_to, ran, range_conditions, range_refusal, range_ran, range_reply, range_bytes, range_stopped, Ranged}
 
 -- ---- the plan's refusal, before a call's own conditions
 
 module _ (s : Sweep) (b : List ℕ) (u : ℕ) (own : Conditions) where
   -- it is the call's
-  pub plan_refused : (k : ℕ) → k ≡ s.refusal (ltb (length b) u) → (k ≡ 0 → ⊥) → k ≡ first (after_plan s b u own)
-  plan_refused zero e h = absurd (h refl)
-  plan_refused (suc k) e h = sym (ap (λ (n : ℕ). first (carried n ∷ own)) (sym e) ∙ carried_here (suc k) own (omega arith))
+  pub plan_first : (k : ℕ) → k ≡ s.refusal (ltb (length b) u) → 0 < k → k ≡ first (after_plan s b u own)
+  plan_first k e h = sym (ap (λ (n : ℕ). first (carried n ∷ own)) (sym e) ∙ carried_here k own h)
+
+  pub plan_refused : (why : Refusal) → number_of why ≡ s.refusal (ltb (length b) u) → number_of why ≡ first (after_plan s b u own)
+  plan_refused why e = plan_first (number_of why) e (number_positive why)
 
   -- there is none: the call's own decide
   pub plan_clear : s.refusal (ltb (length b) u) ≡ 0 → first (after_plan s b u own) ≡ first own
@@ -66,13 +66,13 @@ module _ (s : Sweep) (b : List ℕ) (u : ℕ) where
     unfolding begin_refusal begin_short
     begin_0 z h = simp (p, eq-eqb u 0 z, le-ltb (length b) header_length h)
 
-  pub begin_refused : (k : ℕ) → k ≡ begin_refusal s b u → (k ≡ 0 → ⊥) → (reply_of (Refused k) ≡ begin_reply s b u) × (b ≡ begin_bytes s b u)
+  pub begin_err : (why : Refusal) → number_of why ≡ begin_refusal s b u → (replied (Err why) ≡ begin_reply s b u) × (b ≡ begin_bytes s b u)
   unfolding begin_reply begin_bytes
-  begin_refused k e h = refused_leaves k _ header_length (put 0 s.header b) b e h
+  begin_err why e = (err_replied why _ header_length e, err_unless why _ (put 0 s.header b) b e)
 
-  pub begin_accepted : (o : List ℕ) → o ≡ put 0 s.header b → begin_refusal s b u ≡ 0 → (reply_of (Accepted header_length) ≡ begin_reply s b u) × (o ≡ begin_bytes s b u)
+  pub begin_ok : (o : List ℕ) → o ≡ put 0 s.header b → begin_refusal s b u ≡ 0 → (replied (Ok header_length) ≡ begin_reply s b u) × (o ≡ begin_bytes s b u)
   unfolding begin_reply begin_bytes
-  begin_accepted o w e = accepted_leaves 0 _ header_length (put 0 s.header b) b o (sym e) refl w
+  begin_ok o w e = (ok_replied _ _ _ (sym e) refl, ok_unless _ (put 0 s.header b) b o (sym e) w)
 
   -- ---- work
 
@@ -120,13 +120,9 @@ module _ (s : Sweep) (b : List ℕ) (u : ℕ) where
           room = ltb-false (length b) (u + line_length) q.1.1.1.1.0;
         }
 
-    pub work_refused : (k : ℕ) → k ≡ work_refusal s c b u → (k ≡ 0 → ⊥) → (reply_of (Refused k) ≡ work_reply s c b u) × (b ≡ work_bytes s c b u)
-    unfolding work_reply work_bytes
-    work_refused k e h = refused_leaves k _ (u + line_length) (put u (line_of s c) b) b e h
-
-    pub work_accepted : work_refusal s c b u ≡ 0 → reply_of (Accepted (u + line_length)) ≡ work_reply s c b u
+    pub work_ok : work_refusal s c b u ≡ 0 → replied (Ok (u + line_length)) ≡ work_reply s c b u
     unfolding work_reply
-    work_accepted e = accepted_with (u + line_length) _ _ e refl
+    work_ok e = ok_replied _ _ _ (sym e) refl
 
   -- ---- recover
 
@@ -138,10 +134,6 @@ module _ (s : Sweep) (b : List ℕ) (u : ℕ) where
     pub recover_0 : wrong s b u ≡ false → recover_refusal s b u ≡ 0
     unfolding recover_refusal
     recover_0 w = simp (p, w)
-
-  pub recover_refused : (k : ℕ) → k ≡ recover_refusal s b u → (k ≡ 0 → ⊥) → reply_of (Refused k) ≡ recover_reply s b u
-  unfolding recover_reply
-  recover_refused k e h = (refused_leaves k _ (kept u) b b e h).0
 
   pub recover_err : (e : Refusal) → number_of e ≡ recover_refusal s b u → replied (Err e) ≡ recover_reply s b u
   unfolding recover_reply
@@ -178,10 +170,6 @@ module _ (s : Sweep) (b : List ℕ) (u : ℕ) where
             unfolding collect_refusal
             collect_0 h = simp (p, w, t, a, le-ltb (length o) (cells s) h)
 
-    pub collect_refused : (k : ℕ) → k ≡ collect_refusal s b u o → (k ≡ 0 → ⊥) → (reply_of (Refused k) ≡ collect_reply s b u o) × (o ≡ collect_mask s b u o)
-    unfolding collect_reply collect_mask
-    collect_refused k e h = refused_leaves k _ (held_probes b (whole_lines u)) (filled (cells s) (held_bit b u) o) o e h
-
     pub collect_err : (e : Refusal) → number_of e ≡ collect_refusal s b u o → (replied (Err e) ≡ collect_reply s b u o) × (o ≡ collect_mask s b u o)
     unfolding collect_reply collect_mask
     collect_err e h = (err_replied e _ _ h, err_unless e _ _ o h)
@@ -216,33 +204,38 @@ module _ (s : Sweep) (from to : ℕ) (b : List ℕ) (u : ℕ) where
 
   -- what the call answers and leaves, with the lent number
   module _ (old : ℕ) where
-    pub range_refused : (k : ℕ) → k ≡ range_refusal s from to b u → (k ≡ 0 → ⊥) → Ranged s from to b u old (Refused k) b old
+    pub range_err : (why : Refusal) → number_of why ≡ range_refusal s from to b u → Ranged s from to b u old (Err why) b old
     unfolding range_reply range_bytes range_stopped
-    range_refused k e h =
+    range_err why e =
         let r : Ran = range_ran s from to b u in
-        let q = refused_leaves k _ r.used r.bytes b e h in
-        (q.0, q.1, (refused_leaves k _ 0 r.next old e h).1)
+        (err_replied why _ r.used e, err_unless why _ r.bytes b e, err_unless why _ r.next old e)
 
     -- the plan is refused
-    pub range_plan : (k : ℕ) → k ≡ s.refusal (ltb (length b) u) → (k ≡ 0 → ⊥) → Ranged s from to b u old (Refused k) b old
+    pub range_plan : (why : Refusal) → number_of why ≡ s.refusal (ltb (length b) u) → Ranged s from to b u old (Err why) b old
     unfolding range_refusal
-    range_plan k e h = range_refused k (plan_refused s b u (range_conditions s from to b u) k e h) h
+    range_plan why e = range_err why (plan_refused s b u (range_conditions s from to b u) why e)
 
-    pub range_accepted : (o : List ℕ) (v c : ℕ) → ran_to o v c ≡ ran s (to - from) (ran_to b u from) → range_refusal s from to b u ≡ 0 → Ranged s from to b u old (Accepted v) o c
+    pub range_ok : (o : List ℕ) (v c : ℕ) → ran_to o v c ≡ ran s (to - from) (ran_to b u from) → range_refusal s from to b u ≡ 0 → Ranged s from to b u old (Ok v) o c
     unfolding range_reply range_bytes range_stopped range_ran
-    range_accepted o v c f e = (
-      accepted_with v _ _ e (ap (λ (x : Ran). x.used) f),
+    range_ok o v c f e = (
+      ok_replied _ v _ (sym e) (ap (λ (x : Ran). x.used) f),
       ap (λ (x : Ran). x.bytes) f ∙ sym (written_none _ _ b e),
       ap (λ (x : Ran). x.next) f ∙ sym (written_none _ _ old e),
     )
 
 -- where the plan is refused, a range is refused alike over whatever rolls
-pub range_alike : (s t : Sweep) (from to : ℕ) (b : List ℕ) (u old : ℕ) (r : Answer) (o : List ℕ) (c k : ℕ)
-    → k ≡ s.refusal (ltb (length b) u) → k ≡ t.refusal (ltb (length b) u) → (k ≡ 0 → ⊥) → Ranged s from to b u old r o c → Ranged t from to b u old r o c
+pub range_alike : (s t : Sweep) (from to : ℕ) (b : List ℕ) (u old : ℕ) (r : Result ℕ Refusal) (o : List ℕ) (c k : ℕ)
+    → k ≡ s.refusal (ltb (length b) u) → k ≡ t.refusal (ltb (length b) u) → 0 < k → Ranged s from to b u old r o c → Ranged t from to b u old r o c
+unfolding range_refusal range_reply range_bytes range_stopped
 range_alike s t from to b u old r o c k e f h q =
-    let x = range_plan s from to b u old k e h in
-    let y = range_plan t from to b u old k f h in
-    (q.0 ∙ sym x.0 ∙ y.0, q.1 ∙ sym x.1 ∙ y.1, q.2 ∙ sym x.2 ∙ y.2)
+    let x : k ≡ range_refusal s from to b u = plan_first s b u (range_conditions s from to b u) k e h in
+    let y : k ≡ range_refusal t from to b u = plan_first t b u (range_conditions t from to b u) k f h in
+    let some : 0 < range_refusal s from to b u = omega (arith, x, h) in
+    let also : 0 < range_refusal t from to b u = omega (arith, y, h) in (
+      q.0 ∙ reply_some _ _ some ∙ ap refused (sym x ∙ y) ∙ sym (reply_some _ _ also),
+      q.1 ∙ written_some _ _ _ some ∙ sym (written_some _ _ _ also),
+      q.2 ∙ written_some _ _ _ some ∙ sym (written_some _ _ _ also),
+    )
 
 -- a range of one chunk is refused as its work
 pub range_one_refusal : (s : Sweep) (c : ℕ) (b : List ℕ) (u : ℕ) → range_refusal s c (c + 1) b u ≡ work_refusal s c b u
@@ -251,4 +244,4 @@ range_one_refusal s c b u = go (s.refusal (ltb (length b) u)) refl
   where
     go : (k : ℕ) → k ≡ s.refusal (ltb (length b) u) → range_refusal s c (c + 1) b u ≡ work_refusal s c b u
     go zero e = range_work s c (c + 1) b u (sym e) (omega arith)
-    go (suc k) e = sym (plan_refused s b u (range_conditions s c (c + 1) b u) (suc k) e (λ z. omega arith)) ∙ plan_refused s b u (work_conditions s c b u) (suc k) e (λ z. omega arith)
+    go (suc k) e = sym (plan_first s b u (range_conditions s c (c + 1) b u) (suc k) e (omega arith)) ∙ plan_first s b u (work_conditions s c b u) (suc k) e (omega arith)

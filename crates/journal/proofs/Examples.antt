@@ -12,7 +12,7 @@ use Rattle.float.specs.Arithmetic.{zero·0, one, abs_of}
 use Rattle.solar_roll.specs.Roll.{x_hat}
 use Rattle.solar_roll.specs.Cell.{bad_position, bad_direction, too_large, any_not_unit, direction_refusal, numbers_refusal}
 use Rattle.solar_roll.specs.Plan.{Plan, plan_of, plan_refusal, sizes_refusal, samples_refusal, unlike_lengths, too_many}
-use Rattle.solar_roll.specs.declared.cell.ConfiguredRoll.TheVariants.{None}
+use Rattle.std.specs.Prelude.{None}
 use Rattle.roll_sweep.specs.Rolls.{bad_roll, table_refusal}
 use Rattle.roll_sweep.specs.Sweep.{chunks, cells_in}
 use Rattle.journal.specs.Hex.{hex_text, are_digits, hex_value}

@@ -2,7 +2,7 @@
 use mathlib.Core.Path.{◌≡◌, refl, sym, ap, ap₂, ◌∙◌, subst}
 use mathlib.Core.Bool.{Bool}
 use mathlib.Core.List.{List, []}
-use Prim.Native.Nat.{ℕ, zero, suc, ◌+◌, ◌*◌, ◌%◌, ◌≤◌, ◌<◌}
+use Prim.Native.Nat.{ℕ, ◌+◌, ◌*◌, ◌%◌, ◌≤◌, ◌<◌}
 use native.Mathlib.Omega.{arith}
 use lib.Dec.{ltb}
 use lib.ListN.{length, get_or, take, replicate, length-replicate}
@@ -10,19 +10,20 @@ use lib.Ieee.{Float, binary64, to_bits}
 use borrow.Author.Tests.{le-ltb, ltb-false}
 use Rattle.buffers.specs.Ranges.{tab}
 use Rattle.buffers.specs.Refusal.{accepted}
-use Rattle.buffers.specs.declared.Answer.{Answer}
-use Rattle.buffers.proofs.Refusals.{reply_none}
+use Rattle.std.specs.Prelude.{Option, Result, Ok, Err}
+use Rattle.buffers.specs.Refusal.{number_of, found}
+use Rattle.buffers.specs.declared.reasons.Refusal.{Refusal}
+use Rattle.buffers.proofs.Refusals.{reply_none, number_positive}
 use Rattle.buffers.specs.Lent.{over, put}
 use Rattle.buffers.proofs.Lent.{put_first, over_all}
 use Rattle.solar_roll.specs.Vectors.{Vector, x, y, z}
-use Rattle.solar_roll.specs.declared.cell.ConfiguredRoll.{ConfiguredRoll}
 use Rattle.solar_roll.specs.Plan.{Plan, rows_of, times_of, head_tolerance, head_panel, samples_refusal, plan_refusal, sun_at, most_samples, PlanFacts}
 use Rattle.solar_roll.proofs.PlanFacts.{plan_facts, nothing_said, not_beyond}
 use Rattle.roll_sweep.specs.Sweep.{Sweep, chunks, cells_in}
 use Rattle.roll_sweep.specs.Rolls.{even_rolls}
 use Rattle.roll_sweep.specs.Chunk.{violates_by, sample_roll, swept_of, chunk_refusal, swept_reply}
 use Rattle.roll_sweep.proofs.Even.{length_even}
-use Rattle.roll_sweep.proofs.ChunkFacts.{samples_within, samples_passed, Held, chunk_facts, held, chunk_accepted}
+use Rattle.roll_sweep.proofs.ChunkFacts.{some, samples_within, samples_passed, Held, chunk_facts, held, chunk_accepted}
 use Rattle.roll_sweep.proofs.SweptCells.{swept_ext, swept_chunk}
 use Rattle.roll_sweep.proofs.Cells.{cell_violates, unit_of_time, unit_of_cell}
 use Rattle.journal.specs.Header.{has_roll, roll_bits, settings_header, header_of}
@@ -41,7 +42,7 @@ pub record PlanPassed (p : Plan) (said room u : ℕ) : Type 0 where
   pub used : u ≤ room
 
 -- a header has 107 bytes, so it fills as many
-pub length_settings : (targets times n : ℕ) (tolerance : Float) (configured : ConfiguredRoll) (panel : Vector) → length (settings_header targets times n tolerance configured panel) ≡ header_length
+pub length_settings : (targets times n : ℕ) (tolerance : Float) (configured : Option Float) (panel : Vector) → length (settings_header targets times n tolerance configured panel) ≡ header_length
 unfolding settings_header
 length_settings targets times n tolerance configured panel =
     length_header targets times n (to_bits binary64 tolerance) (has_roll configured) (roll_bits configured)
@@ -87,14 +88,13 @@ module _ (p : Plan) (rolls : List Float) (said : ℕ) where
   accepted_sweep says room u e = let k = samples_within (length rolls) (says (passed room u e).none_said) in sweep_facts k.0 k.1 room u e
 
   module _ (n : ℕ) (size : length rolls ≡ n) where
-    pub header_put : (b out : List ℕ) → out ≡ over (settings_header (rows_of p) (times_of p) n (head_tolerance p) p.configured (head_panel p)) b
-        → out ≡ put 0 (sweep_of p rolls said).header b
-    unfolding sweep_of header_of
+    pub header_put : (b out : List ℕ) → out ≡ over (header_of p n) b → out ≡ put 0 (sweep_of p rolls said).header b
+    unfolding sweep_of
     header_put b out e = e ∙ sym (put_first (header_of p n) b) ∙ ap (λ (k : ℕ). put 0 (header_of p k) b) (sym size)
 
     -- the plan's sweep, by the header that was written: over a blank array of its length
     pub passed_with : Says said n → (h : List ℕ) (room u : ℕ) → (sweep_of p rolls said).refusal (ltb room u) ≡ 0
-        → h ≡ over (settings_header (rows_of p) (times_of p) n (head_tolerance p) p.configured (head_panel p)) (replicate header_length 0)
+        → h ≡ over (header_of p n) (replicate header_length 0)
         → Passed (sweep_of p rolls said) (record { header = h; cells = rows_of p * times_of p; samples = n }) room u
     unfolding sweep_of header_of
     passed_with says h room u e w =
@@ -118,14 +118,15 @@ module _ (p : Plan) (rolls : List Float) (said : ℕ) where
 pub even_sweep_lem : (p : Plan) (n : ℕ) (rolls : List Float) (said : ℕ) → rolls ≡ even_rolls n → said ≡ samples_refusal n → sweep_of p rolls said ≡ even_sweep p n
 even_sweep_lem p n rolls said e z = ap₂ (sweep_of p) e z
 
--- or where that number refuses the plan, over whatever rolls
-pub even_or_refused : (p : Plan) (n : ℕ) (rolls : List Float) (said : ℕ) → said ≡ samples_refusal n → (said ≡ 0 → rolls ≡ even_rolls n)
-    → (from to : ℕ) (b : List ℕ) (u old : ℕ) (r : Answer) (o : List ℕ) (c : ℕ) → Ranged (sweep_of p rolls said) from to b u old r o c → Ranged (even_sweep p n) from to b u old r o c
+-- or where that refuses the plan, over whatever rolls
+pub even_or_refused : (p : Plan) (n : ℕ) (rolls : List Float) (said : Result Unit Refusal) → found said ≡ samples_refusal n → (found said ≡ 0 → rolls ≡ even_rolls n)
+    → (from to : ℕ) (b : List ℕ) (u old : ℕ) (r : Result ℕ Refusal) (o : List ℕ) (c : ℕ) → Ranged (sweep_of p rolls (found said)) from to b u old r o c → Ranged (even_sweep p n) from to b u old r o c
 unfolding sweep_of
-even_or_refused p n rolls zero z e from to b u old r o c = subst (λ (s : Sweep). Ranged s from to b u old r o c) (even_sweep_lem p n rolls 0 (e refl) z)
-even_or_refused p n rolls (suc k) z e from to b u old r o c =
-    range_alike (sweep_of p rolls (suc k)) (even_sweep p n) from to b u old r o c (plan_refusal p (suc k) (ltb (length b) u)) refl (ap (λ (said : ℕ). plan_refusal p said (ltb (length b) u)) z)
-    (λ h. omega (arith, nothing_said p (suc k) (ltb (length b) u) h))
+even_or_refused p n rolls (Ok done) z e from to b u old r o c q = subst (λ (s : Sweep). Ranged s from to b u old r o c) (even_sweep_lem p n rolls 0 (e refl) z) q
+even_or_refused p n rolls (Err why) z e from to b u old r o c q =
+    let k = plan_refusal p (number_of why) (ltb (length b) u) in
+    range_alike (sweep_of p rolls (number_of why)) (even_sweep p n) from to b u old r o c k refl (ap (λ (said : ℕ). plan_refusal p said (ltb (length b) u)) z)
+    (some k (λ h. omega (arith, nothing_said p (number_of why) (ltb (length b) u) h, number_positive why))) q
 
 -- the even rolls are as many as was said
 pub even_says : (n : ℕ) → Says (samples_refusal n) (length (even_rolls n))

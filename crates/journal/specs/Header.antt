@@ -1,11 +1,9 @@
 -- Section 4: the header. Definitions only. Assumes nothing.
-use Rattle.std.specs.Prelude.{List, [], ◌∷◌, ◌++◌, ℕ, Float}
+use Rattle.std.specs.Prelude.{List, [], ◌∷◌, ◌++◌, ℕ, Float, Option, None, Some}
 use Rattle.std.specs.Float.{binary64}
 use Rattle.std.specs.Float.Ieee.{to_bits}
 use Rattle.solar_roll.specs.Vectors.{Vector, x, y, z}
 use Rattle.solar_roll.specs.Plan.{Plan, rows_of, times_of, head_tolerance, head_panel}
-use Rattle.solar_roll.specs.declared.cell.ConfiguredRoll.{ConfiguredRoll}
-use Rattle.solar_roll.specs.declared.cell.ConfiguredRoll.TheVariants.{None, Some}
 use Rattle.journal.specs.Hex.{hex_text}
 
 -- targets, times and n (8 digits each), tolerance bits (16), 01 or 00 for a configured roll (2), its bits or zeros (16), the panel normal (3 of 16),
@@ -18,16 +16,16 @@ header_text targets times n tolerance configured roll px py pz =
     ++ (hex_text 16 px ++ (hex_text 16 py ++ (hex_text 16 pz ++ (10 ∷ [])))))))))
 
 -- 1 for a configured roll, else 0; its bits or 0
-abbrev pub has_roll : ConfiguredRoll → ℕ
+abbrev pub has_roll : Option Float → ℕ
 has_roll None = 0
 has_roll (Some roll) = 1
 
-abbrev pub roll_bits : ConfiguredRoll → ℕ
+abbrev pub roll_bits : Option Float → ℕ
 roll_bits None = 0
 roll_bits (Some roll) = to_bits binary64 roll
 
 -- the header of these settings: `to_bits` writes any NaN 7ff8000000000000
-unfoldable pub settings_header : ℕ → ℕ → ℕ → Float → ConfiguredRoll → Vector → List ℕ
+unfoldable pub settings_header : ℕ → ℕ → ℕ → Float → Option Float → Vector → List ℕ
 unfolding header_text
 settings_header targets times n tolerance configured panel =
     header_text targets times n (to_bits binary64 tolerance) (has_roll configured) (roll_bits configured)

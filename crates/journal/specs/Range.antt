@@ -1,8 +1,8 @@
 -- Work over a range of chunks, with one check at the start: what works of from, from + 1, .. answer and leave, each on what the one before left. Said
 -- by work's own definitions. Definitions only. Assumes nothing.
-use Rattle.std.specs.Prelude.{◌≡◌, List, [], ◌∷◌, ℕ, zero, suc, ◌+◌, ◌-◌, leb}
-use Rattle.buffers.specs.Refusal.{Conditions, first, carried, Reply, reply, unless_refused, reply_of}
-use Rattle.buffers.specs.declared.Answer.{Answer}
+use Rattle.std.specs.Prelude.{◌≡◌, List, [], ◌∷◌, ℕ, zero, suc, ◌+◌, ◌-◌, leb, Result}
+use Rattle.buffers.specs.Refusal.{Conditions, first, carried, Reply, reply, unless_refused, replied}
+use Rattle.buffers.specs.declared.reasons.Refusal.{Refusal}
 use Rattle.roll_sweep.specs.Sweep.{Sweep}
 use Rattle.journal.specs.Lines.{line_length}
 use Rattle.journal.specs.Calls.{after_plan, work_refusal, work_bytes}
@@ -61,5 +61,5 @@ range_stopped s from to b u old = unless_refused (range_refusal s from to b u) (
 -- ---- for the contracts of private functions
 
 -- the answer r, the bytes o and the lent number c are the range's
-abbrev pub Ranged : Sweep → ℕ → ℕ → List ℕ → ℕ → ℕ → Answer → List ℕ → ℕ → Type 0
-Ranged s from to b u old r o c = (reply_of r ≡ range_reply s from to b u) × (o ≡ range_bytes s from to b u) × (c ≡ range_stopped s from to b u old)
+abbrev pub Ranged : Sweep → ℕ → ℕ → List ℕ → ℕ → ℕ → Result ℕ Refusal → List ℕ → ℕ → Type 0
+Ranged s from to b u old r o c = (replied r ≡ range_reply s from to b u) × (o ≡ range_bytes s from to b u) × (c ≡ range_stopped s from to b u old)

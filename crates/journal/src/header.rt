@@ -1,14 +1,14 @@
 // The header.
-ghost use Rattle.std.specs.Prelude.{◌≡◌, List, ℕ, ◌≤◌, length, get_or};
+ghost use Rattle.std.specs.Prelude.{◌≡◌, ◌≤◌, length, get_or};
 ghost use Rattle.buffers.specs.Lent.{over};
 ghost use Rattle.float.specs.Arithmetic.{zero·0};
-ghost use Rattle.solar_roll.specs.Plan.{triple};
+ghost use Rattle.solar_roll.specs.Plan.{lent};
 ghost use Rattle.journal.specs.Lines.{header_length};
-ghost use Rattle.journal.specs.Header.{header_text, has_roll, roll_bits, settings_header};
+ghost use Rattle.journal.specs.Header.{header_text, has_roll, roll_bits, header_of};
 
 use crate::hex::write_hex;
 use float::bits;
-use solar_roll::{ConfiguredRoll, triple};
+use solar_roll::{Plan, triple};
 
 // How many bytes a header has, with its 0a.
 pub const HEADER_LENGTH: usize = 107;
@@ -42,52 +42,39 @@ fn write_numbers(
 }
 
 // 1 for a configured roll, else 0.
-fn has_roll(configured: ConfiguredRoll) -> u64
+fn has_roll(configured: Option<f64>) -> u64
     ensures { result ≡ has_roll configured }
 {
-    match configured {
-        ConfiguredRoll::None => 0,
-        ConfiguredRoll::Some(_) => 1,
-    }
+    u64::from(configured.is_some())
 }
 
 // The bits of a configured roll, else 0.
-fn roll_bits(configured: ConfiguredRoll) -> u64
+fn roll_bits(configured: Option<f64>) -> u64
     ensures { result ≡ roll_bits configured }
 {
-    match configured {
-        ConfiguredRoll::None => 0,
-        ConfiguredRoll::Some(roll) => bits(roll),
-    }
+    configured.map_or(0, |roll| bits(roll))
 }
 
 // The first number of xs, 0 for none.
 fn first_or_zero(xs: &[f64]) -> f64
     ensures { result ≡ get_or xs.now 0 zero·0 }
 {
-    if 0 < xs.len() { xs[0] } else { 0.0 }
+    xs.first().copied().unwrap_or(0.0)
 }
 
-// Writes the header of a plan's settings.
-pub(crate) fn write_header(
-    out: &mut [u8],
-    targets: u64,
-    times: u64,
-    n: u64,
-    tolerances: &[f64],
-    configured: ConfiguredRoll,
-    panels: &[f64],
-)
+// Writes the header of a plan with n samples.
+pub(crate) fn write_header(out: &mut [u8], plan: &Plan, n: u64)
     requires { header_length ≤ length out.old }
-    ensures { let text : List ℕ = settings_header targets times n (get_or tolerances.now 0 zero·0) configured (triple panels.now 0) in
-        out.new ≡ over text out.old }
+    ensures { out.new ≡ over (header_of (lent plan.now) n) out.old }
 {
-    let panel = triple(panels, 0);
-    let tolerance = bits(first_or_zero(tolerances));
-    let has = has_roll(configured);
-    let roll = roll_bits(configured);
+    let panel = triple(plan.panels, 0);
+    let tolerance = bits(first_or_zero(plan.tolerances));
+    let has = has_roll(plan.configured);
+    let roll = roll_bits(plan.configured);
     let x = bits(panel[0]);
     let y = bits(panel[1]);
     let z = bits(panel[2]);
+    let targets = plan.rows() as u64;
+    let times = plan.times() as u64;
     write_numbers(out, targets, times, n, tolerance, has, roll, x, y, z);
 }

@@ -4,11 +4,10 @@ ghost use Rattle.std.specs.Prelude.{◌≡◌, true, false, ◌||◌, List, ℕ,
 ghost use Rattle.buffers.specs.Ranges.{tab};
 ghost use Rattle.solar_roll.specs.Vectors.{Vector};
 ghost use Rattle.solar_roll.specs.Roll.{sun_unit};
-ghost use Rattle.solar_roll.specs.Plan.{Plan, plan_of, count, rows_of, times_of, triple, most_cells, most_samples, PlanFacts};
+ghost use Rattle.solar_roll.specs.Plan.{Plan as PlanOf, lent, count, rows_of, times_of, triple, most_cells, most_samples, PlanFacts};
 ghost use Rattle.roll_sweep.specs.Sweep.{Sweep, chunks};
-ghost use Rattle.roll_sweep.specs.Chunk.{swept_of, chunk_reply};
-ghost use Rattle.roll_sweep.specs.declared.chunk.Swept.{Swept};
-ghost use Rattle.buffers.specs.Refusal.{accepted};
+ghost use Rattle.roll_sweep.specs.Chunk.{swept_of};
+ghost use Rattle.buffers.specs.Refusal.{found};
 ghost use Rattle.journal.specs.Lines.{line_length};
 ghost use Rattle.journal.specs.Pass.{most_chunks, Ready};
 ghost use Rattle.journal.specs.Plan.{sweep_of, even_sweep, Says, UnitsOf, table_times};
@@ -17,23 +16,13 @@ ghost use Rattle.journal.specs.Range.{ran_to, ran, Ranged};
 use crate::accepted::check_work;
 use crate::line::{LINE_LENGTH, append_line};
 use crate::pass::MOST_CHUNKS;
-use crate::plan::lent_plan;
-use buffers::Answer;
-use roll_sweep::{ChunkAnswer, Swept, cells_in, even_rolls, sweep_chunk};
-use solar_roll::{ConfiguredRoll, MOST_SAMPLES, samples_refusal, sun_unit, sun_units, triple};
+use crate::plan::passed_plan;
+use buffers::Refusal;
+use roll_sweep::{Swept, cells_in, even_rolls, sweep_chunk};
+use solar_roll::{MOST_SAMPLES, Plan, samples_refusal, sun_unit, sun_units, triple};
 
 // How many times a table of the Sun's units has room for: the hours of a leap year, 206 KB.
 const TABLE_TIMES: usize = 8_784;
-
-// What an accepted sweep gives.
-fn accepted(answer: ChunkAnswer) -> Swept
-    ensures { (x : Swept) → chunk_reply answer ≡ accepted x → result ≡ x }
-{
-    match answer {
-        ChunkAnswer::Accepted(swept) => swept,
-        ChunkAnswer::Refused(_) => Swept { mask: 0, probes: 0 },
-    }
-}
 
 // The Sun's units at `cells` cells from number `first` on. Of a time that comes again, in another
 // row, the unit is not worked out again.
@@ -44,52 +33,33 @@ fn chunk_units(suns: &[f64], observers: &[f64], first: usize, cells: usize) -> [
 {
     let times = suns.len() / 3;
     let mut units = [[0.0; 3]; 64];
-    let mut k = 0;
-    while k < cells {
-        let at = k;
-        k += 1;
+    for at in 0..cells {
         if at < times {
             let time = (first + at) % times;
-            let unit = sun_unit(triple(suns, time), triple(observers, time));
-            units[at] = unit;
+            units[at] = sun_unit(triple(suns, time), triple(observers, time));
         } else {
-            let unit = units[at - times];
-            units[at] = unit;
+            units[at] = units[at - times];
         }
     }
     units
 }
 
 // Sweeps a chunk of an accepted plan over rolls: by a table of the Sun's units of all times, if there is one, else by those of its own cells.
-fn sweep_rolls(
-    targets: &[f64],
-    suns: &[f64],
-    observers: &[f64],
-    tolerances: &[f64],
-    configured: ConfiguredRoll,
-    panels: &[f64],
-    rolls: &[f64],
-    units: &[[f64; 3]],
-    chunk: u64,
-) -> Swept
-    requires { let p : Plan = plan_of targets.now suns.now observers.now tolerances.now configured panels.now in
+fn sweep_rolls(plan: &Plan, rolls: &[f64], units: &[[f64; 3]], chunk: u64) -> Swept
+    requires { let p : PlanOf = lent plan.now in
         PlanFacts p × (1 ≤ length rolls.now) × (length rolls.now ≤ most_samples)
         × UnitsOf p units.now × (chunk < chunks (rows_of p * times_of p)) }
-    ensures { let p : Plan = plan_of targets.now suns.now observers.now tolerances.now configured panels.now in
+    ensures { let p : PlanOf = lent plan.now in
         let s : Sweep = sweep_of p rolls.now 0 in
         result ≡ swept_of s chunk }
 {
-    let times = suns.len() / 3;
+    let times = plan.times();
     if 0 < units.len() {
-        return accepted(sweep_chunk(
-            targets, times, units, tolerances, configured, panels, rolls, chunk,
-        ));
+        return sweep_chunk(plan, times, units, rolls, chunk).unwrap();
     }
-    let cells = cells_in((targets.len() / 3 * times) as u64, chunk) as usize;
-    let own = chunk_units(suns, observers, 64 * chunk as usize, cells);
-    accepted(sweep_chunk(
-        targets, times, &own, tolerances, configured, panels, rolls, chunk,
-    ))
+    let cells = cells_in((plan.rows() * times) as u64, chunk) as usize;
+    let own = chunk_units(plan.suns, plan.observers, 64 * chunk as usize, cells);
+    sweep_chunk(plan, times, &own, rolls, chunk).unwrap()
 }
 
 // Work refuses the chunk: it does not exist, it has a line, or there is no room for one.
@@ -105,12 +75,7 @@ fn is_refused(seen: &[bool], chunks: u64, free: usize, chunk: u64) -> bool
 
 // Appends the lines of up to `limit` chunks from `from` on, stopping at the first that work refuses. Gives the chunk at which it stopped.
 fn append_swept(
-    targets: &[f64],
-    suns: &[f64],
-    observers: &[f64],
-    tolerances: &[f64],
-    configured: ConfiguredRoll,
-    panels: &[f64],
+    plan: &Plan,
     rolls: &[f64],
     units: &[[f64; 3]],
     from: u64,
@@ -119,27 +84,23 @@ fn append_swept(
     used: u64,
     seen: &[bool],
 ) -> u64
-    requires { let p : Plan = plan_of targets.now suns.now observers.now tolerances.now configured panels.now in
+    requires { let p : PlanOf = lent plan.now in
         UnitsOf p units.now × ((masks : List ℕ) × Ready (sweep_of p rolls.now 0) journal.old used seen.now masks) }
-    ensures { let p : Plan = plan_of targets.now suns.now observers.now tolerances.now configured panels.now in
+    ensures { let p : PlanOf = lent plan.now in
         let s : Sweep = sweep_of p rolls.now 0 in
         ran_to journal.new (used + line_length * (result - from)) result ≡ ran s limit (ran_to journal.old used from) }
 {
-    let chunks = ((targets.len() / 3 * (suns.len() / 3) + 63) / 64) as u64;
+    let chunks = (plan.rows() * plan.times()).div_ceil(64) as u64;
     let mut at = used as usize;
     let mut chunk = from;
-    let mut left = limit;
-    while 0 < left {
+    for _ in 0..limit {
         if is_refused(seen, chunks, journal.len() - at, chunk) {
             return chunk;
         }
-        let swept = sweep_rolls(
-            targets, suns, observers, tolerances, configured, panels, rolls, units, chunk,
-        );
+        let swept = sweep_rolls(plan, rolls, units, chunk);
         append_line(journal, at, chunk, swept.mask, swept.probes);
         at += LINE_LENGTH;
         chunk += 1;
-        left -= 1;
     }
     chunk
 }
@@ -158,12 +119,7 @@ fn pays(times: usize, limit: u64) -> bool
 
 // The same, by such a table.
 fn append_by_units(
-    targets: &[f64],
-    suns: &[f64],
-    observers: &[f64],
-    tolerances: &[f64],
-    configured: ConfiguredRoll,
-    panels: &[f64],
+    plan: &Plan,
     rolls: &[f64],
     from: u64,
     limit: u64,
@@ -171,40 +127,21 @@ fn append_by_units(
     used: u64,
     seen: &[bool],
 ) -> u64
-    requires { let p : Plan = plan_of targets.now suns.now observers.now tolerances.now configured panels.now in
-        (count suns.now ≤ table_times) × ((masks : List ℕ) × Ready (sweep_of p rolls.now 0) journal.old used seen.now masks) }
-    ensures { let p : Plan = plan_of targets.now suns.now observers.now tolerances.now configured panels.now in
+    requires { let p : PlanOf = lent plan.now in
+        (times_of p ≤ table_times) × ((masks : List ℕ) × Ready (sweep_of p rolls.now 0) journal.old used seen.now masks) }
+    ensures { let p : PlanOf = lent plan.now in
         let s : Sweep = sweep_of p rolls.now 0 in
         ran_to journal.new (used + line_length * (result - from)) result ≡ ran s limit (ran_to journal.old used from) }
 {
     let mut units = [[0.0; 3]; TABLE_TIMES];
-    sun_units(suns, observers, 0, &mut units);
-    let end = suns.len() / 3;
-    append_swept(
-        targets,
-        suns,
-        observers,
-        tolerances,
-        configured,
-        panels,
-        rolls,
-        &units[..end],
-        from,
-        limit,
-        journal,
-        used,
-        seen,
-    )
+    sun_units(plan.suns, plan.observers, 0, &mut units);
+    let end = plan.times();
+    append_swept(plan, rolls, &units[..end], from, limit, journal, used, seen)
 }
 
 // The same, by one where it pays.
 fn append_lines(
-    targets: &[f64],
-    suns: &[f64],
-    observers: &[f64],
-    tolerances: &[f64],
-    configured: ConfiguredRoll,
-    panels: &[f64],
+    plan: &Plan,
     rolls: &[f64],
     from: u64,
     limit: u64,
@@ -212,106 +149,74 @@ fn append_lines(
     used: u64,
     seen: &[bool],
 ) -> u64
-    requires { let p : Plan = plan_of targets.now suns.now observers.now tolerances.now configured panels.now in
+    requires { let p : PlanOf = lent plan.now in
         ((masks : List ℕ) × Ready (sweep_of p rolls.now 0) journal.old used seen.now masks) }
-    ensures { let p : Plan = plan_of targets.now suns.now observers.now tolerances.now configured panels.now in
+    ensures { let p : PlanOf = lent plan.now in
         let s : Sweep = sweep_of p rolls.now 0 in
         ran_to journal.new (used + line_length * (result - from)) result ≡ ran s limit (ran_to journal.old used from) }
 {
-    if pays(suns.len() / 3, limit) {
-        return append_by_units(
-            targets, suns, observers, tolerances, configured, panels, rolls, from, limit, journal,
-            used, seen,
-        );
+    if pays(plan.times(), limit) {
+        return append_by_units(plan, rolls, from, limit, journal, used, seen);
     }
     let none = [[0.0; 3]; 0];
-    append_swept(
-        targets, suns, observers, tolerances, configured, panels, rolls, &none, from, limit,
-        journal, used, seen,
-    )
+    append_swept(plan, rolls, &none, from, limit, journal, used, seen)
 }
 
 // Work over the range of `limit` chunks from `from` on, over rolls of which `said` is said in the place of 3. By its length, for a range of one
 // chunk may end at 2^64.
 pub(crate) fn work_over(
-    targets: &[f64],
-    suns: &[f64],
-    observers: &[f64],
-    tolerances: &[f64],
-    configured: ConfiguredRoll,
-    panels: &[f64],
+    plan: &Plan,
     rolls: &[f64],
-    said: u64,
+    said: Result<(), Refusal>,
     from: u64,
     limit: u64,
     journal: &mut [u8],
     used: u64,
     stopped: &mut u64,
-) -> Answer
-    requires { Says said (length rolls.now) }
-    ensures { let p : Plan = plan_of targets.now suns.now observers.now tolerances.now configured panels.now in
-        let s : Sweep = sweep_of p rolls.now said in
+) -> Result<u64, Refusal>
+    requires { Says (found said) (length rolls.now) }
+    ensures { let p : PlanOf = lent plan.now in
+        let s : Sweep = sweep_of p rolls.now (found said) in
         ((to : ℕ) → to - from ≡ limit
         → Ranged s from to journal.old used stopped.old result journal.new stopped.new) }
 {
     let room = journal.len() as u64;
     let samples = rolls.len() as u64;
-    let lent = lent_plan(
-        targets, suns, observers, tolerances, configured, panels, said, samples, room, used,
-    );
-    if lent.refusal != 0 {
-        return Answer::Refused(lent.refusal);
-    }
+    let passed = passed_plan(plan, said, samples, room, used)?;
     if limit == 0 {
-        return Answer::Refused(9);
+        return Err(Refusal::NoSuchIndex);
     }
-    let plan = lent.plan;
     let mut seen = [false; MOST_CHUNKS];
     let mut masks = [0u64; MOST_CHUNKS];
-    if let Err(refusal) = check_work(&plan, from, journal, used, &mut seen, &mut masks) {
-        return Answer::Refused(refusal.number());
-    }
-    let next = append_lines(
-        targets, suns, observers, tolerances, configured, panels, rolls, from, limit, journal,
-        used, &seen,
-    );
+    check_work(&passed, from, journal, used, &mut seen, &mut masks)?;
+    let next = append_lines(plan, rolls, from, limit, journal, used, &seen);
     *stopped = next;
     let lines = next - from;
     let end = used + LINE_LENGTH as u64 * lines;
-    Answer::Accepted(end)
+    Ok(end)
 }
 
 // The same, over n even rolls: over none where n is refused, for then the plan is, and no roll is looked at.
 pub(crate) fn work_even(
-    targets: &[f64],
-    suns: &[f64],
-    observers: &[f64],
-    tolerances: &[f64],
-    configured: ConfiguredRoll,
-    panels: &[f64],
+    plan: &Plan,
     n: u64,
     from: u64,
     limit: u64,
     journal: &mut [u8],
     used: u64,
     stopped: &mut u64,
-) -> Answer
-    ensures { let p : Plan = plan_of targets.now suns.now observers.now tolerances.now configured panels.now in
+) -> Result<u64, Refusal>
+    ensures { let p : PlanOf = lent plan.now in
         let s : Sweep = even_sweep p n in
         ((to : ℕ) → to - from ≡ limit
         → Ranged s from to journal.old used stopped.old result journal.new stopped.new) }
 {
     let said = samples_refusal(n);
-    let end = if said == 0 { n as usize } else { 0 };
+    let end = if said.is_ok() { n as usize } else { 0 };
     let mut rolls = [0.0; MOST_SAMPLES];
     even_rolls(end as u32, &mut rolls);
     work_over(
-        targets,
-        suns,
-        observers,
-        tolerances,
-        configured,
-        panels,
+        plan,
         &rolls[..end],
         said,
         from,

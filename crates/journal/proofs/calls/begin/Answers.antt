@@ -1,6 +1,6 @@
 -- `journal::calls::begin` meets its contract. Assumes nothing.
 use mathlib.Core.Path.{refl, ap, ◌∙◌}
-use Rattle.solar_roll.specs.Plan.{plan_of}
+use Rattle.solar_roll.specs.Plan.{lent}
 use Rattle.roll_sweep.specs.Sweep.{Sweep}
 use Rattle.roll_sweep.specs.Rolls.{even_rolls}
 use Rattle.roll_sweep.proofs.Even.{length_even}
@@ -11,6 +11,6 @@ use Rattle.journal.proofs.calls.begin.Goals as goal
 pub returns : goal.returns
 returns c = let a = c.args in
     let b = a.journal.now in
-    let even = even_sweep_lem (plan_of a.targets.now a.suns.now a.observers.now a.tolerances.now a.configured a.panels.now) a.n _ _ refl c.samples_refusal-said.ensures in
+    let even = even_sweep_lem (lent a.plan.now) a.n _ _ refl c.samples_refusal-said.ensures in
     let r = c.begin_samples.ensures (even_rolls a.n) (length_even a.n) in
     (r.0 ∙ ap (λ (s : Sweep). begin_reply s b a.used) even, r.1 ∙ ap (λ (s : Sweep). begin_bytes s b a.used) even)

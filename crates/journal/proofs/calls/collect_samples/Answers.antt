@@ -1,40 +1,38 @@
 -- `journal::calls::collect_samples` meets its contract. Assumes nothing.
-use mathlib.Core.Path.{◌≡◌, ◌∙◌}
+use mathlib.Core.Path.{◌≡◌, refl}
 use mathlib.Core.List.{List}
 use lib.Ieee.{Float}
 use lib.ListN.{length}
-use Rattle.solar_roll.specs.Plan.{plan_of}
-use Rattle.roll_sweep.specs.Sweep.{Sweep}
+use Rattle.std.proofs.lemmas.Result.{err_from_is_err_and}
+use Rattle.buffers.specs.Refusal.{found}
+use Rattle.solar_roll.specs.Plan.{lent}
 use Rattle.roll_sweep.specs.Rolls.{even_rolls}
 use Rattle.roll_sweep.proofs.Even.{length_even}
 use Rattle.journal.specs.Calls.{collect_conditions, collect_refusal}
 use Rattle.journal.specs.Pass.{Passed}
 use Rattle.journal.specs.Plan.{sweep_of}
-use Rattle.journal.proofs.Chains.{plan_refused, collect_refused}
+use Rattle.journal.proofs.Chains.{plan_refused, collect_err}
 use Rattle.journal.proofs.calls.collect_samples.Goals as goal
-use Rattle.journal.proofs.calls.collect_samples.Goals.{After-lent_plan-lent, Else-lent-ne0}
-
-abbrev sweep : After-lent_plan-lent → List Float → Sweep
-sweep c rolls = let a = c.args in sweep_of (plan_of a.targets.now a.suns.now a.observers.now a.tolerances.now a.configured a.panels.now) rolls a.said
+use Rattle.journal.proofs.calls.collect_samples.Goals.{In_ok-passed}
 
 -- the plan has passed
-passes : (c : Else-lent-ne0) (rolls : List Float) →
+passes : (c : In_ok-passed) (rolls : List Float) →
     let a = c.args in
-    let p = c.lent_plan-lent.result in
-    length rolls ≡ a.samples → Passed ((λ (rolls : List Float). let a = c.args in sweep_of (plan_of a.targets.now a.suns.now a.observers.now a.tolerances.now a.configured a.panels.now) rolls a.said) rolls) p.plan (length a.journal.now) a.used
-passes c rolls size = (c.lent_plan-lent.ensures rolls size).1 c.if-lent-ne0.false
+    length rolls ≡ a.samples → Passed (sweep_of (lent a.plan.now) rolls (found a.said)) c.in_ok-passed.passed (length a.journal.now) a.used
+passes c rolls size = c.in_ok-passed.ensures.passed rolls size _ refl
 
-pub returns-then-lent-ne0 : goal.returns-then-lent-ne0
+pub returns-in_err-passed : goal.returns-in_err-passed
 unfolding collect_refusal
-returns-then-lent-ne0 c rolls size = let a = c.args in
-    let b = a.journal.now in
-    let u = a.used in
-    collect_refused (sweep (goal.at.returns-then-lent-ne0 c).After-lent_plan-lent rolls) b u a.mask.now _ (plan_refused (sweep (goal.at.returns-then-lent-ne0 c).After-lent_plan-lent rolls) b u (collect_conditions (sweep (goal.at.returns-then-lent-ne0 c).After-lent_plan-lent rolls) b u a.mask.now) _ (c.lent_plan-lent.ensures rolls size).0 c.if-lent-ne0.true) c.if-lent-ne0.true
+returns-in_err-passed c = let a = c.args in
+    let p = err_from_is_err_and c.from_residual.result c.from_residual.ensures.1 in
+    rw (p.1, p.2) (λ rolls size.
+    let s = sweep_of (lent a.plan.now) rolls (found a.said) in
+    collect_err s a.journal.now a.used a.mask.now _ (plan_refused s a.journal.now a.used (collect_conditions s a.journal.now a.used a.mask.now) _ (c.in_err-passed.ensures.refusal rolls size)))
 
 pub collect_lines-requires : goal.collect_lines-requires
 collect_lines-requires c = let n = c.args.samples in
-    let q = passes (goal.at.collect_lines-requires c).Else-lent-ne0 (even_rolls n) (length_even n) in
+    let q = passes (goal.at.collect_lines-requires c).In_ok-passed (even_rolls n) (length_even n) in
     record { size = q.size; few = q.few; most = q.most; used = q.used }
 
 pub returns : goal.returns
-returns c rolls size = let r = c.collect_lines.ensures _ (passes (goal.at.returns c).Else-lent-ne0 rolls size) in (c.answer_of.ensures ∙ r.0, r.1)
+returns c rolls size = c.collect_lines.ensures _ (passes (goal.at.returns c).In_ok-passed rolls size)

@@ -9,21 +9,18 @@ use Rattle.buffers.specs.Lent.{filled}
 use Rattle.buffers.proofs.Ranges.{length_tab, tab_ext}
 use Rattle.buffers.proofs.Lent.{take_filled}
 use Rattle.solar_roll.specs.Vectors.{Vector}
-use Rattle.solar_roll.specs.Plan.{Plan, plan_of, times_of, sun_at}
+use Rattle.solar_roll.specs.Plan.{Plan, lent, times_of, sun_at}
 use Rattle.journal.specs.Plan.{table_times}
 use Rattle.journal.proofs.range.append_by_units.Goals as goal
 use Rattle.journal.proofs.range.append_by_units.Goals.{After-sun_units}
 
-abbrev plan : After-sun_units → Plan
-plan c = let a = c.args in plan_of a.targets.now a.suns.now a.observers.now a.tolerances.now a.configured a.panels.now
-
 -- the table's first places hold the units of all times
 table : (c : After-sun_units) →
-    let p = plan c in
+    let p = lent c.args.plan.now in
     take (times_of p) c.sun_units.new.units ≡ tab (times_of p) (sun_at p)
 unfolding sun_at
 table c =
-    let p : Plan = plan c in
+    let p : Plan = lent c.args.plan.now in
     let blank = replicate table_times (replicate 3 (of_bits binary64 0)) in
     let F : ℕ → Vector = λ t. sun_at p (0 + t) in
     let all : min (length blank) (times_of p - 0) ≡ times_of p = omega (arith, length-replicate {A = Vector} table_times (replicate 3 (of_bits binary64 0)), c.requires.0) in
@@ -32,7 +29,7 @@ table c =
     ∙ tab_ext (times_of p) F (sun_at p) (λ t h. ap (sun_at p) (omega arith))
 
 pub slice_bounds-append_swept-end : goal.slice_bounds-append_swept-end
-slice_bounds-append_swept-end c = sym (ap length (table (goal.at.slice_bounds-append_swept-end c).After-sun_units) ∙ length_tab _ _)
+slice_bounds-append_swept-end c = rw c.times-end.ensures (sym (ap length (table (goal.at.slice_bounds-append_swept-end c).After-sun_units) ∙ length_tab _ _))
 
 pub append_swept-requires : goal.append_swept-requires
-append_swept-requires c = (λ h. table (goal.at.append_swept-requires c).After-sun_units, c.requires.1)
+append_swept-requires c = (λ h. rw c.times-end.ensures (table (goal.at.append_swept-requires c).After-sun_units), c.requires.1)

@@ -4,7 +4,7 @@ use native.Mathlib.Omega.{arith}
 use Rattle.journal.proofs.range.append_lines.Goals as goal
 
 pub append_by_units-requires : goal.append_by_units-requires
-append_by_units-requires c = (c.pays.ensures c.if-pays.true, c.requires)
+append_by_units-requires c = (rw (← c.times.ensures) (c.pays.ensures c.if-pays.true), c.requires)
 
 pub returns-then-pays : goal.returns-then-pays
 returns-then-pays c = c.append_by_units.ensures

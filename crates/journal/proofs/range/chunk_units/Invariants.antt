@@ -1,5 +1,5 @@
 -- `chunk_units`: before cell k, the units of the cells before it stand in the table's first places. Assumes nothing.
-use Prim.Native.Nat.{ℕ, ◌+◌, ◌-◌, ◌%◌, ◌≤◌}
+use Prim.Native.Nat.{ℕ, ◌+◌, ◌%◌}
 use mathlib.Core.Path.{◌≡◌}
 use mathlib.Core.List.{List}
 use lib.ListN.{length}
@@ -14,8 +14,5 @@ use Rattle.journal.proofs.range.chunk_units.Given as goal
 abbrev pub unit_at : List Float → List Float → ℕ → ℕ → Vector
 unit_at suns observers first k = sun_unit (triple suns ((first + k) % count suns)) (triple observers ((first + k) % count suns))
 
-abbrev pub invariant-loop-k : goal.invariant-loop-k
-invariant-loop-k l = (l.k ≤ l.cells) × (l.times ≡ count l.suns) × (length l.initial.units ≡ 64) × (length l.units ≡ 64) × (l.units ≡ filled l.k (unit_at l.suns l.observers l.first) l.initial.units)
-
-abbrev pub decreases-loop-k : goal.decreases-loop-k
-decreases-loop-k l = l.cells - l.k
+abbrev pub invariant-loop-at : goal.invariant-loop-at
+invariant-loop-at l = (length l.units ≡ 64) × (l.units ≡ filled l.at (unit_at l.suns l.observers l.first) l.initial.units)
