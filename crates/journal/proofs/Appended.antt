@@ -1,9 +1,9 @@
 -- One line more. What is read of a journal's beginning depends on no byte beyond it; so a journal that is right, without a tail, is right again once
 -- work's line stands at its end, and that line's chunk is the one that has a line more. Assumes nothing.
-use mathlib.Core.Path.{◌≡◌, refl, sym, ap, ap₂, ◌∙◌}
+use mathlib.Core.Path.{◌≡◌, sym, ap, ap₂, ◌∙◌}
 use mathlib.Core.Bool.{Bool, true, false, ◌&&◌, ◌||◌, not}
 use mathlib.Core.List.{List}
-use Prim.Native.Nat.{ℕ, zero, suc, ◌+◌, ◌-◌, ◌*◌, ◌%◌, ◌≤◌, ◌<◌, min}
+use Prim.Native.Nat.{ℕ, ◌+◌, ◌-◌, ◌*◌, ◌%◌, ◌≤◌, ◌<◌, min}
 use native.Mathlib.Omega.{arith}
 use lib.ListN.{length, get_or, take, drop}
 use lib.Seq.{length-take-le}
@@ -14,9 +14,10 @@ use Rattle.buffers.proofs.Lent.{get_or_before, length_put}
 use Rattle.buffers.proofs.Ranges.{any_ext, any_step, all_ext, all_step}
 use Rattle.buffers.proofs.Tests.{and_left, and_right, and_both, or_left, or_right, or_none}
 use Rattle.roll_sweep.specs.Sweep.{Sweep, cells, chunks}
-use Rattle.journal.specs.Hex.{are_digits, hex_value, digit_value, is_digit}
+use Rattle.journal.specs.Hex.{are_digits, hex_value}
 use Rattle.journal.specs.Lines.{line_length, header_length, line_of, line_start, chunk_at, mask_at, probes_at, has_chunk}
 use Rattle.journal.specs.Right.{whole_lines, torn, agree, possible, framed, line_fits, line_right, lines_right, right}
+use Rattle.journal.proofs.Text.{value_alike, digits_alike}
 use Rattle.journal.proofs.Scan.{line_fits_is}
 use Rattle.journal.proofs.Written.{SweepFacts, length_line, LineAt, read_line, line_right_lem}
 
@@ -27,13 +28,10 @@ Same m b d = (k : ℕ) → k < m → get_or b k 0 ≡ get_or d k 0
 
 module _ (m : ℕ) (b d : List ℕ) (e : Same m b d) where
   value_same : (i w : ℕ) → i + w ≤ m → hex_value b i w ≡ hex_value d i w
-  unfolding hex_value
-  value_same i zero h = refl
-  value_same i (suc w) h = ap₂ (λ (x y : ℕ). x * 16 + digit_value y) (value_same i w (omega arith)) (e (i + w) (omega arith))
+  value_same i w h = value_alike b d i i w (λ k g. e (i + k) (omega arith))
 
   digits_same : (i w : ℕ) → i + w ≤ m → are_digits b i w ≡ are_digits d i w
-  unfolding are_digits
-  digits_same i w h = all_ext w _ (λ j. is_digit (get_or d (i + j) 0)) (λ j l. ap is_digit (e (i + j) (omega arith)))
+  digits_same i w h = digits_alike b d i i w (λ k g. e (i + k) (omega arith))
 
   agree_same : (h : List ℕ) (j : ℕ) → j ≤ m → agree b h j ≡ agree d h j
   unfolding agree

@@ -14,9 +14,8 @@ use Rattle.std.specs.Option.{ok_or}
 use Rattle.buffers.specs.declared.reasons.Refusal.{Refusal}
 use lib.Seq.{get_or-set_same, get_or-set_other, get_or-take, length-take-le}
 use lib.Dec.{ltb, eqb}
-use borrow.Author.Tests.{ltb-true, eqb-true, eqb-false, eq-eqb, ne_eqb, not-true}
-use Rattle.buffers.proofs.Tests.{and_left, and_right, and_both, and_stop}
-use Rattle.journal.specs.Hex.{are_digits}
+use borrow.Author.Tests.{ltb-true, eqb-true, eqb-false, eq-eqb, not-true}
+use Rattle.buffers.proofs.Tests.{and_left, and_right, and_both}
 use Rattle.buffers.proofs.Ranges.{any_step, all_next, all_stop, all_iff, sum_next, sum_mono, sum_same}
 use Rattle.buffers.proofs.Distinct.{distinct_le}
 use Rattle.solar_roll.specs.Plan.{most_cells}
@@ -50,22 +49,16 @@ fits_exists n k b l e =
     ltb-true _ _ (and_left (ltb (chunk_at b l) (chunks n)) p (and_right (framed b l) (ltb (chunk_at b l) (chunks n) && p) (sym (line_fits_is n k b l) ∙ e)))
 
 -- line l as it is read, by its bytes
-pub no_digits : (b : List ℕ) (l : ℕ) → are_digits b (line_start l) 32 ≡ false → ◌≡◌ {A = Option Line} None (line_at b l)
-unfolding line_at framed
-no_digits b l e = ap (λ (t : Bool). cond (t && eqb (get_or b (line_start l + 32) 0) 10) (Some (numbers_at b l)) None) (sym e)
+pub line_unframed : (b : List ℕ) (l : ℕ) → framed b l ≡ false → ◌≡◌ {A = Option Line} None (line_at b l)
+unfolding line_at
+line_unframed b l e = ap (λ (t : Bool). cond t (Some (numbers_at b l)) None) (sym e)
 
-pub no_newline : (b : List ℕ) (l : ℕ) → (get_or b (line_start l + 32) 0 ≡ 10 → ⊥) → ◌≡◌ {A = Option Line} None (line_at b l)
-unfolding line_at framed
-no_newline b l h =
-    ap (λ (t : Bool). cond t (Some (numbers_at b l)) None)
-    (sym (and_stop (are_digits b (line_start l) 32) _ (ne_eqb (get_or b (line_start l + 32) 0) 10 h)))
-
-pub line_read : (b : List ℕ) (l c m p : ℕ) → are_digits b (line_start l) 32 ≡ true → get_or b (line_start l + 32) 0 ≡ 10
+pub line_read : (b : List ℕ) (l c m p : ℕ) → framed b l ≡ true
     → c ≡ chunk_at b l → m ≡ mask_at b l → p ≡ probes_at b l → ◌≡◌ {A = Option Line} (Some (record { chunk = c; mask = m; probes = p })) (line_at b l)
-unfolding line_at framed
-line_read b l c m p e h f g k =
+unfolding line_at
+line_read b l c m p e f g k =
     (λ i. Some (record { chunk = f i; mask = g i; probes = k i }))
-    ∙ ap (λ (t : Bool). cond t (Some (numbers_at b l)) None) (sym (and_both (are_digits b (line_start l) 32) _ e (eq-eqb (get_or b (line_start l + 32) 0) 10 h)))
+    ∙ ap (λ (t : Bool). cond t (Some (numbers_at b l)) None) (sym e)
 
 -- what was read: no line, or the numbers of line l
 pub none_unfit : (n k : ℕ) (b : List ℕ) (l : ℕ) → ◌≡◌ {A = Option Line} None (line_at b l) → line_fits n k b l ≡ false

@@ -44,7 +44,9 @@ pub(crate) fn read_line(journal: &[u8], l: usize) -> Option<Line>
 {
     let at = HEADER_LENGTH + LINE_LENGTH * l;
     let digits = &journal[at..at + 32];
-    if !are_digits(digits) || journal[at + 32] != b'\n' {
+    let end = journal[at + 32];
+    let framed = are_digits(digits) & (end == b'\n');
+    if !framed {
         return None;
     }
     Some(Line {

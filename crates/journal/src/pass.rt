@@ -11,7 +11,8 @@ use crate::line::{LINE_LENGTH, Line, read_line};
 use crate::plan::PassedPlan;
 use roll_sweep::cells_in;
 
-// How many chunks a plan can have, so how long the tables are: 1,048,576 cells make 16,384.
+// How many chunks a plan can have, so how long the tables are: 1,048,576 cells make 16,384. Flags and masks are two tables, and not one of Option<u64>:
+// that takes 112 KiB more, and with it work's stack would pass the 448 KiB of include/wilfnusk.h.
 pub(crate) const MOST_CHUNKS: usize = 16_384;
 
 // The mask has no bit from bit k on.
@@ -105,7 +106,8 @@ pub(crate) fn kept_length(used: usize) -> usize
     HEADER_LENGTH + LINE_LENGTH * whole_lines(used)
 }
 
-// The sum of the lines' probes, if the used bytes are right. The tables come blank, and are then filled.
+// The sum of the lines' probes, if the used bytes are right. The tables come blank, and are then filled. The used length stands beside the buffer, and
+// not in a slice of it: `right` is said of the lent buffer and its used length, as in C.
 pub(crate) fn check_journal(
     plan: &PassedPlan,
     journal: &[u8],
