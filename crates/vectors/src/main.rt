@@ -5,15 +5,16 @@
 // a colon, its sine and its cosine.
 #![tactic(auto)]
 
-ghost use Rattle.std.specs.Prelude.{◌+◌, ◌<◌, ◌≤◌, length, IfOk};
+ghost use Rattle.std.specs.Prelude.{◌<◌, ◌≤◌, length, IfOk};
 
 use std::io;
 use std::io::Read;
-use std::num::wrapping_add_u64;
 
 const LINE: usize = 51;
 
-// The value of a hexadecimal digit.
+type Line = [u8; LINE];
+
+// The value of a hexadecimal digit; any other byte has one too, which `to_digit` would not give.
 fn digit(c: u8) -> u64
     ensures { result < 16 }
 {
@@ -24,50 +25,34 @@ fn digit(c: u8) -> u64
     }
 }
 
-// The word of 16 digits at an index.
-fn word(text: &[u8], at: usize) -> u64
-    requires { at + 16 ≤ length text.now }
-{
-    let mut value: u64 = 0;
-    let mut i = 0;
-    while i < 16 {
-        let c = text[at + i];
-        value = (value << 4) | digit(c);
-        i += 1;
-    }
-    value
+fn word(digits: &[u8]) -> u64 {
+    digits.iter().fold(0, |value, c| (value << 4) | digit(*c))
 }
 
 // What a line has.
-#[derive(Clone, Copy)]
+#[derive(Clone, Copy, PartialEq, Eq)]
 enum Form {
     Root,
     Arctangent,
     SineAndCosine,
 }
 
-// The form of the line at an index.
-fn form_at(text: &[u8], at: usize) -> Form
-    requires { at + 51 ≤ length text.now }
-{
-    if text[at + 16] == b':' {
-        return Form::SineAndCosine;
+fn form_of(line: &Line) -> Form {
+    if line[16] == b':' {
+        Form::SineAndCosine
+    } else if line[17] == b'-' {
+        Form::Root
+    } else {
+        Form::Arctangent
     }
-    if text[at + 17] == b'-' {
-        return Form::Root;
-    }
-    Form::Arctangent
 }
 
-// Whether the line at an index has the answer that is computed here.
-fn agrees(text: &[u8], at: usize) -> bool
-    requires { at + 51 ≤ length text.now }
-{
-    let x = float::of_bits(word(text, at));
-    let second = word(text, at + 17);
-    let third = word(text, at + 34);
-    let form = form_at(text, at);
-    match form {
+// Whether a line has the answer that is computed here.
+fn agrees(line: &Line) -> bool {
+    let x = float::of_bits(word(&line[..16]));
+    let second = word(&line[17..33]);
+    let third = word(&line[34..50]);
+    match form_of(line) {
         Form::Root => float::bits(float::sqrt(x)) == third,
         Form::Arctangent => float::bits(float::atan2(x, float::of_bits(second))) == third,
         Form::SineAndCosine => {
@@ -77,44 +62,25 @@ fn agrees(text: &[u8], at: usize) -> bool
     }
 }
 
-fn write_line(rt: &impl Print, text: &[u8], at: usize) -> io::Result<()>
-    requires { at + 51 ≤ length text.now }
-{
-    let end = at + LINE;
-    rt.write_all(&text[at..end])
-}
-
-fn show(rt: &impl Print, count: u64, name: &[u8]) -> io::Result<()> {
-    print!(rt; "{count}")?;
-    rt.write_all(name)
+fn count(lines: &[Line], form: Form) -> usize {
+    lines.iter().filter(|line| form_of(line) == form).count()
 }
 
 fn replay(rt: &impl Print, text: &[u8]) -> io::Result<()> {
-    let lines = text.len() / LINE;
-    let mut roots: u64 = 0;
-    let mut arctangents: u64 = 0;
-    let mut sines: u64 = 0;
-    let mut agree: u64 = 0;
-    let mut i = 0;
-    while i < lines {
-        let at = i * LINE;
-        i += 1;
-        let form = form_at(text, at);
-        match form {
-            Form::Root => roots = wrapping_add_u64(roots, 1),
-            Form::Arctangent => arctangents = wrapping_add_u64(arctangents, 1),
-            Form::SineAndCosine => sines = wrapping_add_u64(sines, 1),
-        }
-        if agrees(text, at) {
-            agree = wrapping_add_u64(agree, 1);
+    let (lines, _) = text.as_chunks::<LINE>();
+    let mut agree: usize = 0;
+    for line in lines {
+        if agrees(line) {
+            agree += 1;
         } else {
-            write_line(rt, text, at)?;
+            rt.write_all(line)?;
         }
     }
-    show(rt, roots, b" roots, ")?;
-    show(rt, arctangents, b" arctangents and ")?;
-    show(rt, sines, b" sines and cosines: ")?;
-    show(rt, agree, b" agree\n")
+    let roots = count(lines, Form::Root);
+    let arctangents = count(lines, Form::Arctangent);
+    let sines = count(lines, Form::SineAndCosine);
+    print!(rt; "{roots} roots, {arctangents} arctangents and {sines} sines and cosines: ")?;
+    println!(rt; "{agree} agree")
 }
 
 // Reads until the buffer is full or the input ends, and answers how many bytes were read.

@@ -1,6 +1,6 @@
--- `vectors::replay` takes lines that the text has. Assumes nothing.
-use Rattle.std.proofs.Common.{◌-◌}
+-- `vectors::replay` counts no more lines than there are. Assumes nothing.
+use Rattle.std.proofs.Common.{◌≤◌}
 use Rattle.vectors.proofs.replay.Given as goal
 
-abbrev pub decreases-loop-i : goal.decreases-loop-i
-decreases-loop-i g l = l.lines - l.i
+abbrev pub invariant-loop-line : goal.invariant-loop-line
+invariant-loop-line g l = l.agree ≤ l.line-index
