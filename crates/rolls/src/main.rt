@@ -3,7 +3,7 @@
 
 mod show;
 
-use show::{answered, asked, bits, bytes, cell};
+use show::{answered, bits, bytes, cell};
 use solar_roll::{ConfiguredRoll, EvaluationRoll, cell_roll};
 use std::io;
 
@@ -15,44 +15,42 @@ const Z: [f64; 3] = [0.0, 0.0, 1.0];
 
 const ORIGIN: [f64; 3] = [0.0, 0.0, 0.0];
 
-fn nan() -> f64 {
-    0.0 / 0.0
-}
-
-fn infinity() -> f64 {
-    1.0 / 0.0
-}
-
 // Target [1, 0, 0], panel [0, 1, 0], observer at the origin.
 fn cells(rt: &impl Print) -> io::Result<()> {
-    asked(rt, b"Sun [0, 1, 0]")?;
-    cell(rt, cell_roll(X, Y, ORIGIN, Y))?;
-    asked(rt, b"Sun [0, 0, 1]")?;
-    cell(rt, cell_roll(X, Z, ORIGIN, Y))?;
-    asked(rt, b"Sun [0, -1, 0]")?;
-    cell(rt, cell_roll(X, [0.0, -1.0, 0.0], ORIGIN, Y))?;
-    asked(rt, b"Sun [1, 0, 0]")?;
-    cell(rt, cell_roll(X, X, ORIGIN, Y))?;
-    asked(rt, b"Sun at the observer")?;
-    cell(rt, cell_roll(Y, ORIGIN, ORIGIN, Y))?;
-    asked(rt, b"panel [1, 0, 0]")?;
-    cell(rt, cell_roll(X, Y, ORIGIN, X))?;
-    asked(rt, b"target at the pole")?;
-    cell(rt, cell_roll(Z, Y, ORIGIN, Y))
+    cell(rt, "Sun [0, 1, 0]", cell_roll(X, Y, ORIGIN, Y))?;
+    cell(rt, "Sun [0, 0, 1]", cell_roll(X, Z, ORIGIN, Y))?;
+    cell(
+        rt,
+        "Sun [0, -1, 0]",
+        cell_roll(X, [0.0, -1.0, 0.0], ORIGIN, Y),
+    )?;
+    cell(rt, "Sun [1, 0, 0]", cell_roll(X, X, ORIGIN, Y))?;
+    cell(rt, "Sun at the observer", cell_roll(Y, ORIGIN, ORIGIN, Y))?;
+    cell(rt, "panel [1, 0, 0]", cell_roll(X, Y, ORIGIN, X))?;
+    cell(rt, "target at the pole", cell_roll(Z, Y, ORIGIN, Y))
 }
 
 fn refused_cells(rt: &impl Print) -> io::Result<()> {
-    asked(rt, b"NaN in the Sun, target 2")?;
-    cell(rt, cell_roll([2.0, 0.0, 0.0], [0.0, nan(), 0.0], ORIGIN, Y))?;
-    asked(rt, b"observer at 1e101")?;
-    cell(rt, cell_roll(X, Y, [1.0e101, 0.0, 0.0], Y))?;
-    asked(rt, b"target 2, panel infinite")?;
     cell(
         rt,
-        cell_roll([2.0, 0.0, 0.0], Y, ORIGIN, [infinity(), 0.0, 0.0]),
+        "NaN in the Sun, target 2",
+        cell_roll([2.0, 0.0, 0.0], [0.0, f64::NAN, 0.0], ORIGIN, Y),
     )?;
-    asked(rt, b"panel infinite")?;
-    cell(rt, cell_roll(X, Y, ORIGIN, [infinity(), 0.0, 0.0]))
+    cell(
+        rt,
+        "observer at 1e101",
+        cell_roll(X, Y, [1.0e101, 0.0, 0.0], Y),
+    )?;
+    cell(
+        rt,
+        "target 2, panel infinite",
+        cell_roll([2.0, 0.0, 0.0], Y, ORIGIN, [f64::INFINITY, 0.0, 0.0]),
+    )?;
+    cell(
+        rt,
+        "panel infinite",
+        cell_roll(X, Y, ORIGIN, [f64::INFINITY, 0.0, 0.0]),
+    )
 }
 
 // Two targets at two times: rolls 0 and 90, then a free cell and 90.
@@ -67,13 +65,13 @@ const TEN: [f64; 2] = [10.0, 10.0];
 // Each of these asks one question about them and shows the mask: one call a function, which is proved sooner than many.
 fn batch(
     rt: &impl Print,
-    question: &[u8],
+    question: &str,
     configured: ConfiguredRoll,
     mask: &mut [u8],
 ) -> io::Result<()> {
-    asked(rt, question)?;
     answered(
         rt,
+        question,
         solar_masks::in_constraint_batch(&TARGETS, &SUNS, &OBSERVERS, &TEN, configured, &Y, mask),
     )?;
     bytes(rt, mask)
@@ -81,15 +79,15 @@ fn batch(
 
 fn at_roll(
     rt: &impl Print,
-    question: &[u8],
+    question: &str,
     tolerances: &[f64],
     configured: ConfiguredRoll,
     roll: EvaluationRoll,
     mask: &mut [u8],
 ) -> io::Result<()> {
-    asked(rt, question)?;
     answered(
         rt,
+        question,
         solar_masks::in_constraint_batch_at_roll(
             &TARGETS, &SUNS, &OBSERVERS, tolerances, configured, &Y, roll, mask,
         ),
@@ -97,10 +95,10 @@ fn at_roll(
     bytes(rt, mask)
 }
 
-fn at_every_roll(rt: &impl Print, question: &[u8], n: u64, mask: &mut [u8]) -> io::Result<()> {
-    asked(rt, question)?;
+fn at_every_roll(rt: &impl Print, question: &str, n: u64, mask: &mut [u8]) -> io::Result<()> {
     answered(
         rt,
+        question,
         solar_masks::in_constraint_batch_constrained_at_every_roll(
             &TARGETS,
             &SUNS,
@@ -117,14 +115,14 @@ fn at_every_roll(rt: &impl Print, question: &[u8], n: u64, mask: &mut [u8]) -> i
 
 fn field_of_regard(
     rt: &impl Print,
-    question: &[u8],
+    question: &str,
     time: u64,
     roll: f64,
     mask: &mut [u8],
 ) -> io::Result<()> {
-    asked(rt, question)?;
     answered(
         rt,
+        question,
         solar_masks::field_of_regard_violated_at_roll(
             &TARGETS,
             &SUNS,
@@ -142,16 +140,16 @@ fn field_of_regard(
 
 fn masks(rt: &impl Print) -> io::Result<()> {
     let mut mask = [9u8; 6];
-    batch(rt, b"no configured roll", ConfiguredRoll::None, &mut mask)?;
+    batch(rt, "no configured roll", ConfiguredRoll::None, &mut mask)?;
     batch(
         rt,
-        b"configured roll 0",
+        "configured roll 0",
         ConfiguredRoll::Some(0.0),
         &mut mask,
     )?;
     at_roll(
         rt,
-        b"Sweep 90 with 0 configured",
+        "Sweep 90 with 0 configured",
         &TEN,
         ConfiguredRoll::Some(0.0),
         EvaluationRoll::Sweep(90.0),
@@ -159,7 +157,7 @@ fn masks(rt: &impl Print) -> io::Result<()> {
     )?;
     at_roll(
         rt,
-        b"Fixed 90 with 0 configured",
+        "Fixed 90 with 0 configured",
         &TEN,
         ConfiguredRoll::Some(0.0),
         EvaluationRoll::Fixed(90.0),
@@ -171,7 +169,7 @@ fn masks_by_tolerance(rt: &impl Print) -> io::Result<()> {
     let mut mask = [9u8; 6];
     at_roll(
         rt,
-        b"tolerance 90 met exactly at roll 0",
+        "tolerance 90 met exactly at roll 0",
         &[90.0, 90.0],
         ConfiguredRoll::None,
         EvaluationRoll::Sweep(0.0),
@@ -179,15 +177,15 @@ fn masks_by_tolerance(rt: &impl Print) -> io::Result<()> {
     )?;
     at_roll(
         rt,
-        b"NaN tolerance",
-        &[nan(), nan()],
+        "NaN tolerance",
+        &[f64::NAN, f64::NAN],
         ConfiguredRoll::None,
         EvaluationRoll::Sweep(0.0),
         &mut mask,
     )?;
     at_roll(
         rt,
-        b"tolerance -1",
+        "tolerance -1",
         &[-1.0, -1.0],
         ConfiguredRoll::None,
         EvaluationRoll::Sweep(0.0),
@@ -195,29 +193,29 @@ fn masks_by_tolerance(rt: &impl Print) -> io::Result<()> {
     )?;
     at_roll(
         rt,
-        b"tolerance -1, then NaN",
-        &[-1.0, nan()],
+        "tolerance -1, then NaN",
+        &[-1.0, f64::NAN],
         ConfiguredRoll::None,
         EvaluationRoll::Sweep(0.0),
         &mut mask,
     )?;
-    at_every_roll(rt, b"every roll, n = 1", 1, &mut mask)?;
-    at_every_roll(rt, b"every roll, n = 0", 0, &mut mask)?;
-    field_of_regard(rt, b"field of regard at time 1, roll 0", 1, 0.0, &mut mask)
+    at_every_roll(rt, "every roll, n = 1", 1, &mut mask)?;
+    at_every_roll(rt, "every roll, n = 0", 0, &mut mask)?;
+    field_of_regard(rt, "field of regard at time 1, roll 0", 1, 0.0, &mut mask)
 }
 
 fn row(
     rt: &impl Print,
-    question: &[u8],
+    question: &str,
     target: u64,
     tolerances: &[f64],
     configured: ConfiguredRoll,
     mask: &mut [u8],
     severities: &mut [f64],
 ) -> io::Result<()> {
-    asked(rt, question)?;
     answered(
         rt,
+        question,
         solar_masks::evaluate(
             &TARGETS, &SUNS, &OBSERVERS, tolerances, configured, &Y, target, mask, severities,
         ),
@@ -231,7 +229,7 @@ fn rows(rt: &impl Print) -> io::Result<()> {
     let mut severities = [9.0; 3];
     row(
         rt,
-        b"row 0, configured roll 0",
+        "row 0, configured roll 0",
         0,
         &TEN,
         ConfiguredRoll::Some(0.0),
@@ -240,25 +238,25 @@ fn rows(rt: &impl Print) -> io::Result<()> {
     )?;
     row(
         rt,
-        b"row 0, tolerance -infinity",
+        "row 0, tolerance -infinity",
         0,
-        &[-infinity(), 10.0],
+        &[-f64::INFINITY, 10.0],
         ConfiguredRoll::Some(0.0),
         &mut mask,
         &mut severities,
     )?;
     row(
         rt,
-        b"row 1, tolerance 10",
+        "row 1, tolerance 10",
         1,
-        &[-infinity(), 10.0],
+        &[-f64::INFINITY, 10.0],
         ConfiguredRoll::Some(0.0),
         &mut mask,
         &mut severities,
     )?;
     row(
         rt,
-        b"row 0, no configured roll",
+        "row 0, no configured roll",
         0,
         &TEN,
         ConfiguredRoll::None,
@@ -266,9 +264,9 @@ fn rows(rt: &impl Print) -> io::Result<()> {
         &mut severities,
     )?;
     let mut values = [9.0; 5];
-    asked(rt, b"named values, of a free cell too")?;
     answered(
         rt,
+        "named values, of a free cell too",
         solar_masks::named_values(
             &TARGETS,
             &SUNS,
@@ -285,16 +283,16 @@ fn rows(rt: &impl Print) -> io::Result<()> {
 // The masks of what is refused, or has no cell: nothing is shown, as none is written.
 fn refused_batch(
     rt: &impl Print,
-    question: &[u8],
+    question: &str,
     targets: &[f64],
     suns: &[f64],
     observers: &[f64],
     tolerances: &[f64],
     mask: &mut [u8],
 ) -> io::Result<()> {
-    asked(rt, question)?;
     answered(
         rt,
+        question,
         solar_masks::in_constraint_batch(
             targets,
             suns,
@@ -309,7 +307,7 @@ fn refused_batch(
 
 fn refused_row(
     rt: &impl Print,
-    question: &[u8],
+    question: &str,
     targets: &[f64],
     suns: &[f64],
     observers: &[f64],
@@ -317,9 +315,9 @@ fn refused_row(
     mask: &mut [u8],
     severities: &mut [f64],
 ) -> io::Result<()> {
-    asked(rt, question)?;
     answered(
         rt,
+        question,
         solar_masks::evaluate(
             targets,
             suns,
@@ -342,9 +340,9 @@ fn refused_samples(
     observers: &[f64],
     mask: &mut [u8],
 ) -> io::Result<()> {
-    asked(rt, b"n = 3601 with a configured roll")?;
     answered(
         rt,
+        "n = 3601 with a configured roll",
         solar_masks::in_constraint_batch_constrained_at_every_roll(
             targets,
             suns,
@@ -356,9 +354,9 @@ fn refused_samples(
             mask,
         ),
     )?;
-    asked(rt, b"n = 2^40")?;
     answered(
         rt,
+        "n = 2^40",
         solar_masks::field_of_regard_violated_batch(
             targets,
             suns,
@@ -375,13 +373,13 @@ fn refused_samples(
 
 fn refused_field(
     rt: &impl Print,
-    question: &[u8],
+    question: &str,
     tolerances: &[f64],
     mask: &mut [u8],
 ) -> io::Result<()> {
-    asked(rt, question)?;
     answered(
         rt,
+        question,
         solar_masks::field_of_regard_violated_at_roll(
             &TARGETS,
             &SUNS[..0],
@@ -400,10 +398,10 @@ fn refused_field(
 const BEYOND: [f64; 3] = [2.0, 0.0, 0.0];
 
 fn refused_lengths(rt: &impl Print, mask: &mut [u8]) -> io::Result<()> {
-    let suns = [0.0, 1.0, 0.0, 0.0, 0.0, nan()];
+    let suns = [0.0, 1.0, 0.0, 0.0, 0.0, f64::NAN];
     refused_batch(
         rt,
-        b"targets of 2 numbers",
+        "targets of 2 numbers",
         &BEYOND[..2],
         &suns,
         &OBSERVERS,
@@ -412,7 +410,7 @@ fn refused_lengths(rt: &impl Print, mask: &mut [u8]) -> io::Result<()> {
     )?;
     refused_batch(
         rt,
-        b"fewer observers than Suns",
+        "fewer observers than Suns",
         &BEYOND,
         &suns,
         &ORIGIN,
@@ -423,33 +421,33 @@ fn refused_lengths(rt: &impl Print, mask: &mut [u8]) -> io::Result<()> {
 }
 
 fn refused_numbers(rt: &impl Print, mask: &mut [u8]) -> io::Result<()> {
-    let suns = [0.0, 1.0, 0.0, 0.0, 0.0, nan()];
+    let suns = [0.0, 1.0, 0.0, 0.0, 0.0, f64::NAN];
     refused_batch(
         rt,
-        b"target 2, NaN in the last Sun",
+        "target 2, NaN in the last Sun",
         &BEYOND,
         &suns,
         &OBSERVERS,
         &TEN,
         mask,
     )?;
-    refused_batch(rt, b"target 2", &BEYOND, &suns[..3], &ORIGIN, &TEN, mask)?;
+    refused_batch(rt, "target 2", &BEYOND, &suns[..3], &ORIGIN, &TEN, mask)?;
     refused_batch(
         rt,
-        b"no targets",
+        "no targets",
         &BEYOND[..0],
         &suns[..3],
         &ORIGIN,
         &TEN[..0],
         mask,
     )?;
-    refused_field(rt, b"no times, field of regard", &TEN, mask)
+    refused_field(rt, "no times, field of regard", &TEN, mask)
 }
 
 fn refused_tolerances(rt: &impl Print, mask: &mut [u8]) -> io::Result<()> {
     refused_batch(
         rt,
-        b"two tolerances for a target",
+        "two tolerances for a target",
         &X,
         &Y,
         &ORIGIN,
@@ -458,7 +456,7 @@ fn refused_tolerances(rt: &impl Print, mask: &mut [u8]) -> io::Result<()> {
     )?;
     refused_batch(
         rt,
-        b"no tolerance for a target",
+        "no tolerance for a target",
         &X,
         &Y,
         &ORIGIN,
@@ -467,7 +465,7 @@ fn refused_tolerances(rt: &impl Print, mask: &mut [u8]) -> io::Result<()> {
     )?;
     refused_field(
         rt,
-        b"no times, one tolerance for two targets",
+        "no times, one tolerance for two targets",
         &TEN[..1],
         mask,
     )
@@ -479,7 +477,7 @@ fn too_short(rt: &impl Print, mask: &mut [u8]) -> io::Result<()> {
     let mut unlent_severities = [9.0; 1];
     refused_row(
         rt,
-        b"row 0 of no rows, no room",
+        "row 0 of no rows, no room",
         &TARGETS[..0],
         &Y,
         &ORIGIN,
@@ -489,7 +487,7 @@ fn too_short(rt: &impl Print, mask: &mut [u8]) -> io::Result<()> {
     )?;
     refused_row(
         rt,
-        b"no room for the severities",
+        "no room for the severities",
         &X,
         &Y,
         &ORIGIN,
@@ -499,7 +497,7 @@ fn too_short(rt: &impl Print, mask: &mut [u8]) -> io::Result<()> {
     )?;
     refused_batch(
         rt,
-        b"no room for the mask",
+        "no room for the mask",
         &X,
         &Y,
         &ORIGIN,
@@ -519,6 +517,6 @@ fn main(rt: HostRuntime) -> io::Result<()> {
     refused_numbers(&rt, &mut mask)?;
     refused_tolerances(&rt, &mut mask)?;
     too_short(&rt, &mut mask)?;
-    asked(&rt, b"the lent mask after all of these")?;
+    print!(rt; "the lent mask after all of these: ")?;
     bytes(&rt, &mask)
 }
