@@ -2,163 +2,113 @@
 // Every place of a column holds 7 before a call, so that a place that stays is seen.
 #![tactic(auto)]
 
-use buffers::Refusal;
-use std::io;
+use buffers::Answer;
+use std::{array, io};
+use windows::Duration;
 
-fn text(rt: &impl Print, s: &[u8]) -> io::Result<()> {
-    rt.write_all(s)
+// The columns that a listing writes.
+#[derive(Drop)]
+struct Columns<const N: usize> {
+    first: [u64; N],
+    last: [u64; N],
+    first_time: [i64; N],
+    last_time: [i64; N],
+    severity: [f64; N],
+    is_last: [u8; N],
 }
 
-fn number(rt: &impl Print, n: u64) -> io::Result<()> {
-    print!(rt; "{n}")
-}
-
-fn show_byte(rt: &impl Print, byte: u8) -> io::Result<()> {
-    number(rt, byte as u64)
-}
-
-// A bit pattern in hexadecimal, which shows the sign of a zero.
-fn show_float(rt: &impl Print, x: f64) -> io::Result<()> {
-    let word = float::bits(x);
-    print!(rt; "{word:016x}")
-}
-
-fn show_answer(rt: &impl Print, answer: Result<u64, Refusal>) -> io::Result<()> {
-    match answer {
-        Ok(n) => {
-            text(rt, b" accepted ")?;
-            number(rt, n)?;
-        }
-        Err(refusal) => {
-            text(rt, b" refused ")?;
-            number(rt, refusal.number())?;
+impl<const N: usize> Columns<N> {
+    fn sevens() -> Self {
+        Columns {
+            first: [7; N],
+            last: [7; N],
+            first_time: [7; N],
+            last_time: [7; N],
+            severity: [7.0; N],
+            is_last: [7; N],
         }
     }
-    text(rt, b"\n")
-}
 
-fn show_duration(rt: &impl Print, duration: Result<f64, Refusal>) -> io::Result<()> {
-    match duration {
-        Ok(x) => {
-            text(rt, b" seconds ")?;
-            show_float(rt, x)?;
-        }
-        Err(refusal) => {
-            text(rt, b" refused ")?;
-            number(rt, refusal.number())?;
-        }
-    }
-    text(rt, b"\n")
-}
-
-// A time, as the first sample that has it.
-fn show_time(rt: &impl Print, t: i64, times: &[i64]) -> io::Result<()> {
-    let mut i = 0usize;
-    while i < times.len() {
-        let time = times[i];
-        if t == time {
-            text(rt, b" t")?;
-            return number(rt, i as u64);
-        }
-        i += 1;
-    }
-    text(rt, b" --")
-}
-
-// The three places of the columns.
-fn show_columns(
-    rt: &impl Print,
-    first: &[u64; 3],
-    last: &[u64; 3],
-    first_time: &[i64; 3],
-    last_time: &[i64; 3],
-    severity: &[f64; 3],
-    is_last: &[u8; 3],
-    times: &[i64],
-) -> io::Result<()> {
-    let mut k = 0usize;
-    while k < 3 {
-        text(rt, b"    ")?;
-        number(rt, first[k])?;
-        text(rt, b" to ")?;
-        number(rt, last[k])?;
-        show_time(rt, first_time[k], times)?;
-        show_time(rt, last_time[k], times)?;
-        text(rt, b" severity ")?;
-        show_float(rt, severity[k])?;
-        text(rt, b" last ")?;
-        show_byte(rt, is_last[k])?;
-        text(rt, b"\n")?;
-        k += 1;
-    }
-    Ok(())
-}
-
-fn violations(rt: &impl Print, mask: &[u8], times: &[i64], severities: &[f64]) -> io::Result<()> {
-    let mut first = [7u64; 3];
-    let mut last = [7u64; 3];
-    let mut first_time = [7i64; 3];
-    let mut last_time = [7i64; 3];
-    let mut severity = [7.0f64; 3];
-    let mut is_last = [7u8; 3];
-    text(rt, b"  violations")?;
-    show_answer(
-        rt,
+    fn list_violations(&mut self, mask: &[u8], times: &[i64], severities: &[f64]) -> Answer {
         windows::violation_windows(
             mask,
             times,
             severities,
-            &mut first,
-            &mut last,
-            &mut first_time,
-            &mut last_time,
-            &mut severity,
-            &mut is_last,
-        ),
-    )?;
-    show_columns(
-        rt,
-        &first,
-        &last,
-        &first_time,
-        &last_time,
-        &severity,
-        &is_last,
-        times,
-    )
-}
+            &mut self.first,
+            &mut self.last,
+            &mut self.first_time,
+            &mut self.last_time,
+            &mut self.severity,
+            &mut self.is_last,
+        )
+    }
 
-fn visibility(rt: &impl Print, mask: &[u8], times: &[i64]) -> io::Result<()> {
-    let mut first = [7u64; 3];
-    let mut last = [7u64; 3];
-    let mut first_time = [7i64; 3];
-    let mut last_time = [7i64; 3];
-    let mut severity = [7.0f64; 3];
-    let mut is_last = [7u8; 3];
-    text(rt, b"  visibility")?;
-    show_answer(
-        rt,
+    fn list_visibility(&mut self, mask: &[u8], times: &[i64]) -> Answer {
         windows::visibility_windows(
             mask,
             times,
-            &mut first,
-            &mut last,
-            &mut first_time,
-            &mut last_time,
-            &mut severity,
-            &mut is_last,
-        ),
-    )?;
-    show_columns(
-        rt,
-        &first,
-        &last,
-        &first_time,
-        &last_time,
-        &severity,
-        &is_last,
-        times,
-    )
+            &mut self.first,
+            &mut self.last,
+            &mut self.first_time,
+            &mut self.last_time,
+            &mut self.severity,
+            &mut self.is_last,
+        )
+    }
+
+    fn show(&self, rt: &impl Print, times: &[i64]) -> io::Result<()> {
+        for k in 0..N {
+            let first = self.first[k];
+            let last = self.last[k];
+            print!(rt; "    {first} to {last}")?;
+            show_time(rt, self.first_time[k], times)?;
+            show_time(rt, self.last_time[k], times)?;
+            let severity = float::bits(self.severity[k]);
+            let is_last = self.is_last[k];
+            println!(rt; " severity {severity:016x} last {is_last}")?;
+        }
+        Ok(())
+    }
+}
+
+fn show_answer(rt: &impl Print, answer: Answer) -> io::Result<()> {
+    match answer {
+        Answer::Accepted(n) => println!(rt; " accepted {n}"),
+        Answer::Refused(k) => println!(rt; " refused {k}"),
+    }
+}
+
+// Seconds as a bit pattern in hexadecimal, which shows the sign of a zero.
+fn show_duration(rt: &impl Print, duration: Duration) -> io::Result<()> {
+    match duration {
+        Duration::Seconds(x) => {
+            let word = float::bits(x);
+            println!(rt; " seconds {word:016x}")
+        }
+        Duration::Refused(k) => println!(rt; " refused {k}"),
+    }
+}
+
+// A time, as the first sample that has it.
+fn show_time(rt: &impl Print, t: i64, times: &[i64]) -> io::Result<()> {
+    match times.iter().position(|time| *time == t) {
+        Some(i) => print!(rt; " t{i}"),
+        None => print!(rt; " --"),
+    }
+}
+
+fn violations(rt: &impl Print, mask: &[u8], times: &[i64], severities: &[f64]) -> io::Result<()> {
+    let mut columns = Columns::<3>::sevens();
+    print!(rt; "  violations")?;
+    show_answer(rt, columns.list_violations(mask, times, severities))?;
+    columns.show(rt, times)
+}
+
+fn visibility(rt: &impl Print, mask: &[u8], times: &[i64]) -> io::Result<()> {
+    let mut columns = Columns::<3>::sevens();
+    print!(rt; "  visibility")?;
+    show_answer(rt, columns.list_visibility(mask, times))?;
+    columns.show(rt, times)
 }
 
 fn both(rt: &impl Print, mask: &[u8], times: &[i64], severities: &[f64]) -> io::Result<()> {
@@ -183,73 +133,33 @@ fn two(rt: &impl Print, a: u8, b: u8, s: i64, t: i64, x: f64, y: f64) -> io::Res
 
 // One column is shorter than the others.
 fn uneven(rt: &impl Print) -> io::Result<()> {
-    let mut first = [7u64; 3];
-    let mut last = [7u64; 3];
-    let mut first_time = [7i64; 3];
-    let mut last_time = [7i64; 3];
-    let mut severity = [7.0f64; 3];
-    let mut is_last = [7u8; 2];
-    show_answer(
-        rt,
-        windows::violation_windows(
-            &[0],
-            &[5],
-            &[0.5],
-            &mut first,
-            &mut last,
-            &mut first_time,
-            &mut last_time,
-            &mut severity,
-            &mut is_last,
-        ),
-    )
-}
-
-// Marks every other sample, the first too.
-fn alternate(mask: &mut [u8]) {
-    let mut i = 0usize;
-    while i < mask.len() {
-        let at = i;
-        i += 1;
-        if at % 2 == 0 {
-            mask[at] = 1;
-        }
-    }
+    let mut columns = Columns::<3>::sevens();
+    let answer = windows::violation_windows(
+        &[0],
+        &[5],
+        &[0.5],
+        &mut columns.first,
+        &mut columns.last,
+        &mut columns.first_time,
+        &mut columns.last_time,
+        &mut columns.severity,
+        &mut columns.is_last[..2],
+    );
+    show_answer(rt, answer)
 }
 
 // A listing with 32,768 places, and the last of them.
 fn list_all(rt: &impl Print, mask: &[u8], times: &[i64], severities: &[f64]) -> io::Result<()> {
-    let mut first = [7u64; 32768];
-    let mut last = [7u64; 32768];
-    let mut first_time = [7i64; 32768];
-    let mut last_time = [7i64; 32768];
-    let mut severity = [7.0f64; 32768];
-    let mut is_last = [7u8; 32768];
-    show_answer(
-        rt,
-        windows::violation_windows(
-            mask,
-            times,
-            severities,
-            &mut first,
-            &mut last,
-            &mut first_time,
-            &mut last_time,
-            &mut severity,
-            &mut is_last,
-        ),
-    )?;
-    text(rt, b"    window 32767 is ")?;
-    number(rt, first[32767])?;
-    text(rt, b" to ")?;
-    number(rt, last[32767])?;
-    text(rt, b"\n")
+    let mut columns = Columns::<32768>::sevens();
+    show_answer(rt, columns.list_violations(mask, times, severities))?;
+    let first = columns.first[32767];
+    let last = columns.last[32767];
+    println!(rt; "    window 32767 is {first} to {last}")
 }
 
-// 65,536 samples that alternate: 32,768 windows.
+// 65,536 samples that alternate, the first marked: 32,768 windows.
 fn longest(rt: &impl Print) -> io::Result<()> {
-    let mut mask = [0u8; 65536];
-    alternate(&mut mask);
+    let mask: [u8; 65536] = array::from_fn(|i| u8::from(i % 2 == 0));
     list_all(rt, &mask, &[0i64; 65536], &[0.0f64; 65536])
 }
 
@@ -258,39 +168,39 @@ fn too_long(rt: &impl Print) -> io::Result<()> {
 }
 
 fn listings(rt: &impl Print) -> io::Result<()> {
-    text(rt, b"01011:\n")?;
+    println!(rt; "01011:")?;
     row(rt, 0, 1, 0, 1, 1)?;
-    text(rt, b"11110:\n")?;
+    println!(rt; "11110:")?;
     row(rt, 1, 1, 1, 1, 0)?;
-    text(rt, b"00100:\n")?;
+    println!(rt; "00100:")?;
     row(rt, 0, 0, 1, 0, 0)?;
-    text(rt, b"10101:\n")?;
+    println!(rt; "10101:")?;
     row(rt, 1, 0, 1, 0, 1)?;
-    text(rt, b"repeated and reordered times, 11010:\n")?;
+    println!(rt; "repeated and reordered times, 11010:")?;
     both(
         rt,
         &[1, 1, 0, 1, 0],
         &[30, 20, 20, 10, 50],
         &[0.0, 0.0, 0.0, 0.0, 0.0],
     )?;
-    text(rt, b"empty:\n")?;
+    println!(rt; "empty:")?;
     both(rt, &[], &[], &[])?;
-    text(rt, b"one sample, marked, then clear:\n")?;
+    println!(rt; "one sample, marked, then clear:")?;
     both(rt, &[1], &[5], &[0.5])?;
     both(rt, &[0], &[5], &[0.5])?;
-    text(rt, b"65,536 samples:")?;
+    print!(rt; "65,536 samples:")?;
     longest(rt)
 }
 
 fn refusals(rt: &impl Print) -> io::Result<()> {
-    text(rt, b"times, then severities, of another length:\n")?;
+    println!(rt; "times, then severities, of another length:")?;
     both(rt, &[0, 1], &[5], &[0.5, 0.5])?;
     both(rt, &[0, 1], &[5, 6], &[0.5])?;
-    text(rt, b"a column of another length:")?;
+    print!(rt; "a column of another length:")?;
     uneven(rt)?;
-    text(rt, b"65,537 samples:")?;
+    print!(rt; "65,537 samples:")?;
     too_long(rt)?;
-    text(rt, b"the limits of times, then beyond them:\n")?;
+    println!(rt; "the limits of times, then beyond them:")?;
     two(
         rt,
         1,
@@ -302,17 +212,14 @@ fn refusals(rt: &impl Print) -> io::Result<()> {
     )?;
     two(rt, 1, 1, -4_000_000_000_000_000_001, 0, 0.0, 0.0)?;
     two(rt, 1, 1, 0, 4_000_000_000_000_000_001, 0.0, 0.0)?;
-    text(
-        rt,
-        b"severities -0, infinite, NaN, at a clear sample too:\n",
-    )?;
+    println!(rt; "severities -0, infinite, NaN, at a clear sample too:")?;
     two(rt, 1, 1, 0, 1, 0.0, -0.0)?;
-    two(rt, 1, 0, 0, 1, 0.0, 1.0 / 0.0)?;
-    two(rt, 0, 1, 0, 1, 0.0 / 0.0, 0.0)?;
-    text(rt, b"a mask byte of 2, and with it a last time beyond:\n")?;
+    two(rt, 1, 0, 0, 1, 0.0, f64::INFINITY)?;
+    two(rt, 0, 1, 0, 1, f64::NAN, 0.0)?;
+    println!(rt; "a mask byte of 2, and with it a last time beyond:")?;
     two(rt, 2, 1, 0, 1, 0.0, 0.0)?;
     two(rt, 2, 1, 0, 4_000_000_000_000_000_001, 0.0, 0.0)?;
-    text(rt, b"four violation windows, three places:\n")?;
+    println!(rt; "four violation windows, three places:")?;
     both(
         rt,
         &[1, 0, 1, 0, 1, 0, 1],
@@ -325,13 +232,10 @@ fn refusals(rt: &impl Print) -> io::Result<()> {
 fn expand(rt: &impl Print, first: &[i64], last: &[i64], times: &[i64; 5]) -> io::Result<()> {
     let mut mask = [7u8; 6];
     let answer = windows::expand(first, last, times, &mut mask);
-    text(rt, b"    ")?;
-    show_byte(rt, mask[0])?;
-    show_byte(rt, mask[1])?;
-    show_byte(rt, mask[2])?;
-    show_byte(rt, mask[3])?;
-    show_byte(rt, mask[4])?;
-    show_byte(rt, mask[5])?;
+    print!(rt; "    ")?;
+    for byte in mask {
+        print!(rt; "{byte}")?;
+    }
     show_answer(rt, answer)
 }
 
@@ -342,25 +246,16 @@ fn expand_two(rt: &impl Print, f: i64, l: i64, g: i64, m: i64, times: &[i64; 5])
 
 fn expansions(rt: &impl Print) -> io::Result<()> {
     let steady: [i64; 5] = [10, 20, 30, 40, 50];
-    text(rt, b"expand 20-20 and 40-50 over 10 20 30 40 50:\n")?;
+    println!(rt; "expand 20-20 and 40-50 over 10 20 30 40 50:")?;
     expand_two(rt, 20, 20, 40, 50, &steady)?;
-    text(
-        rt,
-        b"expand 20-30 and 50-50 over repeated times 10 20 20 30 40:\n",
-    )?;
+    println!(rt; "expand 20-30 and 50-50 over repeated times 10 20 20 30 40:")?;
     expand_two(rt, 20, 30, 50, 50, &[10, 20, 20, 30, 40])?;
-    text(
-        rt,
-        b"expand 20-30 and 40-40 over reordered times 30 10 25 40 35:\n",
-    )?;
+    println!(rt; "expand 20-30 and 40-40 over reordered times 30 10 25 40 35:")?;
     expand_two(rt, 20, 30, 40, 40, &[30, 10, 25, 40, 35])?;
-    text(
-        rt,
-        b"expand 40-20, which ends before it starts, and 30-50, in order and reordered:\n",
-    )?;
+    println!(rt; "expand 40-20, which ends before it starts, and 30-50, in order and reordered:")?;
     expand_two(rt, 40, 20, 30, 50, &steady)?;
     expand_two(rt, 40, 20, 30, 50, &[50, 40, 30, 20, 10])?;
-    text(rt, b"expand a window beyond the limit, and two lengths:\n")?;
+    println!(rt; "expand a window beyond the limit, and two lengths:")?;
     expand_two(rt, 20, 4_000_000_000_000_000_001, 30, 50, &steady)?;
     expand(rt, &[20], &[], &steady)
 }
@@ -370,14 +265,14 @@ fn seconds(rt: &impl Print, first: i64, last: i64) -> io::Result<()> {
 }
 
 fn durations(rt: &impl Print) -> io::Result<()> {
-    text(rt, b"seconds of 0 to 1.999999999:")?;
+    print!(rt; "seconds of 0 to 1.999999999:")?;
     seconds(rt, 0, 1_999_999_999)?;
-    text(rt, b"seconds of a window that ends 1.5 s before it starts:")?;
+    print!(rt; "seconds of a window that ends 1.5 s before it starts:")?;
     seconds(rt, 1_500_000_000, 0)?;
-    text(rt, b"seconds of the longest window, and beyond:")?;
+    print!(rt; "seconds of the longest window, and beyond:")?;
     seconds(rt, -4_000_000_000_000_000_000, 4_000_000_000_000_000_000)?;
     seconds(rt, -4_000_000_000_000_000_000, 4_000_000_000_000_000_001)?;
-    text(rt, b"seconds of two windows, of none, and of two lengths:")?;
+    print!(rt; "seconds of two windows, of none, and of two lengths:")?;
     show_duration(
         rt,
         windows::total_violation_duration(&[0, 1_000_000_000], &[1_999_999_999, 4_000_000_000]),
