@@ -117,18 +117,13 @@ fn both(rt: &impl Print, mask: &[u8], times: &[i64], severities: &[f64]) -> io::
 }
 
 // Five marks at steady times.
-fn row(rt: &impl Print, a: u8, b: u8, c: u8, d: u8, e: u8) -> io::Result<()> {
+fn row(rt: &impl Print, mask: [u8; 5]) -> io::Result<()> {
     both(
         rt,
-        &[a, b, c, d, e],
+        &mask,
         &[10, 20, 30, 40, 50],
         &[0.0, 0.5, 0.25, 1.5, 2.0],
     )
-}
-
-// Two samples.
-fn two(rt: &impl Print, a: u8, b: u8, s: i64, t: i64, x: f64, y: f64) -> io::Result<()> {
-    both(rt, &[a, b], &[s, t], &[x, y])
 }
 
 // One column is shorter than the others.
@@ -169,13 +164,13 @@ fn too_long(rt: &impl Print) -> io::Result<()> {
 
 fn listings(rt: &impl Print) -> io::Result<()> {
     println!(rt; "01011:")?;
-    row(rt, 0, 1, 0, 1, 1)?;
+    row(rt, [0, 1, 0, 1, 1])?;
     println!(rt; "11110:")?;
-    row(rt, 1, 1, 1, 1, 0)?;
+    row(rt, [1, 1, 1, 1, 0])?;
     println!(rt; "00100:")?;
-    row(rt, 0, 0, 1, 0, 0)?;
+    row(rt, [0, 0, 1, 0, 0])?;
     println!(rt; "10101:")?;
-    row(rt, 1, 0, 1, 0, 1)?;
+    row(rt, [1, 0, 1, 0, 1])?;
     println!(rt; "repeated and reordered times, 11010:")?;
     both(
         rt,
@@ -201,24 +196,21 @@ fn refusals(rt: &impl Print) -> io::Result<()> {
     print!(rt; "65,537 samples:")?;
     too_long(rt)?;
     println!(rt; "the limits of times, then beyond them:")?;
-    two(
+    both(
         rt,
-        1,
-        1,
-        -4_000_000_000_000_000_000,
-        4_000_000_000_000_000_000,
-        0.0,
-        0.0,
+        &[1, 1],
+        &[-4_000_000_000_000_000_000, 4_000_000_000_000_000_000],
+        &[0.0, 0.0],
     )?;
-    two(rt, 1, 1, -4_000_000_000_000_000_001, 0, 0.0, 0.0)?;
-    two(rt, 1, 1, 0, 4_000_000_000_000_000_001, 0.0, 0.0)?;
+    both(rt, &[1, 1], &[-4_000_000_000_000_000_001, 0], &[0.0, 0.0])?;
+    both(rt, &[1, 1], &[0, 4_000_000_000_000_000_001], &[0.0, 0.0])?;
     println!(rt; "severities -0, infinite, NaN, at a clear sample too:")?;
-    two(rt, 1, 1, 0, 1, 0.0, -0.0)?;
-    two(rt, 1, 0, 0, 1, 0.0, f64::INFINITY)?;
-    two(rt, 0, 1, 0, 1, f64::NAN, 0.0)?;
+    both(rt, &[1, 1], &[0, 1], &[0.0, -0.0])?;
+    both(rt, &[1, 0], &[0, 1], &[0.0, f64::INFINITY])?;
+    both(rt, &[0, 1], &[0, 1], &[f64::NAN, 0.0])?;
     println!(rt; "a mask byte of 2, and with it a last time beyond:")?;
-    two(rt, 2, 1, 0, 1, 0.0, 0.0)?;
-    two(rt, 2, 1, 0, 4_000_000_000_000_000_001, 0.0, 0.0)?;
+    both(rt, &[2, 1], &[0, 1], &[0.0, 0.0])?;
+    both(rt, &[2, 1], &[0, 4_000_000_000_000_000_001], &[0.0, 0.0])?;
     println!(rt; "four violation windows, three places:")?;
     both(
         rt,
@@ -239,24 +231,19 @@ fn expand(rt: &impl Print, first: &[i64], last: &[i64], times: &[i64; 5]) -> io:
     show_answer(rt, answer)
 }
 
-// Two windows over five times.
-fn expand_two(rt: &impl Print, f: i64, l: i64, g: i64, m: i64, times: &[i64; 5]) -> io::Result<()> {
-    expand(rt, &[f, g], &[l, m], times)
-}
-
 fn expansions(rt: &impl Print) -> io::Result<()> {
     let steady: [i64; 5] = [10, 20, 30, 40, 50];
     println!(rt; "expand 20-20 and 40-50 over 10 20 30 40 50:")?;
-    expand_two(rt, 20, 20, 40, 50, &steady)?;
+    expand(rt, &[20, 40], &[20, 50], &steady)?;
     println!(rt; "expand 20-30 and 50-50 over repeated times 10 20 20 30 40:")?;
-    expand_two(rt, 20, 30, 50, 50, &[10, 20, 20, 30, 40])?;
+    expand(rt, &[20, 50], &[30, 50], &[10, 20, 20, 30, 40])?;
     println!(rt; "expand 20-30 and 40-40 over reordered times 30 10 25 40 35:")?;
-    expand_two(rt, 20, 30, 40, 40, &[30, 10, 25, 40, 35])?;
+    expand(rt, &[20, 40], &[30, 40], &[30, 10, 25, 40, 35])?;
     println!(rt; "expand 40-20, which ends before it starts, and 30-50, in order and reordered:")?;
-    expand_two(rt, 40, 20, 30, 50, &steady)?;
-    expand_two(rt, 40, 20, 30, 50, &[50, 40, 30, 20, 10])?;
+    expand(rt, &[40, 30], &[20, 50], &steady)?;
+    expand(rt, &[40, 30], &[20, 50], &[50, 40, 30, 20, 10])?;
     println!(rt; "expand a window beyond the limit, and two lengths:")?;
-    expand_two(rt, 20, 4_000_000_000_000_000_001, 30, 50, &steady)?;
+    expand(rt, &[20, 30], &[4_000_000_000_000_000_001, 50], &steady)?;
     expand(rt, &[20], &[], &steady)
 }
 
