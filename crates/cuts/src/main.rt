@@ -5,7 +5,6 @@
 mod cut;
 mod edges;
 mod plan;
-mod say;
 
 use std::io;
 

@@ -2,18 +2,33 @@
 // origin.
 use buffers::Answer;
 use solar_roll::ConfiguredRoll;
+use std::{array, fmt};
+
+const TARGETS: [f64; 6] = [1.0, 0.0, 0.0, 0.0, 0.6, 0.8];
+
+const OBSERVERS: [f64; 210] = [0.0; 210];
+
+const PANELS: [f64; 3] = [0.0, 1.0, 0.0];
+
+// The first five may be a table's rolls; 360 may not.
+const TABLE: [f64; 6] = [0.0, 17.5, 90.0, 200.25, 359.5, 360.0];
+
+// The rolls of a plan: so many even ones, or so many of `TABLE`.
+#[derive(Clone, Copy)]
+pub(crate) enum Rolls {
+    Even(u64),
+    Table(usize),
+}
 
 // A plan, and how many writes its whole journal has: the header's and one for each chunk. Of its two tolerances the first
-// `listed` are lent. By a table, its rolls are the first n of `table`.
+// `listed` are lent.
 #[derive(Clone, Copy)]
 pub(crate) struct Plan {
     pub targets: usize,
     pub times: usize,
-    pub writes: u64,
-    pub n: u64,
-    pub by_table: bool,
-    pub first_tolerance: f64,
-    pub second_tolerance: f64,
+    pub writes: usize,
+    pub rolls: Rolls,
+    pub tolerances: [f64; 2],
     pub listed: usize,
     pub configured: ConfiguredRoll,
 }
@@ -21,221 +36,225 @@ pub(crate) struct Plan {
 pub(crate) fn plan_of(
     targets: usize,
     times: usize,
-    writes: u64,
+    writes: usize,
     n: u64,
-    first_tolerance: f64,
-    second_tolerance: f64,
+    tolerances: [f64; 2],
     configured: ConfiguredRoll,
 ) -> Plan {
     Plan {
         targets,
         times,
         writes,
-        n,
-        by_table: false,
-        first_tolerance,
-        second_tolerance,
+        rolls: Rolls::Even(n),
+        tolerances,
         listed: targets,
         configured,
     }
 }
 
-// Two targets of 70 times each, n rolls of a table.
-pub(crate) fn plan_by_table(n: u64, tolerance: f64) -> Plan {
+// Two targets of 70 times each, n rolls of the table.
+pub(crate) fn plan_by_table(n: usize, tolerance: f64) -> Plan {
     Plan {
         targets: 2,
         times: 70,
         writes: 4,
-        n,
-        by_table: true,
-        first_tolerance: tolerance,
-        second_tolerance: tolerance,
+        rolls: Rolls::Table(n),
+        tolerances: [tolerance; 2],
         listed: 2,
         configured: ConfiguredRoll::None,
     }
 }
 
-// The first five may be a table's rolls; 360 may not.
-fn table() -> [f64; 6] {
-    [0.0, 17.5, 90.0, 200.25, 359.5, 360.0]
+impl fmt::Display for Plan {
+    fn fmt<W: fmt::Write>(&self, f: &mut fmt::Formatter<W>) -> fmt::Result {
+        let targets = self.targets;
+        let times = self.times;
+        write!(f, "{targets} x {times} cells, n = ")?;
+        match self.rolls {
+            Rolls::Even(n) => write!(f, "{n}")?,
+            Rolls::Table(n) => write!(f, "{n}")?,
+        }
+        let [first, second] = self.tolerances;
+        if first != second {
+            write!(f, ", two tolerances")?;
+        }
+        match self.rolls {
+            Rolls::Even(_) => Ok(()),
+            Rolls::Table(_) => write!(f, ", by a table"),
+        }
+    }
 }
 
 // Coordinate k of the Suns. The first Sun lies along the first target, so that its cell is Free.
 fn coordinate(k: usize) -> f64 {
-    if k == 0 {
-        return 1.0;
-    }
-    if k < 3 {
-        return 0.0;
-    }
-    ((k % 101) * 7 % 19) as u32 as f64 - 9.0
-}
-
-fn fill_suns(suns: &mut [f64]) {
-    let mut k = 0;
-    while k < suns.len() {
-        suns[k] = coordinate(k);
-        k += 1;
+    match k {
+        0 => 1.0,
+        1 | 2 => 0.0,
+        _ => ((k % 101) * 7 % 19) as u32 as f64 - 9.0,
     }
 }
 
-// The first numbers.
-fn first(numbers: &[f64], count: usize) -> &[f64] {
-    if numbers.len() < count {
-        return numbers;
-    }
-    &numbers[..count]
+fn suns() -> [f64; 210] {
+    array::from_fn(coordinate)
 }
 
-// The first triples.
-fn first_triples(triples: &[f64], count: usize) -> &[f64] {
-    if triples.len() / 3 < count {
-        return triples;
-    }
-    let end = 3 * count;
-    first(triples, end)
+// The first of a list.
+pub(crate) fn first<T>(list: &[T], count: usize) -> &[T] {
+    &list[..count.min(list.len())]
 }
 
-pub(crate) fn begin(plan: Plan, journal: &mut [u8], used: u64) -> Answer {
-    let targets = [1.0, 0.0, 0.0, 0.0, 0.6, 0.8];
-    let observers = [0.0; 210];
-    let mut suns = [0.0; 210];
-    fill_suns(&mut suns);
-    let tolerances = [plan.first_tolerance, plan.second_tolerance];
-    let configured = plan.configured;
-    let panels = [0.0, 1.0, 0.0];
-    if plan.by_table {
-        let rolls = table();
-        return journal::begin_rolls(
-            first_triples(&targets, plan.targets),
-            first_triples(&suns, plan.times),
-            first_triples(&observers, plan.times),
-            first(&tolerances, plan.listed),
-            configured,
-            &panels,
-            first(&rolls, plan.n as usize),
+fn first_triples(list: &[f64], count: usize) -> &[f64] {
+    first(list, count.saturating_mul(3))
+}
+
+// The lists of a plan, as a call is lent them.
+#[derive(Clone, Copy)]
+struct Lists<'a> {
+    targets: &'a [f64],
+    suns: &'a [f64],
+    observers: &'a [f64],
+    tolerances: &'a [f64],
+    configured: ConfiguredRoll,
+    panels: &'a [f64],
+}
+
+fn lent<'a>(plan: &'a Plan, suns: &'a [f64]) -> Lists<'a> {
+    Lists {
+        targets: first_triples(&TARGETS, plan.targets),
+        suns: first_triples(suns, plan.times),
+        observers: first_triples(&OBSERVERS, plan.times),
+        tolerances: first(&plan.tolerances, plan.listed),
+        configured: plan.configured,
+        panels: &PANELS,
+    }
+}
+
+// What a call answers: a number, or the number of its refusal.
+pub(crate) type Reply = Result<u64, u64>;
+
+fn reply(answer: Answer) -> Reply {
+    match answer {
+        Answer::Accepted(x) => Ok(x),
+        Answer::Refused(no) => Err(no),
+    }
+}
+
+pub(crate) fn begin(plan: Plan, journal: &mut [u8], used: u64) -> Reply {
+    let suns = suns();
+    let l = lent(&plan, &suns);
+    reply(match plan.rolls {
+        Rolls::Even(n) => journal::begin(
+            l.targets,
+            l.suns,
+            l.observers,
+            l.tolerances,
+            l.configured,
+            l.panels,
+            n,
             journal,
             used,
-        );
-    }
-    journal::begin(
-        first_triples(&targets, plan.targets),
-        first_triples(&suns, plan.times),
-        first_triples(&observers, plan.times),
-        first(&tolerances, plan.listed),
-        configured,
-        &panels,
-        plan.n,
-        journal,
-        used,
-    )
+        ),
+        Rolls::Table(n) => journal::begin_rolls(
+            l.targets,
+            l.suns,
+            l.observers,
+            l.tolerances,
+            l.configured,
+            l.panels,
+            first(&TABLE, n),
+            journal,
+            used,
+        ),
+    })
 }
 
-pub(crate) fn work(plan: Plan, chunk: u64, journal: &mut [u8], used: u64) -> Answer {
-    let targets = [1.0, 0.0, 0.0, 0.0, 0.6, 0.8];
-    let observers = [0.0; 210];
-    let mut suns = [0.0; 210];
-    fill_suns(&mut suns);
-    let tolerances = [plan.first_tolerance, plan.second_tolerance];
-    let configured = plan.configured;
-    let panels = [0.0, 1.0, 0.0];
-    if plan.by_table {
-        let rolls = table();
-        return journal::work_rolls(
-            first_triples(&targets, plan.targets),
-            first_triples(&suns, plan.times),
-            first_triples(&observers, plan.times),
-            first(&tolerances, plan.listed),
-            configured,
-            &panels,
-            first(&rolls, plan.n as usize),
+pub(crate) fn work(plan: Plan, chunk: u64, journal: &mut [u8], used: u64) -> Reply {
+    let suns = suns();
+    let l = lent(&plan, &suns);
+    reply(match plan.rolls {
+        Rolls::Even(n) => journal::work(
+            l.targets,
+            l.suns,
+            l.observers,
+            l.tolerances,
+            l.configured,
+            l.panels,
+            n,
             chunk,
             journal,
             used,
-        );
-    }
-    journal::work(
-        first_triples(&targets, plan.targets),
-        first_triples(&suns, plan.times),
-        first_triples(&observers, plan.times),
-        first(&tolerances, plan.listed),
-        configured,
-        &panels,
-        plan.n,
-        chunk,
-        journal,
-        used,
-    )
-}
-
-pub(crate) fn recover(plan: Plan, journal: &[u8], used: u64) -> Answer {
-    let targets = [1.0, 0.0, 0.0, 0.0, 0.6, 0.8];
-    let observers = [0.0; 210];
-    let mut suns = [0.0; 210];
-    fill_suns(&mut suns);
-    let tolerances = [plan.first_tolerance, plan.second_tolerance];
-    let configured = plan.configured;
-    let panels = [0.0, 1.0, 0.0];
-    if plan.by_table {
-        let rolls = table();
-        return journal::recover_rolls(
-            first_triples(&targets, plan.targets),
-            first_triples(&suns, plan.times),
-            first_triples(&observers, plan.times),
-            first(&tolerances, plan.listed),
-            configured,
-            &panels,
-            first(&rolls, plan.n as usize),
+        ),
+        Rolls::Table(n) => journal::work_rolls(
+            l.targets,
+            l.suns,
+            l.observers,
+            l.tolerances,
+            l.configured,
+            l.panels,
+            first(&TABLE, n),
+            chunk,
             journal,
             used,
-        );
-    }
-    journal::recover(
-        first_triples(&targets, plan.targets),
-        first_triples(&suns, plan.times),
-        first_triples(&observers, plan.times),
-        first(&tolerances, plan.listed),
-        configured,
-        &panels,
-        plan.n,
-        journal,
-        used,
-    )
+        ),
+    })
 }
 
-pub(crate) fn collect(plan: Plan, journal: &[u8], used: u64, mask: &mut [u8]) -> Answer {
-    let targets = [1.0, 0.0, 0.0, 0.0, 0.6, 0.8];
-    let observers = [0.0; 210];
-    let mut suns = [0.0; 210];
-    fill_suns(&mut suns);
-    let tolerances = [plan.first_tolerance, plan.second_tolerance];
-    let configured = plan.configured;
-    let panels = [0.0, 1.0, 0.0];
-    if plan.by_table {
-        let rolls = table();
-        return journal::collect_rolls(
-            first_triples(&targets, plan.targets),
-            first_triples(&suns, plan.times),
-            first_triples(&observers, plan.times),
-            first(&tolerances, plan.listed),
-            configured,
-            &panels,
-            first(&rolls, plan.n as usize),
+pub(crate) fn recover(plan: Plan, journal: &[u8], used: u64) -> Reply {
+    let suns = suns();
+    let l = lent(&plan, &suns);
+    reply(match plan.rolls {
+        Rolls::Even(n) => journal::recover(
+            l.targets,
+            l.suns,
+            l.observers,
+            l.tolerances,
+            l.configured,
+            l.panels,
+            n,
+            journal,
+            used,
+        ),
+        Rolls::Table(n) => journal::recover_rolls(
+            l.targets,
+            l.suns,
+            l.observers,
+            l.tolerances,
+            l.configured,
+            l.panels,
+            first(&TABLE, n),
+            journal,
+            used,
+        ),
+    })
+}
+
+pub(crate) fn collect(plan: Plan, journal: &[u8], used: u64, mask: &mut [u8]) -> Reply {
+    let suns = suns();
+    let l = lent(&plan, &suns);
+    reply(match plan.rolls {
+        Rolls::Even(n) => journal::collect(
+            l.targets,
+            l.suns,
+            l.observers,
+            l.tolerances,
+            l.configured,
+            l.panels,
+            n,
             journal,
             used,
             mask,
-        );
-    }
-    journal::collect(
-        first_triples(&targets, plan.targets),
-        first_triples(&suns, plan.times),
-        first_triples(&observers, plan.times),
-        first(&tolerances, plan.listed),
-        configured,
-        &panels,
-        plan.n,
-        journal,
-        used,
-        mask,
-    )
+        ),
+        Rolls::Table(n) => journal::collect_rolls(
+            l.targets,
+            l.suns,
+            l.observers,
+            l.tolerances,
+            l.configured,
+            l.panels,
+            first(&TABLE, n),
+            journal,
+            used,
+            mask,
+        ),
+    })
 }
