@@ -7,15 +7,25 @@ use journal::{begin, work};
 use solar_roll::ConfiguredRoll;
 use std::io;
 
+// What a call answers: a number, or the number of its refusal.
+type Reply = Result<u64, u64>;
+
+fn reply(answer: Answer) -> Reply {
+    match answer {
+        Answer::Accepted(used) => Ok(used),
+        Answer::Refused(number) => Err(number),
+    }
+}
+
 // The header, then the line of the only chunk.
-fn write_journal(journal: &mut [u8]) -> Answer {
+fn write_journal(journal: &mut [u8]) -> Reply {
     let target = [1.0, 0.0, 0.0];
     let suns = [0.0, 1.0, 0.0, 0.0, 0.0, 1.0];
     let observers = [0.0; 6];
     let tolerances = [10.0];
     let none = ConfiguredRoll::None;
     let panels = [0.0, 1.0, 0.0];
-    match begin(
+    let used = reply(begin(
         &target,
         &suns,
         &observers,
@@ -25,34 +35,25 @@ fn write_journal(journal: &mut [u8]) -> Answer {
         1,
         journal,
         0,
-    ) {
-        Answer::Accepted(used) => work(
-            &target,
-            &suns,
-            &observers,
-            &tolerances,
-            none,
-            &panels,
-            1,
-            0,
-            journal,
-            used,
-        ),
-        Answer::Refused(number) => Answer::Refused(number),
-    }
-}
-
-fn print_used(rt: &impl Print, journal: &[u8], used: usize) -> io::Result<()> {
-    if used <= journal.len() {
-        rt.write_all(&journal[..used])?;
-    }
-    Ok(())
+    ))?;
+    reply(work(
+        &target,
+        &suns,
+        &observers,
+        &tolerances,
+        none,
+        &panels,
+        1,
+        0,
+        journal,
+        used,
+    ))
 }
 
 fn main(rt: HostRuntime) -> io::Result<()> {
     let mut journal = [0u8; 140];
     match write_journal(&mut journal) {
-        Answer::Accepted(used) => print_used(&rt, &journal, used as usize),
-        Answer::Refused(number) => println!(rt; "{number}"),
+        Ok(used) => rt.write_all(journal.get(..used as usize).unwrap_or_default()),
+        Err(number) => println!(rt; "{number}"),
     }
 }
