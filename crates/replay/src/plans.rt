@@ -1,10 +1,6 @@
 // Questions about a plan. Above a function stands what its lines ask, if anything, and after a colon what they answer.
-use crate::kinds::{
-    AT_FIXED, AT_SWEEP, BATCH, CELL, EVERY_ROLL, FIELD, NAMED_VALUES, ROW, SWEEP, TABLE,
-};
-use crate::tables::sweep_by_table;
-use crate::words::{UNWRITTEN, accepted, numbers, same_marks, same_numbers};
-use buffers::Answer;
+use crate::kinds::Kind;
+use crate::words::{Line, Reply, UNWRITTEN, reply};
 use float::{bits, of_bits};
 use solar_masks::{
     evaluate, field_of_regard_violated_at_roll, field_of_regard_violated_batch,
@@ -13,266 +9,256 @@ use solar_masks::{
 };
 use solar_roll::{CellRoll, ConfiguredRoll, EvaluationRoll, cell_roll, circular_diff_deg, triple};
 
-// a, b: their difference.
-pub(crate) fn difference(asked: &[u64; 256]) -> bool {
-    bits(circular_diff_deg(of_bits(asked[1]), of_bits(asked[2]))) == asked[3]
+#[derive(Clone, Copy)]
+struct Plan<'a> {
+    targets: &'a [f64],
+    suns: &'a [f64],
+    observers: &'a [f64],
+    tolerances: &'a [f64],
+    configured: ConfiguredRoll,
+    panels: &'a [f64],
 }
 
-fn configured(given: &[u64; 256]) -> ConfiguredRoll {
-    if given[6] == 0 {
+// a, b: their difference.
+pub(crate) fn difference(asked: &Line) -> bool {
+    bits(circular_diff_deg(asked.number(1), asked.number(2))) == asked.word(3)
+}
+
+fn configured(given: &Line) -> ConfiguredRoll {
+    if given.word(6) == 0 {
         ConfiguredRoll::None
     } else {
-        ConfiguredRoll::Some(of_bits(given[7]))
+        ConfiguredRoll::Some(given.number(7))
     }
 }
 
-pub(crate) fn plan(given: &[u64; 256], asked: &[u64; 256]) -> bool {
+pub(crate) fn asked_of_plan(kind: Kind, given: &Line, asked: &Line) -> bool {
     let mut targets = [0.0f64; 24];
     let mut suns = [0.0f64; 72];
     let mut observers = [0.0f64; 72];
     let mut tolerances = [0.0f64; 8];
-    let t = numbers(given, 11, given[1], &mut targets);
-    let s = numbers(given, given[3], given[2], &mut suns);
-    let o = numbers(given, given[4], given[2], &mut observers);
-    let d = numbers(given, given[5], given[1] / 3, &mut tolerances);
-    let panels = [of_bits(given[8]), of_bits(given[9]), of_bits(given[10])];
-    asked_of_plan(
-        asked,
-        &targets[..t],
-        &suns[..s],
-        &observers[..o],
-        &tolerances[..d],
-        configured(given),
-        &panels,
-    )
-}
-
-fn asked_of_plan(
-    asked: &[u64; 256],
-    targets: &[f64],
-    suns: &[f64],
-    observers: &[f64],
-    tolerances: &[f64],
-    configured: ConfiguredRoll,
-    panels: &[f64],
-) -> bool {
-    let kind = asked[0];
+    let mut panels = [0.0f64; 3];
+    let plan = Plan {
+        targets: given.read(11, given.word(1), &mut targets),
+        suns: given.read(given.word(3), given.word(2), &mut suns),
+        observers: given.read(given.word(4), given.word(2), &mut observers),
+        tolerances: given.read(given.word(5), given.word(1) / 3, &mut tolerances),
+        configured: configured(given),
+        panels: given.read(8, 3, &mut panels),
+    };
     match kind {
-        CELL => cell(
-            asked, targets, suns, observers, tolerances, configured, panels,
-        ),
-        NAMED_VALUES => values(
-            asked, targets, suns, observers, tolerances, configured, panels,
-        ),
-        BATCH | AT_SWEEP | AT_FIXED => batch(
-            asked, targets, suns, observers, tolerances, configured, panels,
-        ),
-        ROW => row(
-            asked, targets, suns, observers, tolerances, configured, panels,
-        ),
-        SWEEP => sweep(
-            asked, targets, suns, observers, tolerances, configured, panels,
-        ),
-        TABLE => sweep_by_table(
-            asked, targets, suns, observers, tolerances, configured, panels,
-        ),
-        _ => section_6(
-            asked, targets, suns, observers, tolerances, configured, panels,
-        ),
+        Kind::Cell => cell(asked, &plan),
+        Kind::NamedValues => values(asked, &plan),
+        Kind::Row => row(asked, &plan),
+        Kind::Sweep => sweep(asked, &plan, Rolls::Even(asked.word(1))),
+        Kind::Table => by_table(asked, &plan),
+        _ => mask(kind, asked, &plan),
     }
 }
 
 // Target, time: 0 where Free, else 1 and the roll.
-fn cell(
-    asked: &[u64; 256],
-    targets: &[f64],
-    suns: &[f64],
-    observers: &[f64],
-    tolerances: &[f64],
-    configured: ConfiguredRoll,
-    panels: &[f64],
-) -> bool {
-    let target = triple(targets, asked[1] as usize);
-    let time = asked[2] as usize;
-    let cell = cell_roll(
-        target,
-        triple(suns, time),
-        triple(observers, time),
-        triple(panels, 0),
-    );
-    same_cell(asked, cell)
-}
-
-fn same_cell(asked: &[u64; 256], cell: CellRoll) -> bool {
-    match cell {
-        CellRoll::Free => asked[3] == 0,
-        CellRoll::At(roll) => asked[3] == 1 && asked[4] == bits(roll),
+fn cell(asked: &Line, plan: &Plan) -> bool {
+    let target = triple(plan.targets, asked.word(1) as usize);
+    let time = asked.word(2) as usize;
+    let sun = triple(plan.suns, time);
+    let observer = triple(plan.observers, time);
+    match cell_roll(target, sun, observer, triple(plan.panels, 0)) {
+        CellRoll::Free => asked.word(3) == 0,
+        CellRoll::At(roll) => asked.word(3) == 1 && asked.word(4) == bits(roll),
         CellRoll::Refused(_) => false,
     }
 }
 
 // The values.
-fn values(
-    asked: &[u64; 256],
-    targets: &[f64],
-    suns: &[f64],
-    observers: &[f64],
-    tolerances: &[f64],
-    configured: ConfiguredRoll,
-    panels: &[f64],
-) -> bool {
-    let unwritten = of_bits(UNWRITTEN);
-    let mut values = [unwritten; 96];
+fn values(asked: &Line, plan: &Plan) -> bool {
+    let mut values = [of_bits(UNWRITTEN); 96];
     let answer = named_values(
-        targets,
-        suns,
-        observers,
-        tolerances,
-        configured,
-        panels,
+        plan.targets,
+        plan.suns,
+        plan.observers,
+        plan.tolerances,
+        plan.configured,
+        plan.panels,
         &mut values,
     );
-    accepted(answer, 0) && same_numbers(&values, asked, 3, 1)
+    reply(answer) == Ok(0) && asked.has(&values, 3, 1)
 }
 
 // Target: each sample's mark and severity.
-fn row(
-    asked: &[u64; 256],
-    targets: &[f64],
-    suns: &[f64],
-    observers: &[f64],
-    tolerances: &[f64],
-    configured: ConfiguredRoll,
-    panels: &[f64],
-) -> bool {
-    let unwritten = of_bits(UNWRITTEN);
+fn row(asked: &Line, plan: &Plan) -> bool {
     let mut mask = [7u8; 24];
-    let mut severities = [unwritten; 24];
-    let target = asked[1];
+    let mut severities = [of_bits(UNWRITTEN); 24];
     let answer = evaluate(
-        targets,
-        suns,
-        observers,
-        tolerances,
-        configured,
-        panels,
-        target,
+        plan.targets,
+        plan.suns,
+        plan.observers,
+        plan.tolerances,
+        plan.configured,
+        plan.panels,
+        asked.word(1),
         &mut mask,
         &mut severities,
     );
-    accepted(answer, 0) && same_marks(&mask, asked, 3, 2) && same_numbers(&severities, asked, 4, 2)
+    reply(answer) == Ok(0) && asked.has(&mask, 3, 2) && asked.has(&severities, 4, 2)
 }
 
-// The used length that a call of the journal left.
-pub(crate) fn used(answer: Answer) -> u64 {
-    match answer {
-        Answer::Accepted(used) => used,
-        Answer::Refused(_) => 0,
-    }
+#[derive(Clone, Copy)]
+enum Rolls<'a> {
+    Even(u64),
+    Table(&'a [f64]),
 }
 
-// Begins a journal and works on its one or two chunks. Where there is one, the second work is refused.
-fn journal_of(
-    targets: &[f64],
-    suns: &[f64],
-    observers: &[f64],
-    tolerances: &[f64],
-    configured: ConfiguredRoll,
-    panels: &[f64],
-    n: u64,
-    file: &mut [u8],
-) -> u64 {
-    let begun = used(journal::begin(
-        targets, suns, observers, tolerances, configured, panels, n, file, 0,
-    ));
-    let end = used(journal::work(
-        targets, suns, observers, tolerances, configured, panels, n, 0, file, begun,
-    ));
-    match journal::work(
-        targets, suns, observers, tolerances, configured, panels, n, 1, file, end,
-    ) {
-        Answer::Accepted(second) => second,
-        Answer::Refused(_) => end,
-    }
+fn begin(plan: &Plan, rolls: Rolls, file: &mut [u8]) -> Reply {
+    reply(match rolls {
+        Rolls::Even(n) => journal::begin(
+            plan.targets,
+            plan.suns,
+            plan.observers,
+            plan.tolerances,
+            plan.configured,
+            plan.panels,
+            n,
+            file,
+            0,
+        ),
+        Rolls::Table(table) => journal::begin_rolls(
+            plan.targets,
+            plan.suns,
+            plan.observers,
+            plan.tolerances,
+            plan.configured,
+            plan.panels,
+            table,
+            file,
+            0,
+        ),
+    })
+}
+
+fn work(plan: &Plan, rolls: Rolls, chunk: u64, file: &mut [u8], used: u64) -> Reply {
+    reply(match rolls {
+        Rolls::Even(n) => journal::work(
+            plan.targets,
+            plan.suns,
+            plan.observers,
+            plan.tolerances,
+            plan.configured,
+            plan.panels,
+            n,
+            chunk,
+            file,
+            used,
+        ),
+        Rolls::Table(table) => journal::work_rolls(
+            plan.targets,
+            plan.suns,
+            plan.observers,
+            plan.tolerances,
+            plan.configured,
+            plan.panels,
+            table,
+            chunk,
+            file,
+            used,
+        ),
+    })
+}
+
+fn collect(plan: &Plan, rolls: Rolls, file: &[u8], used: u64, mask: &mut [u8]) -> Reply {
+    reply(match rolls {
+        Rolls::Even(n) => journal::collect(
+            plan.targets,
+            plan.suns,
+            plan.observers,
+            plan.tolerances,
+            plan.configured,
+            plan.panels,
+            n,
+            file,
+            used,
+            mask,
+        ),
+        Rolls::Table(table) => journal::collect_rolls(
+            plan.targets,
+            plan.suns,
+            plan.observers,
+            plan.tolerances,
+            plan.configured,
+            plan.panels,
+            table,
+            file,
+            used,
+            mask,
+        ),
+    })
+}
+
+// Begins a journal and works on its one or two chunks, and gives the used length. Where there is one, the second work is refused.
+fn journal_of(plan: &Plan, rolls: Rolls, file: &mut [u8]) -> u64 {
+    let begun = begin(plan, rolls, file).unwrap_or(0);
+    let end = work(plan, rolls, 0, file, begun).unwrap_or(0);
+    work(plan, rolls, 1, file, end).unwrap_or(end)
 }
 
 // n: probes, mask.
-fn sweep(
-    asked: &[u64; 256],
-    targets: &[f64],
-    suns: &[f64],
-    observers: &[f64],
-    tolerances: &[f64],
-    configured: ConfiguredRoll,
-    panels: &[f64],
-) -> bool {
-    let n = asked[1];
+fn sweep(asked: &Line, plan: &Plan, rolls: Rolls) -> bool {
     let mut file = [0u8; 256];
     let mut mask = [7u8; 96];
-    let end = journal_of(
-        targets, suns, observers, tolerances, configured, panels, n, &mut file,
-    );
-    match journal::collect(
-        targets, suns, observers, tolerances, configured, panels, n, &file, end, &mut mask,
-    ) {
-        Answer::Accepted(probes) => probes == asked[3] && same_marks(&mask, asked, 4, 1),
-        Answer::Refused(_) => false,
-    }
+    let end = journal_of(plan, rolls, &mut file);
+    collect(plan, rolls, &file, end, &mut mask) == Ok(asked.word(3)) && asked.has(&mask, 4, 1)
 }
 
-// A roll, if any: mask.
-fn batch(
-    asked: &[u64; 256],
-    targets: &[f64],
-    suns: &[f64],
-    observers: &[f64],
-    tolerances: &[f64],
-    configured: ConfiguredRoll,
-    panels: &[f64],
-) -> bool {
-    let mut mask = [7u8; 96];
-    let kind = asked[0];
-    let roll = of_bits(asked[1]);
-    let answer = match kind {
-        BATCH => in_constraint_batch(
-            targets, suns, observers, tolerances, configured, panels, &mut mask,
-        ),
-        AT_SWEEP => {
-            let swept = EvaluationRoll::Sweep(roll);
-            in_constraint_batch_at_roll(
-                targets, suns, observers, tolerances, configured, panels, swept, &mut mask,
-            )
-        }
-        _ => {
-            let fixed = EvaluationRoll::Fixed(roll);
-            in_constraint_batch_at_roll(
-                targets, suns, observers, tolerances, configured, panels, fixed, &mut mask,
-            )
-        }
-    };
-    accepted(answer, 0) && same_mask(asked, &mask)
+// How many rolls, the word at which they begin: probes, mask.
+fn by_table(asked: &Line, plan: &Plan) -> bool {
+    let mut rolls = [0.0f64; 156];
+    let rolls = asked.read(asked.word(2), asked.word(1), &mut rolls);
+    sweep(asked, plan, Rolls::Table(rolls))
 }
 
-// n: mask. Time, n or roll: mask of the targets.
-fn section_6(
-    asked: &[u64; 256],
-    targets: &[f64],
-    suns: &[f64],
-    observers: &[f64],
-    tolerances: &[f64],
-    configured: ConfiguredRoll,
-    panels: &[f64],
-) -> bool {
+// A roll, if any: mask. n: mask. Time, n or roll: mask of the targets.
+fn mask(kind: Kind, asked: &Line, plan: &Plan) -> bool {
     let mut mask = [7u8; 96];
-    let kind = asked[0];
-    let a = asked[1];
-    let b = asked[2];
-    let answer = match kind {
-        EVERY_ROLL => in_constraint_batch_constrained_at_every_roll(
-            targets, suns, observers, tolerances, configured, panels, a, &mut mask,
+    answer_mask(kind, asked, plan, &mut mask) == Ok(0) && asked.has(&mask, 3, 1)
+}
+
+fn answer_mask(kind: Kind, asked: &Line, plan: &Plan, mask: &mut [u8]) -> Reply {
+    let targets = plan.targets;
+    let suns = plan.suns;
+    let observers = plan.observers;
+    let tolerances = plan.tolerances;
+    let configured = plan.configured;
+    let panels = plan.panels;
+    let a = asked.word(1);
+    let b = asked.word(2);
+    reply(match kind {
+        Kind::Batch => in_constraint_batch(
+            targets, suns, observers, tolerances, configured, panels, mask,
         ),
-        FIELD => field_of_regard_violated_batch(
-            targets, suns, observers, tolerances, configured, panels, a, b, &mut mask,
+        Kind::AtSweep => in_constraint_batch_at_roll(
+            targets,
+            suns,
+            observers,
+            tolerances,
+            configured,
+            panels,
+            EvaluationRoll::Sweep(of_bits(a)),
+            mask,
+        ),
+        Kind::AtFixed => in_constraint_batch_at_roll(
+            targets,
+            suns,
+            observers,
+            tolerances,
+            configured,
+            panels,
+            EvaluationRoll::Fixed(of_bits(a)),
+            mask,
+        ),
+        Kind::EveryRoll => in_constraint_batch_constrained_at_every_roll(
+            targets, suns, observers, tolerances, configured, panels, a, mask,
+        ),
+        Kind::Field => field_of_regard_violated_batch(
+            targets, suns, observers, tolerances, configured, panels, a, b, mask,
         ),
         _ => field_of_regard_violated_at_roll(
             targets,
@@ -283,12 +269,7 @@ fn section_6(
             panels,
             a,
             of_bits(b),
-            &mut mask,
+            mask,
         ),
-    };
-    accepted(answer, 0) && same_mask(asked, &mask)
-}
-
-fn same_mask(asked: &[u64; 256], mask: &[u8; 96]) -> bool {
-    same_marks(mask, asked, 3, 1)
+    })
 }

@@ -1,23 +1,22 @@
 // A line's words: read as lists of what they stand for, and compared with lists that a call wrote.
-ghost use Rattle.std.specs.Prelude.{◌≡◌, ◌≤◌, length, take};
-
 use buffers::Answer;
 use float::{bits, of_bits};
-use std::num::wrapping_add_u64;
 
-// Whether a call is accepted with this number.
-pub(crate) fn accepted(answer: Answer, number: u64) -> bool {
+// What a call answers: a number, or the number of its refusal.
+pub(crate) type Reply = Result<u64, u64>;
+
+pub(crate) fn reply(answer: Answer) -> Reply {
     match answer {
-        Answer::Accepted(n) => n == number,
-        Answer::Refused(_) => false,
+        Answer::Accepted(n) => Ok(n),
+        Answer::Refused(no) => Err(no),
     }
 }
 
 // What stands past a line's last word, and in every type what a lent place holds before a call.
 pub(crate) const UNWRITTEN: u64 = 7;
 
-// The value of a hexadecimal digit.
-pub(crate) fn digit(c: u8) -> u64 {
+// The value of a hexadecimal digit; any other byte has one too, which `to_digit` would not give.
+fn digit(c: u8) -> u64 {
     if c < b'a' {
         c as u64 % 16
     } else {
@@ -25,145 +24,95 @@ pub(crate) fn digit(c: u8) -> u64 {
     }
 }
 
-// Word i.
-fn word(words: &[u64; 256], i: u64) -> u64 {
-    if i < 256 {
-        words[i as usize]
-    } else {
-        UNWRITTEN
+// What a word may stand for.
+pub(crate) trait Word: Copy {
+    fn from_word(word: u64) -> Self;
+
+    fn to_word(self) -> u64;
+}
+
+impl Word for u64 {
+    fn from_word(word: u64) -> Self {
+        word
+    }
+
+    fn to_word(self) -> u64 {
+        self
     }
 }
 
-// Stores word i, if there is room for it.
-pub(crate) fn put(value: u64, i: u64, words: &mut [u64; 256]) {
-    if i < 256 {
-        words[i as usize] = value;
+impl Word for f64 {
+    fn from_word(word: u64) -> Self {
+        of_bits(word)
+    }
+
+    fn to_word(self) -> u64 {
+        bits(self)
     }
 }
 
-// The i64 whose 64 bits these are.
-fn signed(w: u64) -> i64 {
-    if w < 0x8000_0000_0000_0000 {
-        w as i64
-    } else {
-        !((0xffff_ffff_ffff_ffff - w) as i64)
+impl Word for i64 {
+    fn from_word(word: u64) -> Self {
+        word.cast_signed()
+    }
+
+    fn to_word(self) -> u64 {
+        self.cast_unsigned()
     }
 }
 
-fn byte(w: u64) -> u8 {
-    (w % 256) as u8
-}
+impl Word for u8 {
+    fn from_word(word: u64) -> Self {
+        (word % 256) as u8
+    }
 
-fn wide(byte: u8) -> u64 {
-    byte as u64
-}
-
-// count, or most where that is less.
-fn least(count: u64, most: usize) -> usize
-    ensures { result ≤ most }
-{
-    if count < most as u64 {
-        count as usize
-    } else {
-        most
+    fn to_word(self) -> u64 {
+        u64::from(self)
     }
 }
 
-// Reads f64s from word `from` on, and answers how many of the first `count` there was room for.
-pub(crate) fn numbers(words: &[u64; 256], from: u64, count: u64, out: &mut [f64]) -> usize
-    ensures { (result ≤ length out.new) × (result ≡ length (take result out.new)) }
-{
-    let mut at = from;
-    let mut k = 0;
-    while k < out.len() {
-        out[k] = of_bits(word(words, at));
-        at = wrapping_add_u64(at, 1);
-        k += 1;
-    }
-    least(count, out.len())
-}
+#[derive(Clone, Copy)]
+pub(crate) struct Line([u64; 256]);
 
-// Reads i64s from word `from` on, and answers how many of the first `count` there was room for.
-pub(crate) fn times(words: &[u64; 256], from: u64, count: u64, out: &mut [i64]) -> usize
-    ensures { (result ≤ length out.new) × (result ≡ length (take result out.new)) }
-{
-    let mut at = from;
-    let mut k = 0;
-    while k < out.len() {
-        out[k] = signed(word(words, at));
-        at = wrapping_add_u64(at, 1);
-        k += 1;
+impl Line {
+    pub(crate) fn unwritten() -> Line {
+        Line([UNWRITTEN; 256])
     }
-    least(count, out.len())
-}
 
-// Reads bytes from word `from` on, and answers how many of the first `count` there was room for.
-pub(crate) fn marks(words: &[u64; 256], from: u64, count: u64, out: &mut [u8]) -> usize
-    ensures { (result ≤ length out.new) × (result ≡ length (take result out.new)) }
-{
-    let mut at = from;
-    let mut k = 0;
-    while k < out.len() {
-        out[k] = byte(word(words, at));
-        at = wrapping_add_u64(at, 1);
-        k += 1;
-    }
-    least(count, out.len())
-}
-
-// Whether a list holds the words from `from` on, one in `step`, and is unwritten past the last.
-pub(crate) fn same_words(list: &[u64], words: &[u64; 256], from: u64, step: u64) -> bool {
-    let mut at = from;
-    let mut k = 0;
-    while k < list.len() {
-        let x = list[k];
-        if x != word(words, at) {
-            return false;
+    // Words are parted by spaces.
+    pub(crate) fn parse(text: &[u8]) -> Line {
+        let mut words = [UNWRITTEN; 256];
+        for (word, digits) in words.iter_mut().zip(text.split(|byte| *byte == b' ')) {
+            *word = digits.iter().fold(0, |value, c| (value << 4) | digit(*c));
         }
-        at = wrapping_add_u64(at, step);
-        k += 1;
+        Line(words)
     }
-    true
+
+    pub(crate) fn word(&self, i: u64) -> u64 {
+        self.0.get(i as usize).copied().unwrap_or(UNWRITTEN)
+    }
+
+    pub(crate) fn number(&self, i: u64) -> f64 {
+        of_bits(self.word(i))
+    }
+
+    // Reads words from word `from` on, and gives the first `count`, or those that there was room for.
+    pub(crate) fn read<'a, T: Word>(&self, from: u64, count: u64, out: &'a mut [T]) -> &'a [T] {
+        for (k, place) in out.iter_mut().enumerate() {
+            *place = T::from_word(self.word(from.wrapping_add(k as u64)));
+        }
+        first(out, count as usize)
+    }
+
+    // Whether a list holds the words from `from` on, one in `step`, and is unwritten past the last.
+    pub(crate) fn has<T: Word>(&self, list: &[T], from: u64, step: u64) -> bool {
+        list.iter().enumerate().all(|(k, x)| {
+            x.to_word() == self.word(from.wrapping_add(step.wrapping_mul(k as u64)))
+        })
+    }
 }
 
-pub(crate) fn same_numbers(list: &[f64], words: &[u64; 256], from: u64, step: u64) -> bool {
-    let mut at = from;
-    let mut k = 0;
-    while k < list.len() {
-        let x = list[k];
-        if bits(x) != word(words, at) {
-            return false;
-        }
-        at = wrapping_add_u64(at, step);
-        k += 1;
-    }
-    true
-}
-
-pub(crate) fn same_times(list: &[i64], words: &[u64; 256], from: u64, step: u64) -> bool {
-    let mut at = from;
-    let mut k = 0;
-    while k < list.len() {
-        let x = list[k];
-        if x != signed(word(words, at)) {
-            return false;
-        }
-        at = wrapping_add_u64(at, step);
-        k += 1;
-    }
-    true
-}
-
-pub(crate) fn same_marks(list: &[u8], words: &[u64; 256], from: u64, step: u64) -> bool {
-    let mut at = from;
-    let mut k = 0;
-    while k < list.len() {
-        let x = list[k];
-        if wide(x) != word(words, at) {
-            return false;
-        }
-        at = wrapping_add_u64(at, step);
-        k += 1;
-    }
-    true
+// The first of a list.
+pub(crate) fn first<T>(list: &[T], count: usize) -> &[T] {
+    &list[..count.min(list.len())]
 }
