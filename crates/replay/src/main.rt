@@ -68,6 +68,7 @@ fn replay(text: &[u8], counts: &mut Counts) {
 }
 
 // Reads until the buffer is full or the input ends, and answers how many bytes were read.
+// `read_exact` refuses a shorter file, and `read_to_end` needs the heap. A crate that gave this to vectors too would be longer.
 fn read_full(input: &mut impl Read, buffer: &mut [u8]) -> io::Result<usize>
     ensures { IfOk result (λ n. n ≤ length buffer.new) }
 {

@@ -15,7 +15,7 @@ pub(crate) fn reply(answer: Answer) -> Reply {
 // What stands past a line's last word, and in every type what a lent place holds before a call.
 pub(crate) const UNWRITTEN: u64 = 7;
 
-// The value of a hexadecimal digit; any other byte has one too, which `to_digit` would not give.
+// The value of a hexadecimal digit. Any other byte has one too, here and in crates/vectors, which `to_digit` would not give.
 fn digit(c: u8) -> u64 {
     if c < b'a' {
         c as u64 % 16

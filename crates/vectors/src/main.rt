@@ -14,7 +14,7 @@ const LINE: usize = 51;
 
 type Line = [u8; LINE];
 
-// The value of a hexadecimal digit; any other byte has one too, which `to_digit` would not give.
+// The value of a hexadecimal digit. Any other byte has one too, here and in crates/replay, which `to_digit` would not give.
 fn digit(c: u8) -> u64
     ensures { result < 16 }
 {
@@ -84,6 +84,7 @@ fn replay(rt: &impl Print, text: &[u8]) -> io::Result<()> {
 }
 
 // Reads until the buffer is full or the input ends, and answers how many bytes were read.
+// `read_exact` refuses a shorter input, and `read_to_end` needs the heap. A crate that gave this to replay too would be longer.
 fn read_full(input: &mut impl Read, buffer: &mut [u8]) -> io::Result<usize>
     ensures { IfOk result (λ n. n ≤ length buffer.new) }
 {
