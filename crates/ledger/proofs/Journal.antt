@@ -16,7 +16,7 @@ use Rattle.solar_roll.specs.Vectors.{Vector, vector, dot3, norm3, cross3, over3,
 use Rattle.solar_roll.specs.Roll.{x_hat, y_hat, z_hat, sun_unit, sun_along_boresight, panel_is_free, panel_angle, roll_is_unconstrained, perpendicular, pole_fallback, north, y_axis, body_axes, folded_roll, roll_between, roll_deg_in, solar_optimal_roll_deg, circular_diff_deg}
 use Rattle.solar_roll.specs.Cell.{optimal_roll, violates, in_force, bad_position, bad_direction, too_large, not_unit, any_not_unit, direction_refusal, numbers_refusal}
 use Rattle.solar_roll.specs.Plan.{Plan, plan_of, plan_refusal, sizes_refusal, samples_refusal, unlike_lengths, too_many, triple, row_direction, row_panel, row_config, sun_at, cell_of, violates_at, head_tolerance, head_panel}
-use Rattle.solar_roll.specs.declared.cell.ConfiguredRoll.TheVariants.{None}
+use Rattle.std.specs.Prelude.{None}
 use Rattle.journal.specs.Hex.{hex_text}
 use Rattle.journal.specs.Lines.{line_of}
 use Rattle.journal.specs.Header.{header_of}

@@ -6,7 +6,7 @@ use lib.Ieee.{Float}
 use Rattle.buffers.specs.Refusal.{refused, accepted}
 use Rattle.solar_roll.specs.Vectors.{vector}
 use Rattle.solar_roll.specs.declared.cell.CellRoll.TheVariants.{Free, At, Refused}
-use Rattle.solar_roll.specs.declared.cell.ConfiguredRoll.TheVariants.{None, Some}
+use Rattle.std.specs.Prelude.{None, Some}
 use Rattle.solar_roll.specs.declared.cell.EvaluationRoll.TheVariants.{Sweep, Fixed}
 use Rattle.wilfnusk.specs.Answers.{minus, int64, cell_answer, cell_written, number_answer, number_written}
 use Rattle.wilfnusk.specs.Plans.{configured, lent_plan, asked}

@@ -1,15 +1,13 @@
 -- A plan, and the roll that is asked for, as C lends them: lists, and numbers for the configured roll and the panel's normal.
 -- Definitions only. Assumes nothing.
-use Rattle.std.specs.Prelude.{cond, List, ℕ, eqb, Float}
+use Rattle.std.specs.Prelude.{cond, List, ℕ, eqb, Float, Option, None, Some}
 use Rattle.solar_roll.specs.Vectors.{vector}
 use Rattle.solar_roll.specs.Plan.{Plan, plan_of}
-use Rattle.solar_roll.specs.declared.cell.ConfiguredRoll.{ConfiguredRoll}
-use Rattle.solar_roll.specs.declared.cell.ConfiguredRoll.TheVariants.{None, Some}
 use Rattle.solar_roll.specs.declared.cell.EvaluationRoll.{EvaluationRoll}
 use Rattle.solar_roll.specs.declared.cell.EvaluationRoll.TheVariants.{Sweep, Fixed}
 
 -- has_roll 0: none, and roll_deg is ignored; else roll_deg is the configured roll
-unfoldable pub configured : ℕ → Float → ConfiguredRoll
+unfoldable pub configured : ℕ → Float → Option Float
 configured has_roll roll = cond (eqb has_roll 0) None (Some roll)
 
 -- a plan of one panel

@@ -1,6 +1,6 @@
 // Masks, rows, the field of regard and the named values of a plan.
 ghost use Rattle.std.specs.Prelude.{◌≡◌, length};
-ghost use Rattle.solar_roll.specs.Plan.{Plan, samples_or_none_refusal};
+ghost use Rattle.solar_roll.specs.Plan.{Plan as PlanOf, samples_or_none_refusal};
 ghost use Rattle.solar_masks.specs.Mask.{at_roll, at_configured, at_every_roll, ValuesInTurn, cells_reply, mask_after, values_after};
 ghost use Rattle.solar_masks.specs.Row.{row_reply, row_mask_after, severities_after};
 ghost use Rattle.solar_masks.specs.Field.{field_reply, field_after};
@@ -10,6 +10,7 @@ ghost use Rattle.wilfnusk.specs.Plans.{asked, lent_plan};
 
 use crate::answers::int64;
 use crate::plans::{asked, configured};
+use solar_roll::Plan;
 
 // Refuses 1, 2, 4, 5, 20, 6, 17 of the plan, then 7 (solar_masks: specs/Mask, `cells_refusal`).
 #[unsafe(no_mangle)]
@@ -25,17 +26,22 @@ pub extern "C" fn wilfnusk_named_values(
     panel_z: f64,
     out: &mut [f64],
 ) -> u64
-    ensures { let p : Plan = lent_plan targets.now suns.now observers.now
+    ensures { let p : PlanOf = lent_plan targets.now suns.now observers.now
         tolerances.now has_roll roll_deg panel_x panel_y panel_z in
         (result ≡ int64 (cells_reply p 0 (length out.old)))
         × (out.new ≡ values_after p out.old)
         × (result ≡ 0 → ValuesInTurn p out.new) }
 {
-    let configured = configured(has_roll, roll_deg);
     let panels = [panel_x, panel_y, panel_z];
-    int64(solar_masks::named_values(
-        targets, suns, observers, tolerances, configured, &panels, out,
-    ))
+    let plan = Plan {
+        targets,
+        suns,
+        observers,
+        tolerances,
+        configured: configured(has_roll, roll_deg),
+        panels: &panels,
+    };
+    int64(solar_masks::named_values(&plan, out))
 }
 
 // Refuses 1, 2, 4, 5, 20, 6, 17 of the plan, then 7 (solar_masks: specs/Mask, `cells_refusal`).
@@ -52,16 +58,21 @@ pub extern "C" fn wilfnusk_in_constraint_batch(
     panel_z: f64,
     mask: &mut [u8],
 ) -> u64
-    ensures { let p : Plan = lent_plan targets.now suns.now observers.now
+    ensures { let p : PlanOf = lent_plan targets.now suns.now observers.now
         tolerances.now has_roll roll_deg panel_x panel_y panel_z in
         (result ≡ int64 (cells_reply p 0 (length mask.old)))
         × (mask.new ≡ mask_after p 0 at_configured mask.old) }
 {
-    let configured = configured(has_roll, roll_deg);
     let panels = [panel_x, panel_y, panel_z];
-    int64(solar_masks::in_constraint_batch(
-        targets, suns, observers, tolerances, configured, &panels, mask,
-    ))
+    let plan = Plan {
+        targets,
+        suns,
+        observers,
+        tolerances,
+        configured: configured(has_roll, roll_deg),
+        panels: &panels,
+    };
+    int64(solar_masks::in_constraint_batch(&plan, mask))
 }
 
 // Refuses 1, 2, 4, 5, 20, 6, 17 of the plan, then 7 (solar_masks: specs/Mask, `cells_refusal`).
@@ -80,17 +91,22 @@ pub extern "C" fn wilfnusk_in_constraint_batch_at_roll(
     roll_at_deg: f64,
     mask: &mut [u8],
 ) -> u64
-    ensures { let p : Plan = lent_plan targets.now suns.now observers.now
+    ensures { let p : PlanOf = lent_plan targets.now suns.now observers.now
         tolerances.now has_roll roll_deg panel_x panel_y panel_z in
         (result ≡ int64 (cells_reply p 0 (length mask.old)))
         × (mask.new ≡ mask_after p 0 (at_roll (asked fixed roll_at_deg)) mask.old) }
 {
-    let configured = configured(has_roll, roll_deg);
     let panels = [panel_x, panel_y, panel_z];
+    let plan = Plan {
+        targets,
+        suns,
+        observers,
+        tolerances,
+        configured: configured(has_roll, roll_deg),
+        panels: &panels,
+    };
     let roll = asked(fixed, roll_at_deg);
-    int64(solar_masks::in_constraint_batch_at_roll(
-        targets, suns, observers, tolerances, configured, &panels, roll, mask,
-    ))
+    int64(solar_masks::in_constraint_batch_at_roll(&plan, roll, mask))
 }
 
 // Refuses 1, 2, 3, 4, 5, 20, 6, 17 of the plan, then 7 (solar_masks: specs/Mask, `cells_refusal`).
@@ -108,16 +124,21 @@ pub extern "C" fn wilfnusk_constrained_at_every_roll(
     n: u64,
     mask: &mut [u8],
 ) -> u64
-    ensures { let p : Plan = lent_plan targets.now suns.now observers.now
+    ensures { let p : PlanOf = lent_plan targets.now suns.now observers.now
         tolerances.now has_roll roll_deg panel_x panel_y panel_z in
         (result ≡ int64 (cells_reply p (samples_or_none_refusal n) (length mask.old)))
         × (mask.new ≡ mask_after p (samples_or_none_refusal n) (at_every_roll n) mask.old) }
 {
-    let configured = configured(has_roll, roll_deg);
     let panels = [panel_x, panel_y, panel_z];
-    int64(solar_masks::in_constraint_batch_constrained_at_every_roll(
-        targets, suns, observers, tolerances, configured, &panels, n, mask,
-    ))
+    let plan = Plan {
+        targets,
+        suns,
+        observers,
+        tolerances,
+        configured: configured(has_roll, roll_deg),
+        panels: &panels,
+    };
+    int64(solar_masks::in_constraint_batch_constrained_at_every_roll(&plan, n, mask))
 }
 
 // Refuses 1, 2, 4, 5, 20, 6, 17 of the plan, then 9, 7 (solar_masks: specs/Row, `row_refusal`).
@@ -136,17 +157,22 @@ pub extern "C" fn wilfnusk_evaluate(
     mask: &mut [u8],
     severities: &mut [f64],
 ) -> u64
-    ensures { let p : Plan = lent_plan targets.now suns.now observers.now
+    ensures { let p : PlanOf = lent_plan targets.now suns.now observers.now
         tolerances.now has_roll roll_deg panel_x panel_y panel_z in
         (result ≡ int64 (row_reply p target (length mask.old) (length severities.old)))
         × (mask.new ≡ row_mask_after p target mask.old severities.old)
         × (severities.new ≡ severities_after p target mask.old severities.old) }
 {
-    let configured = configured(has_roll, roll_deg);
     let panels = [panel_x, panel_y, panel_z];
-    int64(solar_masks::evaluate(
-        targets, suns, observers, tolerances, configured, &panels, target, mask, severities,
-    ))
+    let plan = Plan {
+        targets,
+        suns,
+        observers,
+        tolerances,
+        configured: configured(has_roll, roll_deg),
+        panels: &panels,
+    };
+    int64(solar_masks::evaluate(&plan, target, mask, severities))
 }
 
 // Refuses 1, 2, 3, 4, 5, 20, 6, 17 of the plan, then 9, 7 (solar_masks: specs/Field, `field_refusal`).
@@ -165,16 +191,21 @@ pub extern "C" fn wilfnusk_field_of_regard_violated_batch(
     n: u64,
     mask: &mut [u8],
 ) -> u64
-    ensures { let p : Plan = lent_plan targets.now suns.now observers.now
+    ensures { let p : PlanOf = lent_plan targets.now suns.now observers.now
         tolerances.now has_roll roll_deg panel_x panel_y panel_z in
         (result ≡ int64 (field_reply p (samples_or_none_refusal n) time (length mask.old)))
         × (mask.new ≡ field_after p (samples_or_none_refusal n) time (at_every_roll n) mask.old) }
 {
-    let configured = configured(has_roll, roll_deg);
     let panels = [panel_x, panel_y, panel_z];
-    int64(solar_masks::field_of_regard_violated_batch(
-        targets, suns, observers, tolerances, configured, &panels, time, n, mask,
-    ))
+    let plan = Plan {
+        targets,
+        suns,
+        observers,
+        tolerances,
+        configured: configured(has_roll, roll_deg),
+        panels: &panels,
+    };
+    int64(solar_masks::field_of_regard_violated_batch(&plan, time, n, mask))
 }
 
 // Refuses 1, 2, 4, 5, 20, 6, 17 of the plan, then 9, 7 (solar_masks: specs/Field, `field_refusal`).
@@ -193,22 +224,19 @@ pub extern "C" fn wilfnusk_field_of_regard_violated_at_roll(
     roll_at_deg: f64,
     mask: &mut [u8],
 ) -> u64
-    ensures { let p : Plan = lent_plan targets.now suns.now observers.now
+    ensures { let p : PlanOf = lent_plan targets.now suns.now observers.now
         tolerances.now has_roll roll_deg panel_x panel_y panel_z in
         (result ≡ int64 (field_reply p 0 time (length mask.old)))
         × (mask.new ≡ field_after p 0 time (at_roll (Sweep roll_at_deg)) mask.old) }
 {
-    let configured = configured(has_roll, roll_deg);
     let panels = [panel_x, panel_y, panel_z];
-    int64(solar_masks::field_of_regard_violated_at_roll(
+    let plan = Plan {
         targets,
         suns,
         observers,
         tolerances,
-        configured,
-        &panels,
-        time,
-        roll_at_deg,
-        mask,
-    ))
+        configured: configured(has_roll, roll_deg),
+        panels: &panels,
+    };
+    int64(solar_masks::field_of_regard_violated_at_roll(&plan, time, roll_at_deg, mask))
 }

@@ -2,16 +2,12 @@
 ghost use Rattle.std.specs.Prelude.{◌≡◌};
 ghost use Rattle.wilfnusk.specs.Plans.{asked, configured};
 
-use solar_roll::{ConfiguredRoll, EvaluationRoll};
+use solar_roll::EvaluationRoll;
 
-pub(crate) fn configured(has_roll: u64, roll_deg: f64) -> ConfiguredRoll
+pub(crate) fn configured(has_roll: u64, roll_deg: f64) -> Option<f64>
     ensures { result ≡ configured has_roll roll_deg }
 {
-    if has_roll == 0 {
-        ConfiguredRoll::None
-    } else {
-        ConfiguredRoll::Some(roll_deg)
-    }
+    if has_roll == 0 { None } else { Some(roll_deg) }
 }
 
 pub(crate) fn asked(fixed: u64, roll_deg: f64) -> EvaluationRoll
