@@ -128,6 +128,7 @@ pub fn rem_euclid_turn(x: f64) -> f64
 }
 
 // The angle a, given in radians, in degrees.
+#[tactic(auto, unfolding(crate::specs::Arithmetic::to_degrees))]
 pub fn to_degrees(a: f64) -> f64
     ensures { result ≡ to_degrees a }
 {

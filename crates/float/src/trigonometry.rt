@@ -102,6 +102,7 @@ pub fn cos(r: f64) -> f64
 }
 
 // The angle a, given in degrees, in radians.
+#[tactic(auto, unfolding(crate::specs::Trigonometry::to_radians))]
 pub fn to_radians(a: f64) -> f64
     ensures { result ≡ to_radians a }
 {
