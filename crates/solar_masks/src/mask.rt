@@ -123,15 +123,16 @@ impl Cells for Marks {
         units: &[[f64; 3]],
         entries: &mut [u8],
     ) {
-        if let MarkRule::Nothing = self.rule {
+        let Marks { rule, panel } = *self;
+        if let MarkRule::Nothing = rule {
             entries[..units.len()].fill(0);
             return;
         }
         let mut rolls = [0.0; 64];
-        rolls_deg_in(axes, units, self.panel.angle, &mut rolls);
+        rolls_deg_in(axes, units, panel.angle, &mut rolls);
         for k in 0..units.len() {
-            let cell = free_or_at(axes, units[k], self.panel, rolls[k]);
-            entries[k] = mark_byte(cell, self.rule, tolerance_deg);
+            let cell = free_or_at(axes, units[k], panel, rolls[k]);
+            entries[k] = mark_byte(cell, rule, tolerance_deg);
         }
     }
 }
