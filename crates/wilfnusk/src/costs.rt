@@ -1,9 +1,10 @@
 // What a plan of a size costs, and a plan of that size that costs most, and one that costs least.
 ghost use Rattle.std.specs.Prelude.{◌≡◌, length};
-ghost use Rattle.cost.specs.Cost.{cost_reply, cost_after, costliest_tolerance, cheapest_tolerance, PlanLists, plan_lists, writing_reply, plan_written};
+ghost use Rattle.cost.specs.Cost.{cost_reply, cost_after, costliest_tolerance, cheapest_tolerance, PlanLists as Lists, plan_lists, writing_reply, plan_written};
 ghost use Rattle.wilfnusk.specs.Answers.{int64};
 
 use crate::answers::int64;
+use cost::PlanLists;
 
 // Refuses 2, 3, 7 (cost: specs/Cost, `cost_refusal`).
 #[unsafe(no_mangle)]
@@ -26,22 +27,20 @@ pub extern "C" fn wilfnusk_costliest_plan(
     tolerances: &mut [f64],
     panel: &mut [f64],
 ) -> u64
-    ensures { let lent : PlanLists = plan_lists target_numbers.old suns.old observers.old
+    ensures { let lent : Lists = plan_lists target_numbers.old suns.old observers.old
         tolerances.old panel.old in
         (result ≡ int64 (writing_reply targets times n lent))
         × (plan_lists target_numbers.new suns.new observers.new tolerances.new panel.new
         ≡ plan_written targets times n costliest_tolerance lent) }
 {
-    int64(cost::costliest_plan(
-        targets,
-        times,
-        n,
-        target_numbers,
+    let mut lists = PlanLists {
+        targets: target_numbers,
         suns,
         observers,
         tolerances,
         panel,
-    ))
+    };
+    int64(cost::costliest_plan(targets, times, n, &mut lists))
 }
 
 // Refuses 2, 3, 7 (cost: specs/Cost, `writing_refusal`).
@@ -56,20 +55,18 @@ pub extern "C" fn wilfnusk_cheapest_plan(
     tolerances: &mut [f64],
     panel: &mut [f64],
 ) -> u64
-    ensures { let lent : PlanLists = plan_lists target_numbers.old suns.old observers.old
+    ensures { let lent : Lists = plan_lists target_numbers.old suns.old observers.old
         tolerances.old panel.old in
         (result ≡ int64 (writing_reply targets times n lent))
         × (plan_lists target_numbers.new suns.new observers.new tolerances.new panel.new
         ≡ plan_written targets times n cheapest_tolerance lent) }
 {
-    int64(cost::cheapest_plan(
-        targets,
-        times,
-        n,
-        target_numbers,
+    let mut lists = PlanLists {
+        targets: target_numbers,
         suns,
         observers,
         tolerances,
         panel,
-    ))
+    };
+    int64(cost::cheapest_plan(targets, times, n, &mut lists))
 }
