@@ -1,9 +1,11 @@
--- Laws of the even samples: how many there are, each of them, and that a table that was lent for them holds them. Assumes nothing.
+-- Laws of the even samples: how many there are, each of them, and that a table that was lent for them holds them; and of a list whose first
+-- places a loop writes. Assumes nothing.
 use mathlib.Core.Path.{◌≡◌, ap, ◌∙◌}
-use mathlib.Core.List.{List}
+use mathlib.Core.List.{List, ◌++◌, append-nil}
 use Prim.Native.Nat.{ℕ, ◌≤◌, ◌<◌, min}
 use native.Mathlib.Omega.{arith}
-use lib.ListN.{length, get_or, take}
+use lib.ListN.{length, get_or, take, drop, drop_of_length-le}
+use lib.Seq.{length-take-le}
 use lib.Ieee.{Float, nan}
 use Rattle.buffers.specs.Lent.{filled}
 use Rattle.buffers.proofs.Ranges.{length_tab, get_or_tab}
@@ -23,3 +25,10 @@ unfolding even_rolls
 even_lent n l h =
     let e : min n (length l) ≡ n = omega arith in
     ap (λ (m : ℕ). take n (filled m (even_roll n) l)) e ∙ take_filled (even_roll n) n l
+
+-- the first n places, lent by themselves and filled, and those beyond
+pub places_filled : {A : Type 0} (f : ℕ → A) (n k m : ℕ) (l first : List A) → n ≤ length l → k ≡ n → n ≡ m → first ≡ filled k f (take n l) → first ++ drop n l ≡ filled m f l
+unfolding filled
+places_filled f n k m l first h e g i =
+    let few : length (take n l) ≤ n = omega (arith, length-take-le n l h) in
+    rw (i, e, drop_of_length-le (take n l) few, append-nil, ← g)

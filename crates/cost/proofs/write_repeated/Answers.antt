@@ -7,15 +7,9 @@ use lib.ListN.{length, take, drop, drop_of_length-le}
 use lib.Seq.{length-take-le}
 use Rattle.buffers.specs.Lent.{filled}
 use Rattle.buffers.proofs.Lent.{filled_zero, filled_next, filled_over}
+use Rattle.roll_sweep.proofs.Even.{places_filled}
 use Rattle.cost.specs.Cost.{repeated}
 use Rattle.cost.proofs.write_repeated.Goals as goal
-
--- the first n places, filled, and those beyond
-places_filled : {A : Type 0} (f : ℕ → A) (n k : ℕ) (l first : List A) → n ≤ length l → k ≡ n → first ≡ filled k f (take n l) → first ++ drop n l ≡ filled n f l
-unfolding filled
-places_filled f n k l first h e i =
-    let few : length (take n l) ≤ n = omega (arith, length-take-le n l h) in
-    rw (i, e, drop_of_length-le (take n l) few, append-nil) refl
 
 pub loop-k-init : goal.loop-k-init
 loop-k-init c = filled_zero _ _
@@ -27,4 +21,4 @@ pub returns : goal.returns
 unfolding repeated
 returns c =
     let size = length-take-le c.args.places c.args.out.now c.requires.1 in
-    rw (places_filled _ c.args.places c.loop-k.k c.args.out.now _ c.requires.1 (omega (arith, size)) c.loop-k.invariant) (filled_over _ _ _)
+    rw (places_filled _ c.args.places c.loop-k.k c.args.places c.args.out.now _ c.requires.1 (omega (arith, size)) refl c.loop-k.invariant) (filled_over _ _ _)
