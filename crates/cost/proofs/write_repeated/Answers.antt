@@ -1,11 +1,9 @@
 -- `cost::write_repeated`: before place k, the places before it are written. Assumes nothing.
-use Prim.Native.Nat.{ℕ, ◌≤◌, ◌<◌}
-use mathlib.Core.Path.{◌≡◌, refl}
-use mathlib.Core.List.{List, ◌++◌, append-nil}
+use Prim.Native.Nat.{◌<◌}
+use mathlib.Core.Path.{refl}
 use native.Mathlib.Omega.{arith}
-use lib.ListN.{length, take, drop, drop_of_length-le}
+use lib.ListN.{length, take}
 use lib.Seq.{length-take-le}
-use Rattle.buffers.specs.Lent.{filled}
 use Rattle.buffers.proofs.Lent.{filled_zero, filled_next, filled_over}
 use Rattle.roll_sweep.proofs.Even.{places_filled}
 use Rattle.cost.specs.Cost.{repeated}
