@@ -27,6 +27,7 @@ fn largest_severity(severities: &[f64], first: usize, last: usize) -> f64
 }
 
 // The severity of a window from first to last.
+#[tactic(auto, unfolding(crate::specs::Steps::severity_of))]
 fn severity_of(listing: Listing, severities: &[f64], first: usize, last: usize) -> f64
     requires { (first ≤ last) × (listing ≡ Listing.Violations → last < length severities.now) }
     ensures { result ≡ severity_of listing severities.now (run first last) }
@@ -62,6 +63,7 @@ pub(crate) fn run_window(listing: Listing, row: &Samples, first: usize, last: us
 }
 
 // Whether a row's lists differ in length.
+#[tactic(auto, unfolding(crate::specs::Steps::uneven))]
 fn is_uneven(listing: Listing, row: &Samples) -> bool
     ensures { result ≡ uneven listing row.now.mask.now row.now.times.now row.now.severities.now }
 {
@@ -128,7 +130,8 @@ fn store(
     is_last[k] = w.is_last as u8;
 }
 
-// Either listing, into columns.
+// Either listing, into columns. The six stay parameters: in a struct of `&mut` each contract would also have to say of each of the six references that it
+// is still the same one. A copy of its own for each listing leaves out what the other does.
 #[inline(always)]
 fn list_windows(
     listing: Listing,

@@ -10,7 +10,7 @@ use crate::runs::next_run;
 use crate::{Listing, Samples, Window};
 use buffers::Refusal;
 
-// Either listing, as records.
+// Either listing, as records: a copy of its own for each, as of `list_windows`.
 #[inline(always)]
 fn list_records(listing: Listing, row: &Samples, out: &mut [Window]) -> Result<u64, Refusal>
     ensures { let left : List Window = windows_left listing row.now.mask.now row.now.times.now row.now.severities.now 0 in

@@ -9,6 +9,7 @@ use crate::refusal::MOST_LENT;
 use std::ops::Range;
 
 // The byte whose runs are listed.
+#[tactic(auto, unfolding(crate::specs::Steps::byte_of))]
 fn byte_of(listing: Listing) -> u8
     ensures { result ≡ byte_of listing }
 {
