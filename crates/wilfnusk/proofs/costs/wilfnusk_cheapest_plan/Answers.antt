@@ -3,4 +3,4 @@ use Rattle.wilfnusk.proofs.costs.wilfnusk_cheapest_plan.Goals as goal
 
 pub returns : goal.returns
 returns c = let call = c.cheapest_plan.ensures in
-    (simp (c.int64.ensures, call.0), call.1)
+    (simp (c.int64.ensures, call.result_value), call.lists_after)

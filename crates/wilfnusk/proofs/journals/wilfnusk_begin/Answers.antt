@@ -2,5 +2,5 @@ use Rattle.wilfnusk.proofs.journals.wilfnusk_begin.Goals as goal
 
 pub returns : goal.returns
 returns c = let call = c.begin.ensures in
-    let roll = c.configured-configured.ensures in
+    let roll = c.configured.ensures in
     (simp (c.int64.ensures, call.0, roll), simp (call.1, roll))

@@ -17,6 +17,6 @@ read_accepted p room r h e = reply_none _ 0 (read_zero _ 0 (cells_below p 0 room
 
 pub returns : goal.returns
 returns c = let call = c.named_values.ensures in
-    let roll = c.configured-configured.ensures in
+    let roll = c.configured.ensures in
     let accepted-if = read_accepted _ _ _ (c.int64.ensures ∙ ap int64 call.result_value) in
     (simp (c.int64.ensures, call.result_value, roll), simp (call.values_after, roll), λ e. call.in_turn (lit≤ tt) (call.result_value ∙ accepted-if e))

@@ -2,5 +2,5 @@ use Rattle.wilfnusk.proofs.tables.wilfnusk_begin_rolls.Goals as goal
 
 pub returns : goal.returns
 returns c = let call = c.begin_rolls.ensures in
-    let roll = c.configured-configured.ensures in
+    let roll = c.configured.ensures in
     (simp (c.int64.ensures, call.0, roll), simp (call.1, roll))
