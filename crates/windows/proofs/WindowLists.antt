@@ -9,7 +9,7 @@ use Rattle.buffers.specs.Lent.{over}
 use Rattle.buffers.specs.Refusal.{Reply, refused, accepted, reply, unless_refused, number_of, replied}
 use Rattle.buffers.specs.declared.reasons.Refusal.{Refusal}
 use Rattle.buffers.proofs.Tests.{flag_le, or_left, or_right}
-use Rattle.buffers.proofs.Lent.{over_nil, over_next, length_over, length_kept, over_more}
+use Rattle.buffers.proofs.Lent.{over_nil, over_next, length_over, over_more}
 use Rattle.buffers.proofs.Refusals.{reply_accepted, err_replied, ok_replied, err_unless, ok_unless}
 use Rattle.windows.specs.Runs.{Run, run}
 use Rattle.windows.specs.Windows.{window_of, violation_windows, visibility_windows, Columns, written}
@@ -221,9 +221,6 @@ module _ (l : Listing) (mask : List ℕ) (times : List ℤ) (severities : List F
     pub storing_room : k < n → Room (k + 1) c
     storing_room j = room_left (take k (left l mask times severities 0)) d c s.holds (k + 1) n (omega (arith, done (omega arith))) (omega arith) has_room
 
-    pub storing_lengths : k ≤ n → SameLengths d c
-    storing_lengths j = same_lengths (take k (left l mask times severities 0)) d c s.holds n (omega (arith, done j)) has_room
-
     pub storing_next : k < n → (end : ℕ) (w : Window) (c' : Columns) → NextWindow l mask times severities from end w → c' ≡ stored k w c → Storing l mask times severities (k + 1) end d c'
     storing_next j end w c' x q = record {
       passed = subst (WindowsPassed l mask times severities (k + 1)) x.onward (passed_next l mask times severities k from w s.passed x.left x.in_row);
@@ -261,9 +258,6 @@ module _ (l : Listing) (mask : List ℕ) (times : List ℤ) (severities : List F
 
     pub records_more : k < n → 0 < length (windows_left l mask times severities from)
     records_more j = some_left l mask times severities k from s.passed (omega (arith, ok.all))
-
-    pub records_length : k ≤ n → length zs ≡ length ys
-    records_length j = length_kept zs (take k (left l mask times severities 0)) ys s.holds (omega (arith, taken j, records_fit))
 
     pub records_next : k < n → (end : ℕ) (w : Window) → NextWindow l mask times severities from end w → StoringRecords l mask times severities (k + 1) end ys (set zs k w)
     records_next j end w x = record {
