@@ -121,6 +121,7 @@ fn repeated(one: Swept, n: usize) -> Swept
 }
 
 // Sweeps cells as `sweep_cells` does, over samples. A configured roll stands for every sample, so it is tried once for all.
+// So the rolls are no part of a struct with the plan and the units: the one roll goes with the same plan in their place.
 fn sweep_samples(
     plan: &Plan,
     times: usize,
