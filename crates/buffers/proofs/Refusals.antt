@@ -7,11 +7,10 @@ use native.Mathlib.Omega.{arith}
 use lib.Dec.{ltb}
 use borrow.Author.Tests.{ne_eqb, ltb-true}
 use Rattle.std.specs.Prelude.{Ok, Err}
-use Rattle.buffers.specs.Refusal.{Conditions, first, carried, refused, accepted, reply, unless_refused, reply_of, number_of, replied}
+use Rattle.buffers.specs.Refusal.{Conditions, first, carried, refused, accepted, reply, unless_refused, number_of, replied}
 use Rattle.buffers.specs.declared.reasons.Refusal.{Refusal}
 use Rattle.buffers.specs.declared.reasons.Refusal.TheVariants as why
 use Rattle.buffers.proofs.Tests.{and_left, and_right}
-use Rattle.buffers.specs.declared.Answer.TheVariants.{Accepted, Refused}
 
 -- no condition is left
 pub first_none : first [] ≡ 0
@@ -103,25 +102,7 @@ module _ {A : Type 0} where
   written_some zero w b h = absurd (omega arith)
   written_some (suc k) w b h = refl
 
--- ---- the answer that a call makes, by the refusal's number
-
-pub refused_with : (k why n : ℕ) → why ≡ k → 0 < k → reply_of (Refused k) ≡ reply why n
-unfolding reply_of
-refused_with k why n e h = sym (reply_some k n h) ∙ ap (λ (j : ℕ). reply j n) (sym e)
-
-pub accepted_with : (m why n : ℕ) → why ≡ 0 → m ≡ n → reply_of (Accepted m) ≡ reply why n
-unfolding reply_of
-accepted_with m why n e h = ap accepted h ∙ sym (reply_none why n e)
-
--- with what it leaves in a lent list: k is the number that was found, 0 for none
-pub refused_leaves : {A : Type 0} (k why n : ℕ) (written before : A) → k ≡ why → (k ≡ 0 → ⊥) → (reply_of (Refused k) ≡ reply why n) × (before ≡ unless_refused why written before)
-refused_leaves zero why n w b e h = absurd (h refl)
-refused_leaves (suc k) why n w b e h = (refused_with (suc k) why n (sym e) (omega arith), sym (written_some why w b (omega arith)))
-
-pub accepted_leaves : {A : Type 0} (k why n : ℕ) (written before now : A) → k ≡ why → k ≡ 0 → now ≡ written → (reply_of (Accepted n) ≡ reply why n) × (now ≡ unless_refused why written before)
-accepted_leaves k why n w b now e z q = (accepted_with n why n (sym e ∙ z) refl, q ∙ sym (written_none why w b (sym e ∙ z)))
-
--- ---- the same of a result
+-- ---- the answer that a call makes, by the refusal that it found
 
 -- no refusal has the number 0
 pub number_positive : (e : Refusal) → 0 < number_of e
@@ -145,15 +126,6 @@ number_positive (why.ToleranceCountDiffers) = omega arith
 number_positive (why.RollTableLength) = omega arith
 number_positive (why.RollTableEntry) = omega arith
 number_positive (why.TargetNotUnit) = omega arith
-
--- a step of a chain of tests, each of which gives a refusal or none: the refusal that it found is the chain's, or it found none and the rest decides
-pub found_here : (e : Refusal) (k : ℕ) (cs : Conditions) → number_of e ≡ k → number_of e ≡ first (carried k ∷ cs)
-found_here e k cs h =
-    let p : 0 < k = omega (arith, number_positive e, h) in
-    h ∙ sym (carried_here k cs p)
-
-pub found_none : (k n : ℕ) (cs : Conditions) → 0 ≡ k → n ≡ first cs → n ≡ first (carried k ∷ cs)
-found_none k n cs h e = e ∙ sym (carried_skip k cs (sym h))
 
 module _ {A : Type 0} where
   -- a call answers with the refusal that was found, or, where none was, with its own answer

@@ -3,8 +3,6 @@
 use Rattle.std.specs.Prelude.{Bool, cond, not, List, [], ◌∷◌, ℕ, zero, suc, eqb, Result, Ok, Err}
 use Rattle.buffers.specs.declared.reasons.Refusal.{Refusal}
 use Rattle.buffers.specs.declared.reasons.Refusal.TheVariants as why
-use Rattle.buffers.specs.declared.Answer.{Answer}
-use Rattle.buffers.specs.declared.Answer.TheVariants.{Accepted, Refused}
 
 -- a call's conditions in the order in which they are tried, each with the number that it gives
 abbrev pub Conditions : Type 0
@@ -33,11 +31,6 @@ reply (suc k) a = refused (suc k)
 unfoldable pub unless_refused : {A : Type 0} → ℕ → A → A → A
 unless_refused zero written before = written
 unless_refused (suc k) written before = before
-
--- the number and the value of each case of the answer that the calls return
-unfoldable pub reply_of : Answer → Reply ℕ
-reply_of (Accepted n) = accepted n
-reply_of (Refused k) = refused k
 
 -- the number of a refusal, by the name that the code gives it
 abbrev pub number_of : Refusal → ℕ
