@@ -18,6 +18,7 @@ const BLOCK: usize = 64;
 // Guesses the root of 1 + q * q for each q. Nothing is promised of the guesses.
 fn guess_roots(qs: &[f64], roots: &mut [f64])
     requires { length roots.old ≡ length qs.now }
+    ensures { length roots.new ≡ length roots.old }
 {
     for k in 0..qs.len() {
         let u = qs[k] * qs[k];

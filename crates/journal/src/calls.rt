@@ -1,4 +1,5 @@
 // Begin, work, work over a range, recover and collect on a plan. Each tries its refusals in their order, and writes nothing until all have passed.
+// A journal is a buffer and its used length, as C lends it: what is right is said of the whole buffer (specs/Right, `right`).
 ghost use Rattle.std.specs.Prelude.{◌≡◌, List, Float, length};
 ghost use Rattle.buffers.specs.Refusal.{found, replied};
 ghost use Rattle.solar_roll.specs.Plan.{Plan as PlanOf, lent};

@@ -1,4 +1,5 @@
 // Begin, work, work over a range, recover and collect on a plan whose rolls are a lent table: as without `_rolls`, but for the table in the place of n.
+// One function over either would be lent an enum of the two; each pair shares its body instead.
 ghost use Rattle.std.specs.Prelude.{◌≡◌};
 ghost use Rattle.buffers.specs.Refusal.{replied};
 ghost use Rattle.solar_roll.specs.Plan.{Plan as PlanOf, lent};

@@ -21,7 +21,7 @@ const LIMIT: f64 = 1.0e100;
 // How far a direction's squared length may be from 1.
 const UNIT_TOLERANCE: f64 = 1.0e-9;
 
-// A roll to evaluate at: one candidate of a sweep, or the one that is asked for.
+// A roll to evaluate at: one candidate of a sweep, or the one that is asked for. Neither is an error, so it is no Result.
 #[derive(Clone, Copy)]
 pub enum EvaluationRoll {
     Sweep(f64),
