@@ -5,6 +5,9 @@ use Prim.Native.Nat.{ℕ, zero, suc, ◌+◌, ◌*◌, ◌≤◌, ◌<◌}
 use native.Mathlib.Omega.{arith}
 use lib.Dec.{eqb, leb, lit<}
 use borrow.Author.Tests.{eqb-false, leb-true, leb-false, ne_eqb, lt-leb, le-leb}
+use Rattle.std.specs.Prelude.{Result, Ok, Err}
+use Rattle.buffers.specs.Refusal.{accepted, replied}
+use Rattle.buffers.specs.declared.reasons.Refusal.{Refusal}
 use Rattle.buffers.proofs.Refusals.{first_none, first_skip, first_clear, carried_skip, carried_clear}
 use Rattle.buffers.proofs.Tests.{and_left, and_right}
 use Rattle.buffers.proofs.Rows.{some_time}
@@ -12,6 +15,7 @@ use Rattle.solar_roll.specs.Plan.{Plan, rows_of, times_of, most_rows, most_times
 use Rattle.solar_roll.proofs.PlanFacts.{few, not_too_many, few_of_plan}
 use Rattle.roll_sweep.specs.Sweep.{chunks, cells_in}
 use Rattle.roll_sweep.specs.Chunk.{chunk_refusal}
+use Rattle.roll_sweep.specs.declared.chunk.Swept.{Swept}
 
 pub record ChunkFacts (rows times units samples c : ℕ) : Type 0 where
   pub some_unit : 0 < units
@@ -89,3 +93,12 @@ chunk_accepted p units samples c f u s h =
     ∙ carried_skip _ _ s
     ∙ first_skip _ _ _ (lt-leb _ _ h)
     ∙ first_none
+
+-- a sweep whose answer is accepted gives what the reply has, and is never refused
+pub answer_swept : (a : Result Swept Refusal) (x s : Swept) → replied a ≡ accepted x → a ≡ Ok s → s ≡ x
+answer_swept (Ok y) x s h q = cc
+answer_swept (Err why) x s h q = absurd cc
+
+pub answer_never : (a : Result Swept Refusal) (why : Refusal) (x : Swept) → replied a ≡ accepted x → a ≡ Err why → ⊥
+answer_never (Ok y) why x h q = cc
+answer_never (Err k) why x h q = cc

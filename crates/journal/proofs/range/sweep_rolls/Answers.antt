@@ -9,7 +9,7 @@ use Rattle.roll_sweep.specs.declared.chunk.Swept.{Swept}
 use Rattle.roll_sweep.specs.Chunk.{swept_of}
 use Rattle.journal.specs.Plan.{sweep_of}
 use Rattle.solar_roll.specs.Plan.{lent, rows_of, times_of, sun_at}
-use Rattle.roll_sweep.proofs.ChunkFacts.{Held}
+use Rattle.roll_sweep.proofs.ChunkFacts.{Held, answer_swept, answer_never}
 use Rattle.journal.proofs.Planned.{chunk_held, swept_by_times, swept_by_cells}
 use Rattle.journal.proofs.range.sweep_rolls.Goals as goal
 use Rattle.journal.proofs.range.sweep_rolls.Goals.{After-cells_in-cells, After-sweep_chunk, After-sweep_chunk-2}
@@ -20,15 +20,10 @@ cells_held c =
     chunk_held (lent c.args.plan.now) c.args.rolls.now 0 c.args.chunk c.requires.0 c.requires.1 c.requires.2 c.requires.4 _
     (rw (← c.rows.ensures, ← c.times-times.ensures) c.cells_in-cells.ensures)
 
--- a sweep that is not refused is given
+-- a sweep that is not refused has a value
 ok : (r : Result Swept Refusal) (x : Swept) → replied r ≡ accepted x → IsOk r
 ok (Ok y) x e = refl
-ok (Err why) x e = absurd cc
-
--- and is what the reply has
-given : (r : Result Swept Refusal) (x y : Swept) → replied r ≡ accepted x → r ≡ Ok y → y ≡ x
-given (Ok z) x y e g = cc
-given (Err why) x y e g = absurd cc
+ok (Err why) x e = absurd (answer_never _ why x e refl)
 
 -- by the units of all times
 by_times : (c : After-sweep_chunk) → replied c.sweep_chunk.result ≡ accepted (swept_of (sweep_of (lent c.args.plan.now) c.args.rolls.now 0) c.args.chunk)
@@ -48,7 +43,7 @@ pub unwrap-requires : goal.unwrap-requires
 unwrap-requires c = ok _ _ (by_times c)
 
 pub returns-then-units-gt0 : goal.returns-then-units-gt0
-returns-then-units-gt0 c = given _ _ _ (by_times (goal.at.returns-then-units-gt0 c).After-sweep_chunk) c.unwrap.ensures
+returns-then-units-gt0 c = answer_swept _ _ _ (by_times (goal.at.returns-then-units-gt0 c).After-sweep_chunk) c.unwrap.ensures
 
 pub overflow_mul-chunk : goal.overflow_mul-chunk
 overflow_mul-chunk c = omega (arith, (cells_held (goal.at.overflow_mul-chunk c).After-cells_in-cells).within)
@@ -61,4 +56,4 @@ pub unwrap-requires-2 : goal.unwrap-requires-2
 unwrap-requires-2 c = ok _ _ (by_cells c)
 
 pub returns : goal.returns
-returns c = given _ _ _ (by_cells (goal.at.returns c).After-sweep_chunk-2) c.unwrap-2.ensures
+returns c = answer_swept _ _ _ (by_cells (goal.at.returns c).After-sweep_chunk-2) c.unwrap-2.ensures
