@@ -7,7 +7,7 @@ use native.Mathlib.Omega.{arith}
 use lib.Dec.{ltb}
 use borrow.Author.Tests.{ne_eqb, ltb-true}
 use Rattle.std.specs.Prelude.{Ok, Err}
-use Rattle.buffers.specs.Refusal.{Conditions, first, carried, refused, accepted, reply, unless_refused, number_of, replied}
+use Rattle.buffers.specs.Refusal.{Conditions, first, carried, refused, accepted, reply, unless_refused, number_of, replied, found}
 use Rattle.buffers.specs.declared.reasons.Refusal.{Refusal}
 use Rattle.buffers.specs.declared.reasons.Refusal.TheVariants as why
 use Rattle.buffers.proofs.Tests.{and_left, and_right}
@@ -126,6 +126,10 @@ number_positive (why.ToleranceCountDiffers) = omega arith
 number_positive (why.RollTableLength) = omega arith
 number_positive (why.RollTableEntry) = omega arith
 number_positive (why.TargetNotUnit) = omega arith
+
+-- a result's number and reply, case by case
+pub of_result : {A : Type 0} (a : A) (e : Refusal) → (found (Ok a) ≡ 0) × (found {A = A} (Err e) ≡ number_of e) × (replied (Ok a) ≡ accepted a) × (replied {A = A} (Err e) ≡ refused (number_of e))
+of_result a e = (refl, refl, refl, refl)
 
 module _ {A : Type 0} where
   -- a call answers with the refusal that was found, or, where none was, with its own answer

@@ -7,7 +7,8 @@ use Rattle.buffers.specs.Refusal.{first, carried, refused, accepted, reply, unle
 use Rattle.float.specs.Arithmetic.{zero·0}
 use Rattle.solar_roll.specs.Plan.{too_many, samples_refusal}
 use Rattle.roll_sweep.specs.Sweep.{chunks}
-use Rattle.cost.specs.Cost.{journal_length, size_refusal, cost_refusal, cost_reply, cost_after, plan_lists, plan_short, writing_refusal, writing_reply}
+use Rattle.cost.specs.Cost.{journal_length, size_refusal, cost_refusal, cost_reply, cost_after, plan_lists, lent, same_lists, plan_short, writing_refusal, writing_reply}
+use Rattle.cost.specs.declared.PlanLists.{PlanLists as LentLists}
 
 -- of 13 targets, 5 times and 24 rolls: 65 cells, so two chunks; 2 before 3 before 7, and refused, nothing changes
 pub costs :
@@ -52,3 +53,10 @@ pub writings :
     (writing_reply 1 1 0 (plan_lists [] [] [] [] []) ≡ refused 3)
 unfolding writing_reply writing_refusal size_refusal plan_short too_many samples_refusal first carried reply
 writings = (refl, refl, refl, refl, refl, refl, refl, refl)
+
+-- the struct that a call is lent, whose lists are the plan's, and which borrows the same lists as itself
+pub lent_lists : (l : LentLists) → lent l ≡ plan_lists l.targets.now l.suns.now l.observers.now l.tolerances.now l.panel.now
+lent_lists l = refl
+
+pub same_as_itself : (l : LentLists) → same_lists l l
+same_as_itself l = (refl, refl, refl, refl, refl)
