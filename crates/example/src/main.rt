@@ -2,58 +2,29 @@
 // number instead.
 #![tactic(auto)]
 
-use buffers::Answer;
+use buffers::Refusal;
 use journal::{begin, work};
-use solar_roll::ConfiguredRoll;
+use solar_roll::Plan;
 use std::io;
 
-// What a call answers: a number, or the number of its refusal.
-type Reply = Result<u64, u64>;
-
-fn reply(answer: Answer) -> Reply {
-    match answer {
-        Answer::Accepted(used) => Ok(used),
-        Answer::Refused(number) => Err(number),
-    }
-}
-
 // The header, then the line of the only chunk.
-fn write_journal(journal: &mut [u8]) -> Reply {
-    let target = [1.0, 0.0, 0.0];
-    let suns = [0.0, 1.0, 0.0, 0.0, 0.0, 1.0];
-    let observers = [0.0; 6];
-    let tolerances = [10.0];
-    let none = ConfiguredRoll::None;
-    let panels = [0.0, 1.0, 0.0];
-    let used = reply(begin(
-        &target,
-        &suns,
-        &observers,
-        &tolerances,
-        none,
-        &panels,
-        1,
-        journal,
-        0,
-    ))?;
-    reply(work(
-        &target,
-        &suns,
-        &observers,
-        &tolerances,
-        none,
-        &panels,
-        1,
-        0,
-        journal,
-        used,
-    ))
+fn write_journal(journal: &mut [u8]) -> Result<u64, Refusal> {
+    let plan = Plan {
+        targets: &[1.0, 0.0, 0.0],
+        suns: &[0.0, 1.0, 0.0, 0.0, 0.0, 1.0],
+        observers: &[0.0; 6],
+        tolerances: &[10.0],
+        configured: None,
+        panels: &[0.0, 1.0, 0.0],
+    };
+    let used = begin(&plan, 1, journal, 0)?;
+    work(&plan, 1, 0, journal, used)
 }
 
 fn main(rt: HostRuntime) -> io::Result<()> {
     let mut journal = [0u8; 140];
     match write_journal(&mut journal) {
         Ok(used) => rt.write_all(journal.get(..used as usize).unwrap_or_default()),
-        Err(number) => println!(rt; "{number}"),
+        Err(refusal) => println!(rt; "{}", refusal.number()),
     }
 }
