@@ -2,9 +2,8 @@
 // Every place of a column holds 7 before a call, so that a place that stays is seen.
 #![tactic(auto)]
 
-use buffers::Answer;
+use buffers::Refusal;
 use std::{array, io};
-use windows::Duration;
 
 // The columns that a listing writes.
 #[derive(Drop)]
@@ -29,7 +28,12 @@ impl<const N: usize> Columns<N> {
         }
     }
 
-    fn list_violations(&mut self, mask: &[u8], times: &[i64], severities: &[f64]) -> Answer {
+    fn list_violations(
+        &mut self,
+        mask: &[u8],
+        times: &[i64],
+        severities: &[f64],
+    ) -> Result<u64, Refusal> {
         windows::violation_windows(
             mask,
             times,
@@ -43,7 +47,7 @@ impl<const N: usize> Columns<N> {
         )
     }
 
-    fn list_visibility(&mut self, mask: &[u8], times: &[i64]) -> Answer {
+    fn list_visibility(&mut self, mask: &[u8], times: &[i64]) -> Result<u64, Refusal> {
         windows::visibility_windows(
             mask,
             times,
@@ -71,21 +75,18 @@ impl<const N: usize> Columns<N> {
     }
 }
 
-fn show_answer(rt: &impl Print, answer: Answer) -> io::Result<()> {
+fn show_answer(rt: &impl Print, answer: Result<u64, Refusal>) -> io::Result<()> {
     match answer {
-        Answer::Accepted(n) => println!(rt; " accepted {n}"),
-        Answer::Refused(k) => println!(rt; " refused {k}"),
+        Ok(n) => println!(rt; " accepted {n}"),
+        Err(refusal) => println!(rt; " refused {}", refusal.number()),
     }
 }
 
 // Seconds as a bit pattern in hexadecimal, which shows the sign of a zero.
-fn show_duration(rt: &impl Print, duration: Duration) -> io::Result<()> {
+fn show_duration(rt: &impl Print, duration: Result<f64, Refusal>) -> io::Result<()> {
     match duration {
-        Duration::Seconds(x) => {
-            let word = float::bits(x);
-            println!(rt; " seconds {word:016x}")
-        }
-        Duration::Refused(k) => println!(rt; " refused {k}"),
+        Ok(x) => println!(rt; " seconds {:016x}", float::bits(x)),
+        Err(refusal) => println!(rt; " refused {}", refusal.number()),
     }
 }
 
