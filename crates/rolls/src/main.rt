@@ -4,7 +4,7 @@
 mod show;
 
 use show::{answered, bits, bytes, cell};
-use solar_roll::{ConfiguredRoll, EvaluationRoll, cell_roll};
+use solar_roll::{EvaluationRoll, Plan, cell_roll};
 use std::io;
 
 const X: [f64; 3] = [1.0, 0.0, 0.0];
@@ -54,43 +54,53 @@ fn refused_cells(rt: &impl Print) -> io::Result<()> {
 }
 
 // Two targets at two times: rolls 0 and 90, then a free cell and 90.
-const TARGETS: [f64; 6] = [1.0, 0.0, 0.0, 0.0, 1.0, 0.0];
+const PLAN: Plan<'static> = Plan {
+    targets: &[1.0, 0.0, 0.0, 0.0, 1.0, 0.0],
+    suns: &[0.0, 1.0, 0.0, 0.0, 0.0, 1.0],
+    observers: &[0.0; 6],
+    tolerances: &[10.0, 10.0],
+    configured: None,
+    panels: &Y,
+};
 
-const SUNS: [f64; 6] = [0.0, 1.0, 0.0, 0.0, 0.0, 1.0];
+// A target at one time.
+const ONE: Plan<'static> = Plan {
+    targets: &X,
+    suns: &Y,
+    observers: &ORIGIN,
+    tolerances: &[10.0],
+    configured: None,
+    panels: &Y,
+};
 
-const OBSERVERS: [f64; 6] = [0.0, 0.0, 0.0, 0.0, 0.0, 0.0];
+fn with_tolerances(tolerances: &[f64]) -> Plan<'_> {
+    Plan { tolerances, ..PLAN }
+}
 
-const TEN: [f64; 2] = [10.0, 10.0];
+fn with_roll(plan: Plan<'_>, roll_deg: f64) -> Plan<'_> {
+    Plan {
+        configured: Some(roll_deg),
+        ..plan
+    }
+}
 
-// Each of these asks one question about them and shows the mask: one call a function, which is proved sooner than many.
-fn batch(
-    rt: &impl Print,
-    question: &str,
-    configured: ConfiguredRoll,
-    mask: &mut [u8],
-) -> io::Result<()> {
-    answered(
-        rt,
-        question,
-        solar_masks::in_constraint_batch(&TARGETS, &SUNS, &OBSERVERS, &TEN, configured, &Y, mask),
-    )?;
+// Each of these asks one question about a plan and shows the mask: one call a function, which is proved sooner than many.
+fn batch(rt: &impl Print, question: &str, plan: &Plan, mask: &mut [u8]) -> io::Result<()> {
+    answered(rt, question, solar_masks::in_constraint_batch(plan, mask))?;
     bytes(rt, mask)
 }
 
 fn at_roll(
     rt: &impl Print,
     question: &str,
-    tolerances: &[f64],
-    configured: ConfiguredRoll,
+    plan: &Plan,
     roll: EvaluationRoll,
     mask: &mut [u8],
 ) -> io::Result<()> {
     answered(
         rt,
         question,
-        solar_masks::in_constraint_batch_at_roll(
-            &TARGETS, &SUNS, &OBSERVERS, tolerances, configured, &Y, roll, mask,
-        ),
+        solar_masks::in_constraint_batch_at_roll(plan, roll, mask),
     )?;
     bytes(rt, mask)
 }
@@ -99,16 +109,7 @@ fn at_every_roll(rt: &impl Print, question: &str, n: u64, mask: &mut [u8]) -> io
     answered(
         rt,
         question,
-        solar_masks::in_constraint_batch_constrained_at_every_roll(
-            &TARGETS,
-            &SUNS,
-            &OBSERVERS,
-            &TEN,
-            ConfiguredRoll::None,
-            &Y,
-            n,
-            mask,
-        ),
+        solar_masks::in_constraint_batch_constrained_at_every_roll(&PLAN, n, mask),
     )?;
     bytes(rt, mask)
 }
@@ -123,43 +124,27 @@ fn field_of_regard(
     answered(
         rt,
         question,
-        solar_masks::field_of_regard_violated_at_roll(
-            &TARGETS,
-            &SUNS,
-            &OBSERVERS,
-            &TEN,
-            ConfiguredRoll::None,
-            &Y,
-            time,
-            roll,
-            mask,
-        ),
+        solar_masks::field_of_regard_violated_at_roll(&PLAN, time, roll, mask),
     )?;
     bytes(rt, mask)
 }
 
 fn masks(rt: &impl Print) -> io::Result<()> {
     let mut mask = [9u8; 6];
-    batch(rt, "no configured roll", ConfiguredRoll::None, &mut mask)?;
-    batch(
-        rt,
-        "configured roll 0",
-        ConfiguredRoll::Some(0.0),
-        &mut mask,
-    )?;
+    let at_zero = with_roll(PLAN, 0.0);
+    batch(rt, "no configured roll", &PLAN, &mut mask)?;
+    batch(rt, "configured roll 0", &at_zero, &mut mask)?;
     at_roll(
         rt,
         "Sweep 90 with 0 configured",
-        &TEN,
-        ConfiguredRoll::Some(0.0),
+        &at_zero,
         EvaluationRoll::Sweep(90.0),
         &mut mask,
     )?;
     at_roll(
         rt,
         "Fixed 90 with 0 configured",
-        &TEN,
-        ConfiguredRoll::Some(0.0),
+        &at_zero,
         EvaluationRoll::Fixed(90.0),
         &mut mask,
     )
@@ -167,36 +152,33 @@ fn masks(rt: &impl Print) -> io::Result<()> {
 
 fn masks_by_tolerance(rt: &impl Print) -> io::Result<()> {
     let mut mask = [9u8; 6];
+    let zero = EvaluationRoll::Sweep(0.0);
     at_roll(
         rt,
         "tolerance 90 met exactly at roll 0",
-        &[90.0, 90.0],
-        ConfiguredRoll::None,
-        EvaluationRoll::Sweep(0.0),
+        &with_tolerances(&[90.0, 90.0]),
+        zero,
         &mut mask,
     )?;
     at_roll(
         rt,
         "NaN tolerance",
-        &[f64::NAN, f64::NAN],
-        ConfiguredRoll::None,
-        EvaluationRoll::Sweep(0.0),
+        &with_tolerances(&[f64::NAN, f64::NAN]),
+        zero,
         &mut mask,
     )?;
     at_roll(
         rt,
         "tolerance -1",
-        &[-1.0, -1.0],
-        ConfiguredRoll::None,
-        EvaluationRoll::Sweep(0.0),
+        &with_tolerances(&[-1.0, -1.0]),
+        zero,
         &mut mask,
     )?;
     at_roll(
         rt,
         "tolerance -1, then NaN",
-        &[-1.0, f64::NAN],
-        ConfiguredRoll::None,
-        EvaluationRoll::Sweep(0.0),
+        &with_tolerances(&[-1.0, f64::NAN]),
+        zero,
         &mut mask,
     )?;
     at_every_roll(rt, "every roll, n = 1", 1, &mut mask)?;
@@ -207,18 +189,15 @@ fn masks_by_tolerance(rt: &impl Print) -> io::Result<()> {
 fn row(
     rt: &impl Print,
     question: &str,
+    plan: &Plan,
     target: u64,
-    tolerances: &[f64],
-    configured: ConfiguredRoll,
     mask: &mut [u8],
     severities: &mut [f64],
 ) -> io::Result<()> {
     answered(
         rt,
         question,
-        solar_masks::evaluate(
-            &TARGETS, &SUNS, &OBSERVERS, tolerances, configured, &Y, target, mask, severities,
-        ),
+        solar_masks::evaluate(plan, target, mask, severities),
     )?;
     bytes(rt, mask)?;
     bits(rt, severities)
@@ -230,36 +209,33 @@ fn rows(rt: &impl Print) -> io::Result<()> {
     row(
         rt,
         "row 0, configured roll 0",
+        &with_roll(PLAN, 0.0),
         0,
-        &TEN,
-        ConfiguredRoll::Some(0.0),
         &mut mask,
         &mut severities,
     )?;
+    let two_tolerances = with_roll(with_tolerances(&[-f64::INFINITY, 10.0]), 0.0);
     row(
         rt,
         "row 0, tolerance -infinity",
+        &two_tolerances,
         0,
-        &[-f64::INFINITY, 10.0],
-        ConfiguredRoll::Some(0.0),
         &mut mask,
         &mut severities,
     )?;
     row(
         rt,
         "row 1, tolerance 10",
+        &two_tolerances,
         1,
-        &[-f64::INFINITY, 10.0],
-        ConfiguredRoll::Some(0.0),
         &mut mask,
         &mut severities,
     )?;
     row(
         rt,
         "row 0, no configured roll",
+        &PLAN,
         0,
-        &TEN,
-        ConfiguredRoll::None,
         &mut mask,
         &mut severities,
     )?;
@@ -267,89 +243,37 @@ fn rows(rt: &impl Print) -> io::Result<()> {
     answered(
         rt,
         "named values, of a free cell too",
-        solar_masks::named_values(
-            &TARGETS,
-            &SUNS,
-            &OBSERVERS,
-            &TEN,
-            ConfiguredRoll::None,
-            &Y,
-            &mut values,
-        ),
+        solar_masks::named_values(&PLAN, &mut values),
     )?;
     bits(rt, &values)
 }
 
 // The masks of what is refused, or has no cell: nothing is shown, as none is written.
-fn refused_batch(
-    rt: &impl Print,
-    question: &str,
-    targets: &[f64],
-    suns: &[f64],
-    observers: &[f64],
-    tolerances: &[f64],
-    mask: &mut [u8],
-) -> io::Result<()> {
-    answered(
-        rt,
-        question,
-        solar_masks::in_constraint_batch(
-            targets,
-            suns,
-            observers,
-            tolerances,
-            ConfiguredRoll::None,
-            &Y,
-            mask,
-        ),
-    )
+fn refused_batch(rt: &impl Print, question: &str, plan: &Plan, mask: &mut [u8]) -> io::Result<()> {
+    answered(rt, question, solar_masks::in_constraint_batch(plan, mask))
 }
 
 fn refused_row(
     rt: &impl Print,
     question: &str,
-    targets: &[f64],
-    suns: &[f64],
-    observers: &[f64],
-    tolerances: &[f64],
+    plan: &Plan,
     mask: &mut [u8],
     severities: &mut [f64],
 ) -> io::Result<()> {
     answered(
         rt,
         question,
-        solar_masks::evaluate(
-            targets,
-            suns,
-            observers,
-            tolerances,
-            ConfiguredRoll::None,
-            &Y,
-            0,
-            mask,
-            severities,
-        ),
+        solar_masks::evaluate(plan, 0, mask, severities),
     )
 }
 
 // n over 3,600, by both calls that take it.
-fn refused_samples(
-    rt: &impl Print,
-    targets: &[f64],
-    suns: &[f64],
-    observers: &[f64],
-    mask: &mut [u8],
-) -> io::Result<()> {
+fn refused_samples(rt: &impl Print, plan: Plan, mask: &mut [u8]) -> io::Result<()> {
     answered(
         rt,
         "n = 3601 with a configured roll",
         solar_masks::in_constraint_batch_constrained_at_every_roll(
-            targets,
-            suns,
-            observers,
-            &TEN,
-            ConfiguredRoll::Some(0.0),
-            &Y,
+            &with_roll(plan, 0.0),
             3601,
             mask,
         ),
@@ -357,17 +281,7 @@ fn refused_samples(
     answered(
         rt,
         "n = 2^40",
-        solar_masks::field_of_regard_violated_batch(
-            targets,
-            suns,
-            observers,
-            &TEN,
-            ConfiguredRoll::None,
-            &Y,
-            0,
-            1099511627776,
-            mask,
-        ),
+        solar_masks::field_of_regard_violated_batch(&plan, 0, 1099511627776, mask),
     )
 }
 
@@ -377,133 +291,88 @@ fn refused_field(
     tolerances: &[f64],
     mask: &mut [u8],
 ) -> io::Result<()> {
+    let plan = Plan {
+        suns: &[],
+        observers: &[],
+        ..with_tolerances(tolerances)
+    };
     answered(
         rt,
         question,
-        solar_masks::field_of_regard_violated_at_roll(
-            &TARGETS,
-            &SUNS[..0],
-            &OBSERVERS[..0],
-            tolerances,
-            ConfiguredRoll::None,
-            &Y,
-            0,
-            0.0,
-            mask,
-        ),
+        solar_masks::field_of_regard_violated_at_roll(&plan, 0, 0.0, mask),
     )
 }
 
-// A target beyond 1, and a Sun whose last number is NaN.
-const BEYOND: [f64; 3] = [2.0, 0.0, 0.0];
+// The target is beyond 1, and the last number of the Suns NaN.
+fn beyond() -> Plan<'static> {
+    Plan {
+        targets: &[2.0, 0.0, 0.0],
+        suns: &[0.0, 1.0, 0.0, 0.0, 0.0, f64::NAN],
+        ..PLAN
+    }
+}
 
 fn refused_lengths(rt: &impl Print, mask: &mut [u8]) -> io::Result<()> {
-    let suns = [0.0, 1.0, 0.0, 0.0, 0.0, f64::NAN];
-    refused_batch(
-        rt,
-        "targets of 2 numbers",
-        &BEYOND[..2],
-        &suns,
-        &OBSERVERS,
-        &TEN,
-        mask,
-    )?;
-    refused_batch(
-        rt,
-        "fewer observers than Suns",
-        &BEYOND,
-        &suns,
-        &ORIGIN,
-        &TEN,
-        mask,
-    )?;
-    refused_samples(rt, &BEYOND, &suns, &OBSERVERS, mask)
+    let beyond = beyond();
+    let two_numbers = Plan {
+        targets: &[2.0, 0.0],
+        ..beyond
+    };
+    refused_batch(rt, "targets of 2 numbers", &two_numbers, mask)?;
+    let fewer = Plan {
+        observers: &ORIGIN,
+        ..beyond
+    };
+    refused_batch(rt, "fewer observers than Suns", &fewer, mask)?;
+    refused_samples(rt, beyond, mask)
 }
 
 fn refused_numbers(rt: &impl Print, mask: &mut [u8]) -> io::Result<()> {
-    let suns = [0.0, 1.0, 0.0, 0.0, 0.0, f64::NAN];
-    refused_batch(
-        rt,
-        "target 2, NaN in the last Sun",
-        &BEYOND,
-        &suns,
-        &OBSERVERS,
-        &TEN,
-        mask,
-    )?;
-    refused_batch(rt, "target 2", &BEYOND, &suns[..3], &ORIGIN, &TEN, mask)?;
-    refused_batch(
-        rt,
-        "no targets",
-        &BEYOND[..0],
-        &suns[..3],
-        &ORIGIN,
-        &TEN[..0],
-        mask,
-    )?;
-    refused_field(rt, "no times, field of regard", &TEN, mask)
+    refused_batch(rt, "target 2, NaN in the last Sun", &beyond(), mask)?;
+    let at_one_time = Plan {
+        suns: &Y,
+        observers: &ORIGIN,
+        ..beyond()
+    };
+    refused_batch(rt, "target 2", &at_one_time, mask)?;
+    let none = Plan {
+        targets: &[],
+        tolerances: &[],
+        ..ONE
+    };
+    refused_batch(rt, "no targets", &none, mask)?;
+    refused_field(rt, "no times, field of regard", PLAN.tolerances, mask)
 }
 
 fn refused_tolerances(rt: &impl Print, mask: &mut [u8]) -> io::Result<()> {
-    refused_batch(
-        rt,
-        "two tolerances for a target",
-        &X,
-        &Y,
-        &ORIGIN,
-        &TEN,
-        mask,
-    )?;
-    refused_batch(
-        rt,
-        "no tolerance for a target",
-        &X,
-        &Y,
-        &ORIGIN,
-        &TEN[..0],
-        mask,
-    )?;
-    refused_field(
-        rt,
-        "no times, one tolerance for two targets",
-        &TEN[..1],
-        mask,
-    )
+    let two = Plan {
+        tolerances: &[10.0, 10.0],
+        ..ONE
+    };
+    refused_batch(rt, "two tolerances for a target", &two, mask)?;
+    let none = Plan {
+        tolerances: &[],
+        ..ONE
+    };
+    refused_batch(rt, "no tolerance for a target", &none, mask)?;
+    refused_field(rt, "no times, one tolerance for two targets", &[10.0], mask)
 }
 
 fn too_short(rt: &impl Print, mask: &mut [u8]) -> io::Result<()> {
-    let mut severities = [9.0; 2];
-    let mut unlent_mask = [9u8; 1];
-    let mut unlent_severities = [9.0; 1];
+    let no_rows = Plan {
+        targets: &[],
+        tolerances: &[],
+        ..ONE
+    };
     refused_row(
         rt,
         "row 0 of no rows, no room",
-        &TARGETS[..0],
-        &Y,
-        &ORIGIN,
-        &TEN[..0],
-        &mut unlent_mask[..0],
-        &mut severities,
+        &no_rows,
+        &mut [],
+        &mut [9.0; 2],
     )?;
-    refused_row(
-        rt,
-        "no room for the severities",
-        &X,
-        &Y,
-        &ORIGIN,
-        &TEN[..1],
-        mask,
-        &mut unlent_severities[..0],
-    )?;
-    refused_batch(
-        rt,
-        "no room for the mask",
-        &X,
-        &Y,
-        &ORIGIN,
-        &TEN[..1],
-        &mut unlent_mask[..0],
-    )
+    refused_row(rt, "no room for the severities", &ONE, mask, &mut [])?;
+    refused_batch(rt, "no room for the mask", &ONE, &mut [])
 }
 
 fn main(rt: HostRuntime) -> io::Result<()> {

@@ -1,5 +1,5 @@
 // Answers as lines of text.
-use buffers::Answer;
+use buffers::Refusal;
 use float::bits as pattern;
 use solar_roll::CellRoll;
 use std::io;
@@ -17,10 +17,14 @@ pub(crate) fn cell(rt: &impl Print, question: &str, c: CellRoll) -> io::Result<(
 }
 
 // What was asked, and what a call answered.
-pub(crate) fn answered(rt: &impl Print, question: &str, answer: Answer) -> io::Result<()> {
+pub(crate) fn answered(
+    rt: &impl Print,
+    question: &str,
+    answer: Result<u64, Refusal>,
+) -> io::Result<()> {
     match answer {
-        Answer::Accepted(number) => println!(rt; "{question}: accepted {number}"),
-        Answer::Refused(number) => println!(rt; "{question}: refused {number}"),
+        Ok(number) => println!(rt; "{question}: accepted {number}"),
+        Err(refusal) => println!(rt; "{question}: refused {}", refusal.number()),
     }
 }
 
