@@ -2,8 +2,8 @@
 // ended: what they wrote stands, and nothing else.
 ghost use Rattle.std.specs.Prelude.{◌≤◌};
 
-use crate::plan::{Plan, Reply, begin, collect, first, plan_by_table, plan_of, recover, work};
-use solar_roll::ConfiguredRoll;
+use crate::plan::{SmallPlan, begin, collect, first, plan_by_table, plan_of, recover, work};
+use buffers::Refusal;
 use std::ops::AddAssign;
 use std::{fmt, io};
 
@@ -68,7 +68,7 @@ static ORDERS: [[Part; 4]; 6] = [
     [Part::Header, Part::Line(2), Part::Line(1), Part::Line(0)],
 ];
 
-fn orders(plan: Plan) -> &'static [[Part; 4]] {
+fn orders(plan: SmallPlan) -> &'static [[Part; 4]] {
     match plan.writes {
         0..=2 => &ORDERS[..1],
         3 => &ORDERS[..2],
@@ -89,7 +89,7 @@ fn length_of(writes: usize) -> u64
     }
 }
 
-fn write(plan: Plan, part: Part, journal: &mut [u8], used: u64) -> Reply {
+fn write(plan: SmallPlan, part: Part, journal: &mut [u8], used: u64) -> Result<u64, Refusal> {
     match part {
         Part::Header => begin(plan, journal, used),
         Part::Line(chunk) => work(plan, chunk, journal, used),
@@ -97,7 +97,7 @@ fn write(plan: Plan, part: Part, journal: &mut [u8], used: u64) -> Reply {
 }
 
 // Tries to write each of the parts, and gives the used length. A header or a chunk that the journal has is refused.
-fn resume(plan: Plan, parts: &[Part], journal: &mut [u8], used: u64) -> u64 {
+fn resume(plan: SmallPlan, parts: &[Part], journal: &mut [u8], used: u64) -> u64 {
     let mut end = used;
     for part in parts {
         end = write(plan, *part, journal, end).unwrap_or(end);
@@ -106,7 +106,7 @@ fn resume(plan: Plan, parts: &[Part], journal: &mut [u8], used: u64) -> u64 {
 }
 
 // Starts again, with the first writes of the first order.
-pub(crate) fn start(plan: Plan, writes: usize, journal: &mut [u8]) {
+pub(crate) fn start(plan: SmallPlan, writes: usize, journal: &mut [u8]) {
     journal.fill(UNUSED);
     resume(plan, first(&ORDERS[0], writes), journal, 0);
 }
@@ -128,7 +128,7 @@ fn shortened(whole: &Journal, used: u64) -> Journal {
 // Without a cut: the plan, the number of an order, its parts, and the journal that they make.
 #[derive(Clone, Copy)]
 struct Uncut<'a> {
-    plan: Plan,
+    plan: SmallPlan,
     order: usize,
     parts: &'a [Part],
     whole: &'a Journal,
@@ -204,13 +204,18 @@ impl Uncut<'_> {
 }
 
 // Where there is something to drop, the journal takes no line and gives no mask. (Without a cell there is no chunk to work.)
-fn refuses_torn(plan: Plan, left: u64, journal: &mut [u8]) -> bool {
+fn refuses_torn(plan: SmallPlan, left: u64, journal: &mut [u8]) -> bool {
     let mut mask = [2u8; 160];
-    let no = if plan.writes == 1 { 9 } else { 12 };
-    collect(plan, journal, left, &mut mask) == Err(12) && work(plan, 0, journal, left) == Err(no)
+    let no = if plan.writes == 1 {
+        Refusal::NoSuchIndex
+    } else {
+        Refusal::JournalTorn
+    };
+    collect(plan, journal, left, &mut mask) == Err(Refusal::JournalTorn)
+        && work(plan, 0, journal, left) == Err(no)
 }
 
-fn tell_plan(rt: &impl Print, plan: Plan, whole: &Journal) -> io::Result<()> {
+fn tell_plan(rt: &impl Print, plan: SmallPlan, whole: &Journal) -> io::Result<()> {
     let mut mask = [2u8; 160];
     match collect(plan, whole, length_of(plan.writes), &mut mask) {
         Ok(probes) => {
@@ -222,7 +227,7 @@ fn tell_plan(rt: &impl Print, plan: Plan, whole: &Journal) -> io::Result<()> {
 }
 
 // Cuts every write of every order.
-fn cut_plan(rt: &impl Print, plan: Plan) -> io::Result<Tally> {
+fn cut_plan(rt: &impl Print, plan: SmallPlan) -> io::Result<Tally> {
     let mut tally = Tally::default();
     let mut whole = [UNUSED; 240];
     for (order, parts) in orders(plan).iter().enumerate() {
@@ -244,17 +249,17 @@ fn cut_plan(rt: &impl Print, plan: Plan) -> io::Result<Tally> {
 
 // The first has no cell, the second one; each of the others has clear and marked cells. The targets of one have different
 // tolerances; the last goes by a table.
-fn small_plans() -> [Plan; 10] {
+fn small_plans() -> [SmallPlan; 10] {
     [
-        plan_of(0, 70, 1, 1, [10.0; 2], ConfiguredRoll::None),
-        plan_of(1, 1, 2, 1, [10.0; 2], ConfiguredRoll::None),
-        plan_of(1, 64, 2, 3, [30.0; 2], ConfiguredRoll::None),
-        plan_of(2, 33, 3, 4, [20.0; 2], ConfiguredRoll::None),
-        plan_of(2, 70, 4, 1, [60.0; 2], ConfiguredRoll::None),
-        plan_of(2, 70, 4, 4, [20.0; 2], ConfiguredRoll::None),
-        plan_of(2, 70, 4, 2, [-1.0; 2], ConfiguredRoll::None),
-        plan_of(2, 70, 4, 3, [90.0; 2], ConfiguredRoll::Some(30.0)),
-        plan_of(2, 70, 4, 4, [20.0, 30.0], ConfiguredRoll::None),
+        plan_of(0, 70, 1, 1, [10.0; 2], None),
+        plan_of(1, 1, 2, 1, [10.0; 2], None),
+        plan_of(1, 64, 2, 3, [30.0; 2], None),
+        plan_of(2, 33, 3, 4, [20.0; 2], None),
+        plan_of(2, 70, 4, 1, [60.0; 2], None),
+        plan_of(2, 70, 4, 4, [20.0; 2], None),
+        plan_of(2, 70, 4, 2, [-1.0; 2], None),
+        plan_of(2, 70, 4, 3, [90.0; 2], Some(30.0)),
+        plan_of(2, 70, 4, 4, [20.0, 30.0], None),
         plan_by_table(5, 20.0),
     ]
 }

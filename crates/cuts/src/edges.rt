@@ -1,13 +1,13 @@
 // What each call says to a journal at an edge of being right, or to bad input: a line for each, where an accepted call gives its
 // value, a refused one "no" and its number, and one that alters a byte of what it is lent "and writes".
 use crate::cut::{shorten, start};
-use crate::plan::{Plan, Reply, Rolls, begin, collect, plan_by_table, plan_of, recover, work};
-use solar_roll::ConfiguredRoll;
+use crate::plan::{Rolls, SmallPlan, begin, collect, plan_by_table, plan_of, recover, work};
+use buffers::Refusal;
 use std::io;
 use std::ops::Range;
 
 // A call on a journal or a mask that it is lent.
-fn show<const N: usize, F: FnOnce(&mut [u8]) -> Reply>(
+fn show<const N: usize, F: FnOnce(&mut [u8]) -> Result<u64, Refusal>>(
     rt: &impl Print,
     name: &str,
     lent: &mut [u8; N],
@@ -18,7 +18,7 @@ fn show<const N: usize, F: FnOnce(&mut [u8]) -> Reply>(
     let before = *lent;
     match call(lent) {
         Ok(x) => print!(rt; "{name} {x}")?,
-        Err(no) => print!(rt; "{name} no {no}")?,
+        Err(refusal) => print!(rt; "{name} no {}", refusal.number())?,
     }
     if *lent != before {
         print!(rt; " and writes")?;
@@ -30,7 +30,7 @@ fn show<const N: usize, F: FnOnce(&mut [u8]) -> Reply>(
 fn show_calls<const N: usize>(
     rt: &impl Print,
     edge: &str,
-    plan: Plan,
+    plan: SmallPlan,
     chunk: u64,
     journal: &mut [u8; N],
     used: u64,
@@ -60,25 +60,25 @@ fn show_calls<const N: usize>(
 }
 
 // 140 cells in three chunks. At one roll a chunk of 64 cells has 64 probes.
-fn with(tolerances: [f64; 2]) -> Plan {
-    plan_of(2, 70, 4, 1, tolerances, ConfiguredRoll::None)
+fn with(tolerances: [f64; 2]) -> SmallPlan {
+    plan_of(2, 70, 4, 1, tolerances, None)
 }
 
-fn one_roll() -> Plan {
+fn one_roll() -> SmallPlan {
     with([60.0; 2])
 }
 
 // The same at n rolls.
-fn rolls(n: u64) -> Plan {
-    Plan {
+fn rolls(n: u64) -> SmallPlan {
+    SmallPlan {
         rolls: Rolls::Even(n),
         ..one_roll()
     }
 }
 
 // The same, lent only the first `count` of its tolerances.
-fn with_listed(count: usize) -> Plan {
-    Plan {
+fn with_listed(count: usize) -> SmallPlan {
+    SmallPlan {
         listed: count,
         ..one_roll()
     }
@@ -108,7 +108,13 @@ fn show_put(
 }
 
 // The first bytes of another plan's journal.
-fn show_other(rt: &impl Print, edge: &str, other: Plan, plan: Plan, used: u64) -> io::Result<()> {
+fn show_other(
+    rt: &impl Print,
+    edge: &str,
+    other: SmallPlan,
+    plan: SmallPlan,
+    used: u64,
+) -> io::Result<()> {
     let mut journal = [0u8; 240];
     start(other, 4, &mut journal);
     shorten(&mut journal, used);
@@ -148,7 +154,7 @@ fn show_room_for_mask(rt: &impl Print) -> io::Result<()> {
 }
 
 fn show_no_cells(rt: &impl Print) -> io::Result<()> {
-    let none = plan_of(2, 0, 1, 1, [60.0; 2], ConfiguredRoll::None);
+    let none = plan_of(2, 0, 1, 1, [60.0; 2], None);
     let mut journal = [0u8; 240];
     show_calls(rt, "no cells", none, 0, &mut journal, 0)?;
     show_calls(rt, "no cells, begun", none, 0, &mut journal, 107)

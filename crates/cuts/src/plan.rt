@@ -1,7 +1,7 @@
 // Small plans, and the journal's calls on them. Every plan takes its targets from two and its Suns from seventy, seen from the
 // origin.
-use buffers::Answer;
-use solar_roll::ConfiguredRoll;
+use buffers::Refusal;
+use solar_roll::Plan;
 use std::{array, fmt};
 
 const TARGETS: [f64; 6] = [1.0, 0.0, 0.0, 0.0, 0.6, 0.8];
@@ -23,14 +23,14 @@ pub(crate) enum Rolls {
 // A plan, and how many writes its whole journal has: the header's and one for each chunk. Of its two tolerances the first
 // `listed` are lent.
 #[derive(Clone, Copy)]
-pub(crate) struct Plan {
+pub(crate) struct SmallPlan {
     pub targets: usize,
     pub times: usize,
     pub writes: usize,
     pub rolls: Rolls,
     pub tolerances: [f64; 2],
     pub listed: usize,
-    pub configured: ConfiguredRoll,
+    pub configured: Option<f64>,
 }
 
 pub(crate) fn plan_of(
@@ -39,9 +39,9 @@ pub(crate) fn plan_of(
     writes: usize,
     n: u64,
     tolerances: [f64; 2],
-    configured: ConfiguredRoll,
-) -> Plan {
-    Plan {
+    configured: Option<f64>,
+) -> SmallPlan {
+    SmallPlan {
         targets,
         times,
         writes,
@@ -53,19 +53,19 @@ pub(crate) fn plan_of(
 }
 
 // Two targets of 70 times each, n rolls of the table.
-pub(crate) fn plan_by_table(n: usize, tolerance: f64) -> Plan {
-    Plan {
+pub(crate) fn plan_by_table(n: usize, tolerance: f64) -> SmallPlan {
+    SmallPlan {
         targets: 2,
         times: 70,
         writes: 4,
         rolls: Rolls::Table(n),
         tolerances: [tolerance; 2],
         listed: 2,
-        configured: ConfiguredRoll::None,
+        configured: None,
     }
 }
 
-impl fmt::Display for Plan {
+impl fmt::Display for SmallPlan {
     fn fmt<W: fmt::Write>(&self, f: &mut fmt::Formatter<W>) -> fmt::Result {
         let targets = self.targets;
         let times = self.times;
@@ -107,154 +107,61 @@ fn first_triples(list: &[f64], count: usize) -> &[f64] {
     first(list, count.saturating_mul(3))
 }
 
-// The lists of a plan, as a call is lent them.
-#[derive(Clone, Copy)]
-struct Lists<'a> {
-    targets: &'a [f64],
-    suns: &'a [f64],
-    observers: &'a [f64],
-    tolerances: &'a [f64],
-    configured: ConfiguredRoll,
-    panels: &'a [f64],
-}
-
-fn lent<'a>(plan: &'a Plan, suns: &'a [f64]) -> Lists<'a> {
-    Lists {
-        targets: first_triples(&TARGETS, plan.targets),
-        suns: first_triples(suns, plan.times),
-        observers: first_triples(&OBSERVERS, plan.times),
-        tolerances: first(&plan.tolerances, plan.listed),
-        configured: plan.configured,
-        panels: &PANELS,
+impl SmallPlan {
+    fn lent<'a>(&'a self, suns: &'a [f64]) -> Plan<'a> {
+        Plan {
+            targets: first_triples(&TARGETS, self.targets),
+            suns: first_triples(suns, self.times),
+            observers: first_triples(&OBSERVERS, self.times),
+            tolerances: first(&self.tolerances, self.listed),
+            configured: self.configured,
+            panels: &PANELS,
+        }
     }
 }
 
-// What a call answers: a number, or the number of its refusal.
-pub(crate) type Reply = Result<u64, u64>;
-
-fn reply(answer: Answer) -> Reply {
-    match answer {
-        Answer::Accepted(x) => Ok(x),
-        Answer::Refused(no) => Err(no),
+pub(crate) fn begin(small: SmallPlan, journal: &mut [u8], used: u64) -> Result<u64, Refusal> {
+    let suns = suns();
+    let plan = small.lent(&suns);
+    match small.rolls {
+        Rolls::Even(n) => journal::begin(&plan, n, journal, used),
+        Rolls::Table(n) => journal::begin_rolls(&plan, first(&TABLE, n), journal, used),
     }
 }
 
-pub(crate) fn begin(plan: Plan, journal: &mut [u8], used: u64) -> Reply {
+pub(crate) fn work(
+    small: SmallPlan,
+    chunk: u64,
+    journal: &mut [u8],
+    used: u64,
+) -> Result<u64, Refusal> {
     let suns = suns();
-    let l = lent(&plan, &suns);
-    reply(match plan.rolls {
-        Rolls::Even(n) => journal::begin(
-            l.targets,
-            l.suns,
-            l.observers,
-            l.tolerances,
-            l.configured,
-            l.panels,
-            n,
-            journal,
-            used,
-        ),
-        Rolls::Table(n) => journal::begin_rolls(
-            l.targets,
-            l.suns,
-            l.observers,
-            l.tolerances,
-            l.configured,
-            l.panels,
-            first(&TABLE, n),
-            journal,
-            used,
-        ),
-    })
+    let plan = small.lent(&suns);
+    match small.rolls {
+        Rolls::Even(n) => journal::work(&plan, n, chunk, journal, used),
+        Rolls::Table(n) => journal::work_rolls(&plan, first(&TABLE, n), chunk, journal, used),
+    }
 }
 
-pub(crate) fn work(plan: Plan, chunk: u64, journal: &mut [u8], used: u64) -> Reply {
+pub(crate) fn recover(small: SmallPlan, journal: &[u8], used: u64) -> Result<u64, Refusal> {
     let suns = suns();
-    let l = lent(&plan, &suns);
-    reply(match plan.rolls {
-        Rolls::Even(n) => journal::work(
-            l.targets,
-            l.suns,
-            l.observers,
-            l.tolerances,
-            l.configured,
-            l.panels,
-            n,
-            chunk,
-            journal,
-            used,
-        ),
-        Rolls::Table(n) => journal::work_rolls(
-            l.targets,
-            l.suns,
-            l.observers,
-            l.tolerances,
-            l.configured,
-            l.panels,
-            first(&TABLE, n),
-            chunk,
-            journal,
-            used,
-        ),
-    })
+    let plan = small.lent(&suns);
+    match small.rolls {
+        Rolls::Even(n) => journal::recover(&plan, n, journal, used),
+        Rolls::Table(n) => journal::recover_rolls(&plan, first(&TABLE, n), journal, used),
+    }
 }
 
-pub(crate) fn recover(plan: Plan, journal: &[u8], used: u64) -> Reply {
+pub(crate) fn collect(
+    small: SmallPlan,
+    journal: &[u8],
+    used: u64,
+    mask: &mut [u8],
+) -> Result<u64, Refusal> {
     let suns = suns();
-    let l = lent(&plan, &suns);
-    reply(match plan.rolls {
-        Rolls::Even(n) => journal::recover(
-            l.targets,
-            l.suns,
-            l.observers,
-            l.tolerances,
-            l.configured,
-            l.panels,
-            n,
-            journal,
-            used,
-        ),
-        Rolls::Table(n) => journal::recover_rolls(
-            l.targets,
-            l.suns,
-            l.observers,
-            l.tolerances,
-            l.configured,
-            l.panels,
-            first(&TABLE, n),
-            journal,
-            used,
-        ),
-    })
-}
-
-pub(crate) fn collect(plan: Plan, journal: &[u8], used: u64, mask: &mut [u8]) -> Reply {
-    let suns = suns();
-    let l = lent(&plan, &suns);
-    reply(match plan.rolls {
-        Rolls::Even(n) => journal::collect(
-            l.targets,
-            l.suns,
-            l.observers,
-            l.tolerances,
-            l.configured,
-            l.panels,
-            n,
-            journal,
-            used,
-            mask,
-        ),
-        Rolls::Table(n) => journal::collect_rolls(
-            l.targets,
-            l.suns,
-            l.observers,
-            l.tolerances,
-            l.configured,
-            l.panels,
-            first(&TABLE, n),
-            journal,
-            used,
-            mask,
-        ),
-    })
+    let plan = small.lent(&suns);
+    match small.rolls {
+        Rolls::Even(n) => journal::collect(&plan, n, journal, used, mask),
+        Rolls::Table(n) => journal::collect_rolls(&plan, first(&TABLE, n), journal, used, mask),
+    }
 }
