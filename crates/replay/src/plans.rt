@@ -1,35 +1,22 @@
 // Questions about a plan. Above a function stands what its lines ask, if anything, and after a colon what they answer.
 use crate::kinds::Kind;
-use crate::words::{Line, Reply, UNWRITTEN, reply};
+use crate::words::{Line, UNWRITTEN};
+use buffers::Refusal;
 use float::{bits, of_bits};
 use solar_masks::{
     evaluate, field_of_regard_violated_at_roll, field_of_regard_violated_batch,
     in_constraint_batch, in_constraint_batch_at_roll,
     in_constraint_batch_constrained_at_every_roll, named_values,
 };
-use solar_roll::{CellRoll, ConfiguredRoll, EvaluationRoll, cell_roll, circular_diff_deg, triple};
-
-#[derive(Clone, Copy)]
-struct Plan<'a> {
-    targets: &'a [f64],
-    suns: &'a [f64],
-    observers: &'a [f64],
-    tolerances: &'a [f64],
-    configured: ConfiguredRoll,
-    panels: &'a [f64],
-}
+use solar_roll::{CellRoll, EvaluationRoll, Plan, cell_roll, circular_diff_deg, triple};
 
 // a, b: their difference.
 pub(crate) fn difference(asked: &Line) -> bool {
     bits(circular_diff_deg(asked.number(1), asked.number(2))) == asked.word(3)
 }
 
-fn configured(given: &Line) -> ConfiguredRoll {
-    if given.word(6) == 0 {
-        ConfiguredRoll::None
-    } else {
-        ConfiguredRoll::Some(given.number(7))
-    }
+fn configured(given: &Line) -> Option<f64> {
+    (given.word(6) != 0).then(|| given.number(7))
 }
 
 pub(crate) fn asked_of_plan(kind: Kind, given: &Line, asked: &Line) -> bool {
@@ -72,34 +59,16 @@ fn cell(asked: &Line, plan: &Plan) -> bool {
 // The values.
 fn values(asked: &Line, plan: &Plan) -> bool {
     let mut values = [of_bits(UNWRITTEN); 96];
-    let answer = named_values(
-        plan.targets,
-        plan.suns,
-        plan.observers,
-        plan.tolerances,
-        plan.configured,
-        plan.panels,
-        &mut values,
-    );
-    reply(answer) == Ok(0) && asked.has(&values, 3, 1)
+    named_values(plan, &mut values) == Ok(0) && asked.has(&values, 3, 1)
 }
 
 // Target: each sample's mark and severity.
 fn row(asked: &Line, plan: &Plan) -> bool {
     let mut mask = [7u8; 24];
     let mut severities = [of_bits(UNWRITTEN); 24];
-    let answer = evaluate(
-        plan.targets,
-        plan.suns,
-        plan.observers,
-        plan.tolerances,
-        plan.configured,
-        plan.panels,
-        asked.word(1),
-        &mut mask,
-        &mut severities,
-    );
-    reply(answer) == Ok(0) && asked.has(&mask, 3, 2) && asked.has(&severities, 4, 2)
+    evaluate(plan, asked.word(1), &mut mask, &mut severities) == Ok(0)
+        && asked.has(&mask, 3, 2)
+        && asked.has(&severities, 4, 2)
 }
 
 #[derive(Clone, Copy)]
@@ -108,89 +77,31 @@ enum Rolls<'a> {
     Table(&'a [f64]),
 }
 
-fn begin(plan: &Plan, rolls: Rolls, file: &mut [u8]) -> Reply {
-    reply(match rolls {
-        Rolls::Even(n) => journal::begin(
-            plan.targets,
-            plan.suns,
-            plan.observers,
-            plan.tolerances,
-            plan.configured,
-            plan.panels,
-            n,
-            file,
-            0,
-        ),
-        Rolls::Table(table) => journal::begin_rolls(
-            plan.targets,
-            plan.suns,
-            plan.observers,
-            plan.tolerances,
-            plan.configured,
-            plan.panels,
-            table,
-            file,
-            0,
-        ),
-    })
+fn begin(plan: &Plan, rolls: Rolls, file: &mut [u8]) -> Result<u64, Refusal> {
+    match rolls {
+        Rolls::Even(n) => journal::begin(plan, n, file, 0),
+        Rolls::Table(table) => journal::begin_rolls(plan, table, file, 0),
+    }
 }
 
-fn work(plan: &Plan, rolls: Rolls, chunk: u64, file: &mut [u8], used: u64) -> Reply {
-    reply(match rolls {
-        Rolls::Even(n) => journal::work(
-            plan.targets,
-            plan.suns,
-            plan.observers,
-            plan.tolerances,
-            plan.configured,
-            plan.panels,
-            n,
-            chunk,
-            file,
-            used,
-        ),
-        Rolls::Table(table) => journal::work_rolls(
-            plan.targets,
-            plan.suns,
-            plan.observers,
-            plan.tolerances,
-            plan.configured,
-            plan.panels,
-            table,
-            chunk,
-            file,
-            used,
-        ),
-    })
+fn work(plan: &Plan, rolls: Rolls, chunk: u64, file: &mut [u8], used: u64) -> Result<u64, Refusal> {
+    match rolls {
+        Rolls::Even(n) => journal::work(plan, n, chunk, file, used),
+        Rolls::Table(table) => journal::work_rolls(plan, table, chunk, file, used),
+    }
 }
 
-fn collect(plan: &Plan, rolls: Rolls, file: &[u8], used: u64, mask: &mut [u8]) -> Reply {
-    reply(match rolls {
-        Rolls::Even(n) => journal::collect(
-            plan.targets,
-            plan.suns,
-            plan.observers,
-            plan.tolerances,
-            plan.configured,
-            plan.panels,
-            n,
-            file,
-            used,
-            mask,
-        ),
-        Rolls::Table(table) => journal::collect_rolls(
-            plan.targets,
-            plan.suns,
-            plan.observers,
-            plan.tolerances,
-            plan.configured,
-            plan.panels,
-            table,
-            file,
-            used,
-            mask,
-        ),
-    })
+fn collect(
+    plan: &Plan,
+    rolls: Rolls,
+    file: &[u8],
+    used: u64,
+    mask: &mut [u8],
+) -> Result<u64, Refusal> {
+    match rolls {
+        Rolls::Even(n) => journal::collect(plan, n, file, used, mask),
+        Rolls::Table(table) => journal::collect_rolls(plan, table, file, used, mask),
+    }
 }
 
 // Begins a journal and works on its one or two chunks, and gives the used length. Where there is one, the second work is refused.
@@ -221,55 +132,19 @@ fn mask(kind: Kind, asked: &Line, plan: &Plan) -> bool {
     answer_mask(kind, asked, plan, &mut mask) == Ok(0) && asked.has(&mask, 3, 1)
 }
 
-fn answer_mask(kind: Kind, asked: &Line, plan: &Plan, mask: &mut [u8]) -> Reply {
-    let targets = plan.targets;
-    let suns = plan.suns;
-    let observers = plan.observers;
-    let tolerances = plan.tolerances;
-    let configured = plan.configured;
-    let panels = plan.panels;
+fn answer_mask(kind: Kind, asked: &Line, plan: &Plan, mask: &mut [u8]) -> Result<u64, Refusal> {
     let a = asked.word(1);
     let b = asked.word(2);
-    reply(match kind {
-        Kind::Batch => in_constraint_batch(
-            targets, suns, observers, tolerances, configured, panels, mask,
-        ),
-        Kind::AtSweep => in_constraint_batch_at_roll(
-            targets,
-            suns,
-            observers,
-            tolerances,
-            configured,
-            panels,
-            EvaluationRoll::Sweep(of_bits(a)),
-            mask,
-        ),
-        Kind::AtFixed => in_constraint_batch_at_roll(
-            targets,
-            suns,
-            observers,
-            tolerances,
-            configured,
-            panels,
-            EvaluationRoll::Fixed(of_bits(a)),
-            mask,
-        ),
-        Kind::EveryRoll => in_constraint_batch_constrained_at_every_roll(
-            targets, suns, observers, tolerances, configured, panels, a, mask,
-        ),
-        Kind::Field => field_of_regard_violated_batch(
-            targets, suns, observers, tolerances, configured, panels, a, b, mask,
-        ),
-        _ => field_of_regard_violated_at_roll(
-            targets,
-            suns,
-            observers,
-            tolerances,
-            configured,
-            panels,
-            a,
-            of_bits(b),
-            mask,
-        ),
-    })
+    match kind {
+        Kind::Batch => in_constraint_batch(plan, mask),
+        Kind::AtSweep => {
+            in_constraint_batch_at_roll(plan, EvaluationRoll::Sweep(of_bits(a)), mask)
+        }
+        Kind::AtFixed => {
+            in_constraint_batch_at_roll(plan, EvaluationRoll::Fixed(of_bits(a)), mask)
+        }
+        Kind::EveryRoll => in_constraint_batch_constrained_at_every_roll(plan, a, mask),
+        Kind::Field => field_of_regard_violated_batch(plan, a, b, mask),
+        _ => field_of_regard_violated_at_roll(plan, a, of_bits(b), mask),
+    }
 }

@@ -1,5 +1,5 @@
 // Questions about catalogue positions. Above a function stands what its lines answer.
-use crate::words::{Line, UNWRITTEN, reply};
+use crate::words::{Line, UNWRITTEN};
 use catalogue::radec_to_unit_vectors_batch;
 use float::of_bits;
 
@@ -11,5 +11,5 @@ pub(crate) fn vectors(given: &Line, asked: &Line) -> bool {
     let mut units = [of_bits(UNWRITTEN); 48];
     let ras = given.read(3, count, &mut ras);
     let decs = given.read(given.word(2), count, &mut decs);
-    reply(radec_to_unit_vectors_batch(ras, decs, &mut units)) == Ok(0) && asked.has(&units, 3, 1)
+    radec_to_unit_vectors_batch(ras, decs, &mut units) == Ok(0) && asked.has(&units, 3, 1)
 }

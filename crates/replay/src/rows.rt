@@ -1,8 +1,9 @@
 // Questions about a row of samples, and about a list of windows. Above a function stands what its lines answer.
 use crate::kinds::Kind;
-use crate::words::{Line, Reply, UNWRITTEN, first, reply};
+use crate::words::{Line, UNWRITTEN, first};
+use buffers::Refusal;
 use float::{bits, of_bits};
-use windows::{Duration, expand, total_violation_duration, violation_windows, visibility_windows};
+use windows::{expand, total_violation_duration, violation_windows, visibility_windows};
 
 // The columns that a listing writes.
 #[derive(Drop)]
@@ -27,8 +28,13 @@ impl Columns {
         }
     }
 
-    fn list_violations(&mut self, mask: &[u8], instants: &[i64], severities: &[f64]) -> Reply {
-        reply(violation_windows(
+    fn list_violations(
+        &mut self,
+        mask: &[u8],
+        instants: &[i64],
+        severities: &[f64],
+    ) -> Result<u64, Refusal> {
+        violation_windows(
             mask,
             instants,
             severities,
@@ -38,11 +44,11 @@ impl Columns {
             &mut self.last_time,
             &mut self.severity,
             &mut self.is_last,
-        ))
+        )
     }
 
-    fn list_visibility(&mut self, mask: &[u8], instants: &[i64]) -> Reply {
-        reply(visibility_windows(
+    fn list_visibility(&mut self, mask: &[u8], instants: &[i64]) -> Result<u64, Refusal> {
+        visibility_windows(
             mask,
             instants,
             &mut self.first,
@@ -51,7 +57,7 @@ impl Columns {
             &mut self.last_time,
             &mut self.severity,
             &mut self.is_last,
-        ))
+        )
     }
 
     // Six words for each window.
@@ -101,14 +107,14 @@ pub(crate) fn windows(kind: Kind, given: &Line, asked: &Line) -> bool {
 // The mask.
 fn expansion(asked: &Line, starts: &[i64], ends: &[i64], instants: &[i64]) -> bool {
     let mut mask = [7u8; 48];
-    reply(expand(starts, ends, instants, &mut mask)) == Ok(0) && asked.has(&mask, 3, 1)
+    expand(starts, ends, instants, &mut mask) == Ok(0) && asked.has(&mask, 3, 1)
 }
 
 // How many windows, each one's first and last time.
 fn result(asked: &Line, starts: &[i64], ends: &[i64], instants: &[i64]) -> bool {
     let mut mask = [7u8; 48];
     let mut columns = Columns::unwritten();
-    reply(expand(starts, ends, instants, &mut mask)) == Ok(0)
+    expand(starts, ends, instants, &mut mask) == Ok(0)
         && columns.list_visibility(first(&mask, instants.len()), instants) == Ok(asked.word(3))
         && asked.has(&columns.first_time, 4, 2)
         && asked.has(&columns.last_time, 5, 2)
@@ -116,8 +122,5 @@ fn result(asked: &Line, starts: &[i64], ends: &[i64], instants: &[i64]) -> bool 
 
 // The seconds.
 fn seconds(asked: &Line, starts: &[i64], ends: &[i64]) -> bool {
-    match total_violation_duration(starts, ends) {
-        Duration::Seconds(total) => bits(total) == asked.word(3),
-        Duration::Refused(_) => false,
-    }
+    total_violation_duration(starts, ends).is_ok_and(|total| bits(total) == asked.word(3))
 }

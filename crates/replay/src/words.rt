@@ -1,16 +1,5 @@
 // A line's words: read as lists of what they stand for, and compared with lists that a call wrote.
-use buffers::Answer;
 use float::{bits, of_bits};
-
-// What a call answers: a number, or the number of its refusal.
-pub(crate) type Reply = Result<u64, u64>;
-
-pub(crate) fn reply(answer: Answer) -> Reply {
-    match answer {
-        Answer::Accepted(n) => Ok(n),
-        Answer::Refused(no) => Err(no),
-    }
-}
 
 // What stands past a line's last word, and in every type what a lent place holds before a call.
 pub(crate) const UNWRITTEN: u64 = 7;
