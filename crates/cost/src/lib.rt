@@ -123,7 +123,8 @@ impl PlanLists<'_> {
     }
 }
 
-// Writes a plan of this size that reaches the most probes: every tolerance is -1.
+// Writes a plan of this size that reaches the most probes: every tolerance is -1. It and `cheapest_plan` stay two calls, by
+// the names that C has.
 // Refuses 2, 3, 7 (specs/Cost, `writing_refusal`).
 pub fn costliest_plan(
     targets: u64,

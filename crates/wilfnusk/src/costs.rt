@@ -1,10 +1,10 @@
 // What a plan of a size costs, and a plan of that size that costs most, and one that costs least.
 ghost use Rattle.std.specs.Prelude.{◌≡◌, length};
-ghost use Rattle.cost.specs.Cost.{cost_reply, cost_after, costliest_tolerance, cheapest_tolerance, PlanLists as Lists, plan_lists, writing_reply, plan_written};
+ghost use Rattle.cost.specs.Cost.{cost_reply, cost_after, costliest_tolerance, cheapest_tolerance, PlanLists, plan_lists, writing_reply, plan_written};
 ghost use Rattle.wilfnusk.specs.Answers.{int64};
 
 use crate::answers::int64;
-use cost::PlanLists;
+use cost::PlanLists as LentLists;
 
 // Refuses 2, 3, 7 (cost: specs/Cost, `cost_refusal`).
 #[unsafe(no_mangle)]
@@ -27,13 +27,13 @@ pub extern "C" fn wilfnusk_costliest_plan(
     tolerances: &mut [f64],
     panel: &mut [f64],
 ) -> u64
-    ensures { let lent : Lists = plan_lists target_numbers.old suns.old observers.old
+    ensures { let lent : PlanLists = plan_lists target_numbers.old suns.old observers.old
         tolerances.old panel.old in
         (result ≡ int64 (writing_reply targets times n lent))
         × (plan_lists target_numbers.new suns.new observers.new tolerances.new panel.new
         ≡ plan_written targets times n costliest_tolerance lent) }
 {
-    let mut lists = PlanLists {
+    let mut lists = LentLists {
         targets: target_numbers,
         suns,
         observers,
@@ -55,13 +55,13 @@ pub extern "C" fn wilfnusk_cheapest_plan(
     tolerances: &mut [f64],
     panel: &mut [f64],
 ) -> u64
-    ensures { let lent : Lists = plan_lists target_numbers.old suns.old observers.old
+    ensures { let lent : PlanLists = plan_lists target_numbers.old suns.old observers.old
         tolerances.old panel.old in
         (result ≡ int64 (writing_reply targets times n lent))
         × (plan_lists target_numbers.new suns.new observers.new tolerances.new panel.new
         ≡ plan_written targets times n cheapest_tolerance lent) }
 {
-    let mut lists = PlanLists {
+    let mut lists = LentLists {
         targets: target_numbers,
         suns,
         observers,

@@ -1,6 +1,6 @@
 // Masks, rows, the field of regard and the named values of a plan.
 ghost use Rattle.std.specs.Prelude.{◌≡◌, length};
-ghost use Rattle.solar_roll.specs.Plan.{Plan as PlanOf, samples_or_none_refusal};
+ghost use Rattle.solar_roll.specs.Plan.{Plan, samples_or_none_refusal};
 ghost use Rattle.solar_masks.specs.Mask.{at_roll, at_configured, at_every_roll, ValuesInTurn, cells_reply, mask_after, values_after};
 ghost use Rattle.solar_masks.specs.Row.{row_reply, row_mask_after, severities_after};
 ghost use Rattle.solar_masks.specs.Field.{field_reply, field_after};
@@ -10,7 +10,7 @@ ghost use Rattle.wilfnusk.specs.Plans.{asked, lent_plan};
 
 use crate::answers::int64;
 use crate::plans::{asked, configured};
-use solar_roll::Plan;
+use solar_roll::Plan as LentPlan;
 
 // Refuses 1, 2, 4, 5, 20, 6, 17 of the plan, then 7 (solar_masks: specs/Mask, `cells_refusal`).
 #[unsafe(no_mangle)]
@@ -26,14 +26,14 @@ pub extern "C" fn wilfnusk_named_values(
     panel_z: f64,
     out: &mut [f64],
 ) -> u64
-    ensures { let p : PlanOf = lent_plan targets.now suns.now observers.now
+    ensures { let p : Plan = lent_plan targets.now suns.now observers.now
         tolerances.now has_roll roll_deg panel_x panel_y panel_z in
         (result ≡ int64 (cells_reply p 0 (length out.old)))
         × (out.new ≡ values_after p out.old)
         × (result ≡ 0 → ValuesInTurn p out.new) }
 {
     let panels = [panel_x, panel_y, panel_z];
-    let plan = Plan {
+    let plan = LentPlan {
         targets,
         suns,
         observers,
@@ -58,13 +58,13 @@ pub extern "C" fn wilfnusk_in_constraint_batch(
     panel_z: f64,
     mask: &mut [u8],
 ) -> u64
-    ensures { let p : PlanOf = lent_plan targets.now suns.now observers.now
+    ensures { let p : Plan = lent_plan targets.now suns.now observers.now
         tolerances.now has_roll roll_deg panel_x panel_y panel_z in
         (result ≡ int64 (cells_reply p 0 (length mask.old)))
         × (mask.new ≡ mask_after p 0 at_configured mask.old) }
 {
     let panels = [panel_x, panel_y, panel_z];
-    let plan = Plan {
+    let plan = LentPlan {
         targets,
         suns,
         observers,
@@ -91,13 +91,13 @@ pub extern "C" fn wilfnusk_in_constraint_batch_at_roll(
     roll_at_deg: f64,
     mask: &mut [u8],
 ) -> u64
-    ensures { let p : PlanOf = lent_plan targets.now suns.now observers.now
+    ensures { let p : Plan = lent_plan targets.now suns.now observers.now
         tolerances.now has_roll roll_deg panel_x panel_y panel_z in
         (result ≡ int64 (cells_reply p 0 (length mask.old)))
         × (mask.new ≡ mask_after p 0 (at_roll (asked fixed roll_at_deg)) mask.old) }
 {
     let panels = [panel_x, panel_y, panel_z];
-    let plan = Plan {
+    let plan = LentPlan {
         targets,
         suns,
         observers,
@@ -124,13 +124,13 @@ pub extern "C" fn wilfnusk_constrained_at_every_roll(
     n: u64,
     mask: &mut [u8],
 ) -> u64
-    ensures { let p : PlanOf = lent_plan targets.now suns.now observers.now
+    ensures { let p : Plan = lent_plan targets.now suns.now observers.now
         tolerances.now has_roll roll_deg panel_x panel_y panel_z in
         (result ≡ int64 (cells_reply p (samples_or_none_refusal n) (length mask.old)))
         × (mask.new ≡ mask_after p (samples_or_none_refusal n) (at_every_roll n) mask.old) }
 {
     let panels = [panel_x, panel_y, panel_z];
-    let plan = Plan {
+    let plan = LentPlan {
         targets,
         suns,
         observers,
@@ -157,14 +157,14 @@ pub extern "C" fn wilfnusk_evaluate(
     mask: &mut [u8],
     severities: &mut [f64],
 ) -> u64
-    ensures { let p : PlanOf = lent_plan targets.now suns.now observers.now
+    ensures { let p : Plan = lent_plan targets.now suns.now observers.now
         tolerances.now has_roll roll_deg panel_x panel_y panel_z in
         (result ≡ int64 (row_reply p target (length mask.old) (length severities.old)))
         × (mask.new ≡ row_mask_after p target mask.old severities.old)
         × (severities.new ≡ severities_after p target mask.old severities.old) }
 {
     let panels = [panel_x, panel_y, panel_z];
-    let plan = Plan {
+    let plan = LentPlan {
         targets,
         suns,
         observers,
@@ -191,13 +191,13 @@ pub extern "C" fn wilfnusk_field_of_regard_violated_batch(
     n: u64,
     mask: &mut [u8],
 ) -> u64
-    ensures { let p : PlanOf = lent_plan targets.now suns.now observers.now
+    ensures { let p : Plan = lent_plan targets.now suns.now observers.now
         tolerances.now has_roll roll_deg panel_x panel_y panel_z in
         (result ≡ int64 (field_reply p (samples_or_none_refusal n) time (length mask.old)))
         × (mask.new ≡ field_after p (samples_or_none_refusal n) time (at_every_roll n) mask.old) }
 {
     let panels = [panel_x, panel_y, panel_z];
-    let plan = Plan {
+    let plan = LentPlan {
         targets,
         suns,
         observers,
@@ -224,13 +224,13 @@ pub extern "C" fn wilfnusk_field_of_regard_violated_at_roll(
     roll_at_deg: f64,
     mask: &mut [u8],
 ) -> u64
-    ensures { let p : PlanOf = lent_plan targets.now suns.now observers.now
+    ensures { let p : Plan = lent_plan targets.now suns.now observers.now
         tolerances.now has_roll roll_deg panel_x panel_y panel_z in
         (result ≡ int64 (field_reply p 0 time (length mask.old)))
         × (mask.new ≡ field_after p 0 time (at_roll (Sweep roll_at_deg)) mask.old) }
 {
     let panels = [panel_x, panel_y, panel_z];
-    let plan = Plan {
+    let plan = LentPlan {
         targets,
         suns,
         observers,

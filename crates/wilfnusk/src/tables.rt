@@ -1,6 +1,6 @@
 // Begin, work, work over a range, recover and collect, over a lent table of rolls.
 ghost use Rattle.std.specs.Prelude.{◌≡◌};
-ghost use Rattle.solar_roll.specs.Plan.{Plan as PlanOf};
+ghost use Rattle.solar_roll.specs.Plan.{Plan};
 ghost use Rattle.roll_sweep.specs.Sweep.{Sweep};
 ghost use Rattle.journal.specs.Calls.{begin_reply, begin_bytes, work_reply, work_bytes, recover_reply, collect_reply, collect_mask};
 ghost use Rattle.journal.specs.Range.{range_reply, range_bytes, range_stopped};
@@ -10,7 +10,7 @@ ghost use Rattle.wilfnusk.specs.Plans.{lent_plan};
 
 use crate::answers::int64;
 use crate::plans::configured;
-use solar_roll::Plan;
+use solar_roll::Plan as LentPlan;
 
 // Refuses 1, 2, 18, 19, 4, 5, 20, 6, 17 of the plan, then 13, 7 (journal: specs/Calls, `begin_refusal`).
 #[unsafe(no_mangle)]
@@ -28,14 +28,14 @@ pub extern "C" fn wilfnusk_begin_rolls(
     journal: &mut [u8],
     used: u64,
 ) -> u64
-    ensures { let p : PlanOf = lent_plan targets.now suns.now observers.now
+    ensures { let p : Plan = lent_plan targets.now suns.now observers.now
         tolerances.now has_roll roll_deg panel_x panel_y panel_z in
         let s : Sweep = table_sweep p rolls.now in
         (result ≡ int64 (begin_reply s journal.old used))
         × (journal.new ≡ begin_bytes s journal.old used) }
 {
     let panels = [panel_x, panel_y, panel_z];
-    let plan = Plan {
+    let plan = LentPlan {
         targets,
         suns,
         observers,
@@ -63,14 +63,14 @@ pub extern "C" fn wilfnusk_work_rolls(
     journal: &mut [u8],
     used: u64,
 ) -> u64
-    ensures { let p : PlanOf = lent_plan targets.now suns.now observers.now
+    ensures { let p : Plan = lent_plan targets.now suns.now observers.now
         tolerances.now has_roll roll_deg panel_x panel_y panel_z in
         let s : Sweep = table_sweep p rolls.now in
         (result ≡ int64 (work_reply s chunk journal.old used))
         × (journal.new ≡ work_bytes s chunk journal.old used) }
 {
     let panels = [panel_x, panel_y, panel_z];
-    let plan = Plan {
+    let plan = LentPlan {
         targets,
         suns,
         observers,
@@ -100,7 +100,7 @@ pub extern "C" fn wilfnusk_work_range_rolls(
     used: u64,
     stopped: &mut u64,
 ) -> u64
-    ensures { let p : PlanOf = lent_plan targets.now suns.now observers.now
+    ensures { let p : Plan = lent_plan targets.now suns.now observers.now
         tolerances.now has_roll roll_deg panel_x panel_y panel_z in
         let s : Sweep = table_sweep p rolls.now in
         (result ≡ int64 (range_reply s from to journal.old used))
@@ -108,7 +108,7 @@ pub extern "C" fn wilfnusk_work_range_rolls(
         × (stopped.new ≡ range_stopped s from to journal.old used stopped.old) }
 {
     let panels = [panel_x, panel_y, panel_z];
-    let plan = Plan {
+    let plan = LentPlan {
         targets,
         suns,
         observers,
@@ -135,13 +135,13 @@ pub extern "C" fn wilfnusk_recover_rolls(
     journal: &[u8],
     used: u64,
 ) -> u64
-    ensures { let p : PlanOf = lent_plan targets.now suns.now observers.now
+    ensures { let p : Plan = lent_plan targets.now suns.now observers.now
         tolerances.now has_roll roll_deg panel_x panel_y panel_z in
         let s : Sweep = table_sweep p rolls.now in
         result ≡ int64 (recover_reply s journal.now used) }
 {
     let panels = [panel_x, panel_y, panel_z];
-    let plan = Plan {
+    let plan = LentPlan {
         targets,
         suns,
         observers,
@@ -169,14 +169,14 @@ pub extern "C" fn wilfnusk_collect_rolls(
     used: u64,
     mask: &mut [u8],
 ) -> u64
-    ensures { let p : PlanOf = lent_plan targets.now suns.now observers.now
+    ensures { let p : Plan = lent_plan targets.now suns.now observers.now
         tolerances.now has_roll roll_deg panel_x panel_y panel_z in
         let s : Sweep = table_sweep p rolls.now in
         (result ≡ int64 (collect_reply s journal.now used mask.old))
         × (mask.new ≡ collect_mask s journal.now used mask.old) }
 {
     let panels = [panel_x, panel_y, panel_z];
-    let plan = Plan {
+    let plan = LentPlan {
         targets,
         suns,
         observers,

@@ -39,6 +39,7 @@ pub(crate) enum Listing {
 }
 
 // A row of samples: a mask byte and a time of each and, for violation windows, a severity. Visibility windows are listed without severities.
+// The public calls take its lists one by one, as C lends them.
 #[derive(Clone, Copy)]
 pub(crate) struct Samples<'a> {
     pub(crate) mask: &'a [u8],
