@@ -149,3 +149,10 @@ module _ {A : Type 0} where
 
   pub ok_unless : (k : ℕ) (written before now : A) → 0 ≡ k → now ≡ written → now ≡ unless_refused k written before
   ok_unless k w b now h e = e ∙ sym (written_none k w b (sym h))
+
+-- the same from the call's side
+pub refused_with : (e : Refusal) (why n : ℕ) → why ≡ number_of e → replied (Err e) ≡ reply why n
+refused_with e why n h = err_replied e why n (sym h)
+
+pub accepted_with : (m why n : ℕ) → why ≡ 0 → m ≡ n → replied (Ok m) ≡ reply why n
+accepted_with m why n e h = ok_replied why m n (sym e) h

@@ -121,10 +121,16 @@ module _ (s : Sweep) (a : SweepFacts s) (l : Ledger) where
     unfolding recover_refusal
     recover_same x = plan_passes x (recover_conditions s (ledger_journal s l ++ x) (length (ledger_journal s l))) ∙ (λ i. first ((not_wrong x i, 11) ∷ []))
 
+    -- what the ledger refuses, condition by condition
+    collect_conditions_of : (room mask : ℕ) → ledger_refusal s (collects room mask) l ≡ first ((unfinished l, 12) ∷ (not (are_in (chunks (cells s)) l.lines), 15) ∷ (collect_short s mask, 7) ∷ [])
+    unfolding ledger_refusal
+    collect_conditions_of room mask = refl
+
     pub collect_same : (x o : List ℕ) → collect_refusal s (ledger_journal s l ++ x) (length (ledger_journal s l)) o ≡ ledger_refusal s (collects (length (ledger_journal s l ++ x)) (length o)) l
-    unfolding collect_refusal ledger_refusal has_chunks are_in
+    unfolding collect_refusal has_chunks are_in
     collect_same x o =
         let all : has_chunks (ledger_journal s l ++ x) (whole_lines (length (ledger_journal s l))) (chunks (cells s)) ≡ are_in (chunks (cells s)) l.lines =
         all_ext (chunks (cells s)) _ (λ c. is_in c l.lines) (λ c h. f.has x c) in
         plan_passes x (collect_conditions s (ledger_journal s l ++ x) (length (ledger_journal s l)) o)
         ∙ (λ i. first ((not_wrong x i, 11) ∷ (f.is_torn i, 12) ∷ (not (all i), 15) ∷ (collect_short s (length o), 7) ∷ []))
+        ∙ sym (collect_conditions_of (length (ledger_journal s l ++ x)) (length o))

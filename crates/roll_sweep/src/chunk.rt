@@ -67,7 +67,8 @@ fn sweep_row(
 // Sweeps `cells` cells from number `first` on over rolls that are in force, row by row, so that a row's axes are worked
 // out once, and the panel, which the rows share, once for all. The Sun's unit of cell i is entry i % L of a table of L
 // units: of all times, or of one chunk's 64 cells. A part ends with its row, the cells or the table, so parts have no
-// common length, and neither a range nor `chunks` gives them.
+// common length, and neither a range nor `chunks` gives them. `first` and `cells` are a range of cell numbers, and no list's
+// length.
 fn sweep_cells(
     plan: &Plan,
     times: usize,

@@ -43,7 +43,7 @@ fn step_distance(roll_deg: f64, step: f64) -> f64
     if rest < phase { rest } else { phase }
 }
 
-// Whether every multiple of a step violates the cell.
+// Whether every multiple of a step violates the cell. Beside solar_roll's `violated`: one test would take the distance as a closure, and be longer than both.
 #[tactic(auto, unfolding(crate::specs::Mask::misses_steps))]
 fn misses_steps(cell: CellRoll, step: f64, tolerance_deg: f64) -> bool
     ensures { result ≡ misses_steps cell step tolerance_deg }

@@ -72,7 +72,7 @@ fn row_refusal(plan: &Plan, row: u64, mask: usize, severities: usize) -> Result<
     ensures { found result ≡ row_refusal (lent plan.now) row mask severities }
 {
     plan.refusal(Ok(()), false)?;
-    let times = plan.suns.len() / 3;
+    let times = plan.times();
     if (plan.rows() as u64) <= row {
         return Err(Refusal::NoSuchIndex);
     }

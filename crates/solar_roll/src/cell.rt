@@ -29,7 +29,8 @@ pub enum EvaluationRoll {
 }
 
 // A cell's answer: document 01's Free, where no roll is better than another; At, with the optimal roll;
-// or the number of a refusal. The last is a case and no Err around the type, since `violated` has an answer for it too.
+// or the number of a refusal. The last is a case and no Err around the type, and any number, since `violated` has an answer
+// for each.
 #[derive(Clone, Copy)]
 pub enum CellRoll {
     Free,

@@ -187,7 +187,8 @@ pub fn solar_optimal_roll_deg(target: [f64; 3], sun_unit: [f64; 3], panel_normal
     roll_deg_in(body_axes(target), sun_unit, panel_angle)
 }
 
-// The shorter arc of a turn by x, between -360 and 360: its remainder needs no division, and its size no look for a NaN.
+// The shorter arc of a turn by x, between -360 and 360: its remainder needs no division, and its size, by its bits, no look for
+// a NaN, which each cell and roll would pay for.
 fn arc_within_turn(x: f64) -> f64
     requires { (lt (neg full_turn) x ≡ true) × (lt x full_turn ≡ true) }
     ensures { result ≡ arc x }
