@@ -5,9 +5,8 @@ use native.Mathlib.Decide.{dec_le}
 use mathlib.Core.Bool.{or-true, or-false}
 use lib.Bits.{bit_or, or_add_and, and_le_r, or_comm, or_lt}
 use lib.Signed.{lt_z, non_neg}
-use lib.Ieee.{Float, binary64, ne, fits, to_bits}
+use lib.Ieee.{Float, nan, inf, fin, binary64, is_nan, fits, to_bits}
 use lib.Ieee.Bits.{to_bits-lt}
-use lib.Ieee.Compare.{differs_from_itself}
 use mir.ValLaws.{to_z-of_z}
 use borrow.Author.Tests.{lt-leb}
 use Rattle.buffers.specs.Ranges.{any}
@@ -46,8 +45,11 @@ gather_all p l i b h w = sym (or-false b) ∙ ap (λ (t : List _). b || any p t)
 
 -- ---- severities
 
-pub nan_top : (x : Float) → ne x x ≡ true → true ≡ bad_severity x
-nan_top x h = sym (ap bad_severity (differs_from_itself x (subst T (sym h) tt)) ∙ of_nan)
+pub nan_top : (x : Float) → is_nan x ≡ true → true ≡ bad_severity x
+unfolding is_nan
+nan_top nan h = sym of_nan
+nan_top (inf s) h = absurd (true≢false (sym h))
+nan_top (fin s m e) h = absurd (true≢false (sym h))
 
 reached : (b : ℕ) → b < 0x1_0000_0000_0000_0000 → (top_bit b || top_bit ((b + 0x10_0000_0000_0000) % 0x1_0000_0000_0000_0000)) ≡ leb 0x7ff0_0000_0000_0000 b
 reached b h = elim (dec_le 0x8000_0000_0000_0000 b) [

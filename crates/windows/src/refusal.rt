@@ -6,23 +6,14 @@ ghost use Rattle.buffers.specs.Ranges.{any};
 ghost use Rattle.windows.specs.Refusal.{beyond, bad_mark, bad_severity, differ};
 ghost use Rattle.windows.specs.Steps.{top_bit};
 
-use std::num::wrapping_add_u64;
-
 // The most samples of a row, and the most windows, that a call is lent.
 pub(crate) const MOST_LENT: usize = 65_536;
-
-// Whether a is before b. The contract gives callers the plain fact on signed numbers.
-fn is_before(a: i64, b: i64) -> bool
-    ensures { result ≡ int_lt a b }
-{
-    a < b
-}
 
 // A number whose top bit is set if the time is beyond 4 * 10^18 nanoseconds either way: the first time beyond gives 2^63.
 fn beyond_bit(t: i64) -> u64
     ensures { top_bit result ≡ beyond t }
 {
-    if is_before(t, 0) {
+    if t < 0 {
         return (-1 - t) as u64 + 5_223_372_036_854_775_808;
     }
     t as u64 + 5_223_372_036_854_775_807
@@ -33,11 +24,11 @@ fn beyond_bit(t: i64) -> u64
 fn bad_severity_bit(x: f64) -> u64
     ensures { top_bit result ≡ bad_severity x }
 {
-    if x != x {
+    if x.is_nan() {
         return 0xffff_ffff_ffff_ffff;
     }
-    let bits = f64::to_bits(x);
-    bits | wrapping_add_u64(bits, 0x0010_0000_0000_0000)
+    let bits = x.to_bits();
+    bits | bits.wrapping_add(0x0010_0000_0000_0000)
 }
 
 // Whether an element has a property p, if the top bit of its number says so.

@@ -100,7 +100,7 @@ fn count_starts(mask: &[u8]) -> u32
     requires { length mask.now ≤ most_lent }
     ensures { result ≡ starts false (samples_are 1 mask.now) }
 {
-    if mask.len() == 0 {
+    if mask.is_empty() {
         return 0;
     }
     let mut count = 0u32;

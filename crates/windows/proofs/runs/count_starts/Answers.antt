@@ -1,6 +1,7 @@
 -- `windows::runs::count_starts` meets its contract. The invariant: the start at sample 0, if there is one, those counted, and those that are left are all
 -- starts. Assumes nothing.
-use Rattle.std.proofs.Common.{◌≡◌, ℕ, ◌+◌, ◌<◌, ◌≤◌, false, List, length, ap, ◌∙◌, arith}
+use Rattle.std.proofs.Common.{◌≡◌, ℕ, ◌+◌, ◌<◌, ◌≤◌, false, List, length, sym, ap, ◌∙◌, arith, eqb-true}
+use Rattle.std.proofs.lemmas.Bool.{eqb-false}
 use Rattle.buffers.specs.Ranges.{flag}
 use Rattle.windows.specs.Runs.{samples_are}
 use Rattle.windows.specs.Refusal.{most_lent}
@@ -22,12 +23,12 @@ counted : (c : After-from-count) →
 counted c =
     omega (arith, starts_next c.args.mask.now c.loop-i.i c.loop-i-test.true, c.from-count.ensures ∙ byte_flag _ ∙ ap flag c.is_start.ensures)
 
-pub returns-then-mask-eq0 : goal.returns-then-mask-eq0
-returns-then-mask-eq0 c = starts_none c.args.mask.now c.if-mask-eq0.true
+pub returns-then-is_empty : goal.returns-then-is_empty
+returns-then-is_empty c = starts_none c.args.mask.now (eqb-true _ _ (sym c.is_empty.ensures ∙ c.if-is_empty.true))
 
 pub loop-i-init : goal.loop-i-init
 loop-i-init c = let m = c.args.mask.now in
-    let n : 0 < length m = omega arith in
+    let n : 0 < length m = omega (arith, eqb-false _ _ (sym c.is_empty.ensures ∙ c.if-is_empty.false)) in
     omega (arith, n, starts_first m n)
 
 pub overflow_add-count : goal.overflow_add-count
