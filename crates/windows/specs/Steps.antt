@@ -6,7 +6,9 @@ use Rattle.float.specs.Arithmetic.{zero·0}
 use Rattle.windows.specs.Runs.{Run, run, shut, runs_from, samples_are, filter, rule_v}
 use Rattle.windows.specs.Windows.{Columns, largest, window_of}
 use Rattle.windows.specs.Refusal.{differ, no_room, windows_refusal}
+use Rattle.windows.specs.Expand.{Span, spans}
 use Rattle.windows.specs.declared.Window.{Window}
+use Rattle.windows.specs.declared.Spans.{Spans}
 use Rattle.windows.specs.declared.Listing.{Listing}
 use Rattle.windows.specs.declared.Listing.TheVariants.{Violations, Visibility}
 
@@ -94,3 +96,10 @@ stored k w c = record {
   severity = slice_set c.severity k w.severity;
   is_last = slice_set c.is_last k w.is_last;
 }
+
+-- ---- windows by their times: as many last ones as first ones, and the windows
+abbrev pub Even : Spans → Type 0
+Even s = length s.last.now ≡ length s.first.now
+
+abbrev pub spans_of : Spans → List Span
+spans_of s = spans s.first.now s.last.now

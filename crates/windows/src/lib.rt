@@ -46,3 +46,10 @@ pub(crate) struct Samples<'a> {
     pub(crate) times: &'a [i64],
     pub(crate) severities: &'a [f64],
 }
+
+// Windows by their first and by their last times. The public calls take the two lists one by one, as C lends them.
+#[derive(Clone, Copy)]
+pub(crate) struct Spans<'a> {
+    pub(crate) first: &'a [i64],
+    pub(crate) last: &'a [i64],
+}

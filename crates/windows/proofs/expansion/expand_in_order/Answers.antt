@@ -4,7 +4,7 @@ use Rattle.std.proofs.Common.{◌≡◌, ℕ, List, [], ◌∷◌, ◌++◌, len
 use Rattle.buffers.specs.Ranges.{flag}
 use Rattle.buffers.specs.Lent.{over}
 use Rattle.buffers.proofs.Lent.{length_kept, over_more}
-use Rattle.windows.specs.Expand.{spans}
+use Rattle.windows.specs.Steps.{spans_of}
 use Rattle.windows.proofs.Spread.{in_order_on, in_order_end}
 use Rattle.windows.proofs.Refusals.{byte_flag}
 use Rattle.windows.proofs.expansion.expand_in_order.Goals as goal
@@ -27,11 +27,11 @@ loop-i-preserved c = let h = c.loop-i-test.true in (
   c.loop-i.invariant.1 ++ c.from.result ∷ [],
   simp length-append (omega (arith, c.loop-i.invariant.2)),
   over_more c.loop-i.mask c.loop-i.invariant.1 c.args.mask.now c.loop-i.i c.from.result c.loop-i.invariant.3 c.loop-i.invariant.2 (omega (arith, h, c.requires.0)),
-  in_order_on c.args.times.now (spans c.args.first.now c.args.last.now) c.loop-i.i c.loop-i.invariant.1 _ c.loop-i.j c.skip_ended-j.result c.from.result h c.skip_ended-j.ensures.1 (c.from.ensures ∙ byte_flag _ ∙ ap flag c.is_in.ensures) c.loop-i.invariant.4,
+  in_order_on c.args.times.now (spans_of c.args.spans.now) c.loop-i.i c.loop-i.invariant.1 _ c.loop-i.j c.skip_ended-j.result c.from.result h c.skip_ended-j.ensures.1 (c.from.ensures ∙ byte_flag _ ∙ ap flag c.is_in.ensures) c.loop-i.invariant.4,
 )
 
 pub shape_of-mask : goal.shape_of-mask
 shape_of-mask c = kept_length (goal.at.shape_of-mask c).At-loop-i
 
 pub returns : goal.returns
-returns c = c.loop-i.invariant.3 ∙ ap (λ (v : List ℕ). over v c.args.mask.now) (in_order_end c.args.times.now (spans c.args.first.now c.args.last.now) c.loop-i.i c.loop-i.invariant.1 _ c.loop-i.j c.loop-i-test.false c.loop-i.invariant.4)
+returns c = c.loop-i.invariant.3 ∙ ap (λ (v : List ℕ). over v c.args.mask.now) (in_order_end c.args.times.now (spans_of c.args.spans.now) c.loop-i.i c.loop-i.invariant.1 _ c.loop-i.j c.loop-i-test.false c.loop-i.invariant.4)

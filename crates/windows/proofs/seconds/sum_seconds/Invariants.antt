@@ -3,4 +3,4 @@ use Rattle.windows.proofs.Durations.{Summed}
 use Rattle.windows.proofs.seconds.sum_seconds.Given as goal
 
 abbrev pub invariant-loop-k : goal.invariant-loop-k
-invariant-loop-k l = Summed l.first l.last l.k l.total
+invariant-loop-k l = Summed l.spans.first.now l.spans.last.now l.k l.total
