@@ -30,8 +30,8 @@ pub struct Window {
     pub is_last: u64,
 }
 
-// Which windows a listing gives. It says three things that belong together, the byte of a run, which runs are kept and the severity: as three closures
-// these would go along in every call.
+// Which windows a listing gives. It says three things that belong together, the byte of a run, which runs are kept and the severity: three closures would
+// be no plainer, as they would go along in every call, and the definitions of specs/Steps are by listing.
 #[derive(Clone, Copy)]
 pub(crate) enum Listing {
     Violations,

@@ -49,7 +49,7 @@ pub(crate) fn any_beyond(times: &[i64]) -> bool
     any_top(times, beyond_bit)
 }
 
-// Bytes are compared as bytes, and not by `any_top`: of numbers of 64 bits an eighth as many are looked at together.
+// Not by `any_top`, which is no plainer here: bytes are compared as they stand, and of numbers of 64 bits an eighth as many are looked at together.
 pub(crate) fn any_bad_mark(mask: &[u8]) -> bool
     ensures { result ≡ any bad_mark mask.now }
 {

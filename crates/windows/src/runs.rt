@@ -52,7 +52,8 @@ fn end_of_run(mask: &[u8], v: u8, from: usize) -> usize
     i
 }
 
-// The next run that is listed from sample `from` on, where no run is open: its samples' numbers. It goes on from run to run, which no `for` does.
+// The next run that is listed from sample `from` on, where no run is open: its samples' numbers. A `for` would be no
+// plainer: it goes on from sample to sample, and this from run to run.
 pub(crate) fn next_run(listing: Listing, mask: &[u8], from: usize) -> Option<Range<usize>>
     requires { from ≤ length mask.now }
     ensures { MatchOption result (runs_left listing mask.now from ≡ [])
