@@ -19,22 +19,22 @@ pub struct Line {
 }
 
 // Writes a line at the front of the journal's tail.
-fn write_line(tail: &mut [u8], chunk: u64, mask: u64, probes: u64)
+fn write_line(tail: &mut [u8], line: Line)
     requires { line_length ≤ length tail.old }
-    ensures { tail.new ≡ over (line_text chunk mask probes) tail.old }
+    ensures { tail.new ≡ over (line_text line.chunk line.mask line.probes) tail.old }
 {
-    write_hex(&mut tail[..8], chunk);
-    write_hex(&mut tail[8..24], mask);
-    write_hex(&mut tail[24..32], probes);
+    write_hex(&mut tail[..8], line.chunk);
+    write_hex(&mut tail[8..24], line.mask);
+    write_hex(&mut tail[24..32], line.probes);
     tail[32] = b'\n';
 }
 
 // Appends a line to the used bytes of the journal.
-pub(crate) fn append_line(journal: &mut [u8], used: usize, chunk: u64, mask: u64, probes: u64)
+pub(crate) fn append_line(journal: &mut [u8], used: usize, line: Line)
     requires { used + line_length ≤ length journal.old }
-    ensures { journal.new ≡ put used (line_text chunk mask probes) journal.old }
+    ensures { journal.new ≡ put used (line_text line.chunk line.mask line.probes) journal.old }
 {
-    write_line(&mut journal[used..], chunk, mask, probes);
+    write_line(&mut journal[used..], line);
 }
 
 // Reads line l: none if it lacks its 32 digits or 0a.

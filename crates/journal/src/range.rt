@@ -14,7 +14,7 @@ ghost use Rattle.journal.specs.Plan.{sweep_of, even_sweep, Says, UnitsOf, table_
 ghost use Rattle.journal.specs.Range.{ran_to, ran, Ranged};
 
 use crate::accepted::check_work;
-use crate::line::{LINE_LENGTH, append_line};
+use crate::line::{LINE_LENGTH, Line, append_line};
 use crate::pass::MOST_CHUNKS;
 use crate::plan::passed_plan;
 use buffers::Refusal;
@@ -98,7 +98,12 @@ fn append_swept(
             return chunk;
         }
         let swept = sweep_rolls(plan, rolls, units, chunk);
-        append_line(journal, at, chunk, swept.mask, swept.probes);
+        let line = Line {
+            chunk,
+            mask: swept.mask,
+            probes: swept.probes,
+        };
+        append_line(journal, at, line);
         at += LINE_LENGTH;
         chunk += 1;
     }

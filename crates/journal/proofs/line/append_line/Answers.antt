@@ -5,4 +5,4 @@ use Rattle.journal.proofs.line.append_line.Goals as goal
 
 pub returns : goal.returns
 returns c = let a = c.args in
-    over_part a.used (line_text a.chunk a.mask a.probes) a.journal.now c.write_line.new.tail c.write_line.ensures
+    over_part a.used (line_text a.line.chunk a.line.mask a.line.probes) a.journal.now c.write_line.new.tail c.write_line.ensures
