@@ -137,7 +137,7 @@ pub record Along (s : Sweep) (from m : ℕ) (seen : List Bool) (b₀ : List ℕ)
 pub ready : (s : Sweep) (p : PassedPlan) (b : List ℕ) (u c : ℕ) (seen : List Bool) (masks : List ℕ) → Passed s p (length b) u → work_refusal s c b u ≡ 0 → Tables b (whole_lines u) seen masks → Ready s b u seen masks
 ready s p b u c seen masks r e f =
     let q = work_clear s b u c e in
-    record { plan = q.plan; one = omega (arith, r.one, r.samples); most = omega (arith, r.most, r.samples); right = q.right; whole = q.whole; tables = f }
+    record { plan = q.plan; one = omega (arith, r.one, r.samples); most = omega (arith, r.sizes.most, r.samples); right = q.right; whole = q.whole; tables = f }
 
 -- work refuses the next chunk: it does not exist, it has a line, or there is no room
 abbrev pub is_refused : ℕ → List Bool → ℕ → ℕ → Bool

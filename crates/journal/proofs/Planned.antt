@@ -107,10 +107,8 @@ module _ (p : Plan) (rolls : List Float) (said : ℕ) where
           all = refl;
           samples = size;
           header = ap (header_of p) size ∙ sym written;
-          size = ap length written ∙ long;
-          few = f.facts.few_cells;
+          sizes = record { header = ap length written ∙ long; few = f.facts.few_cells; most = k.1 };
           one = k.0;
-          most = k.1;
           used = f.used;
         }
 

@@ -33,11 +33,15 @@ pub record Blank (seen : List Bool) (masks : List ℕ) : Type 0 where
   pub no_flag : seen ≡ replicate most_chunks false
   pub no_mask : masks ≡ replicate most_chunks 0
 
--- the sizes of a plan that has passed, and of a journal b of which u bytes are used
-pub record Bounded (p : PassedPlan) (b : List ℕ) (u : ℕ) : Type 0 where
-  pub size : length p.header ≡ header_length
+-- the sizes of a plan that has passed
+pub record Sizes (p : PassedPlan) : Type 0 where
+  pub header : length p.header ≡ header_length
   pub few : p.cells ≤ most_cells
   pub most : p.samples ≤ most_samples
+
+-- and of a journal b of which u bytes are used
+pub record Bounded (p : PassedPlan) (b : List ℕ) (u : ℕ) : Type 0 where
+  pub sizes : Sizes p
   pub used : u ≤ length b
 
 -- the sweep s of a plan that has passed, for a journal of `room` bytes of which u are used
@@ -46,10 +50,8 @@ pub record Passed (s : Sweep) (p : PassedPlan) (room u : ℕ) : Type 0 where
   pub all : cells s ≡ p.cells
   pub samples : s.samples ≡ p.samples
   pub header : s.header ≡ p.header
-  pub size : length p.header ≡ header_length
-  pub few : p.cells ≤ most_cells
+  pub sizes : Sizes p
   pub one : 1 ≤ p.samples
-  pub most : p.samples ≤ most_samples
   pub used : u ≤ room
 
 -- a journal to which lines may be appended: of work's refusals all but 9, 10 and 7 have passed, and the tables are its lines'

@@ -1,10 +1,9 @@
 // The pass that work, recover and collect make over a journal: whether it is right, which chunks have a line, and what their masks are.
 ghost use Rattle.std.specs.Prelude.{◌≡◌, true, List, ℕ, ◌+◌, ◌*◌, ◌^◌, ◌≤◌, ◌<◌, ltb, length, Some};
-ghost use Rattle.solar_roll.specs.Plan.{most_cells, most_samples};
 ghost use Rattle.journal.specs.Lines.{header_length, line_length, held_probes};
 ghost use Rattle.journal.specs.Right.{whole_lines, torn, possible, fits, lines_right, right};
 ghost use Rattle.journal.specs.Calls.{kept};
-ghost use Rattle.journal.specs.Pass.{checked_of, Tables, Blank, Bounded};
+ghost use Rattle.journal.specs.Pass.{checked_of, Tables, Blank, Sizes, Bounded};
 
 use crate::header::HEADER_LENGTH;
 use crate::line::{LINE_LENGTH, Line, read_line};
@@ -24,25 +23,25 @@ fn no_bit_from(mask: u64, k: u64) -> bool
 }
 
 // The chunk can have this mask and these probes.
-fn is_possible(cells: u64, n: u64, chunk: u64, mask: u64, probes: u64) -> bool
-    requires { n ≤ most_samples }
-    ensures { result ≡ possible cells n chunk mask probes }
+fn is_possible(plan: &PassedPlan, line: Line) -> bool
+    requires { Sizes plan.now }
+    ensures { result ≡ possible plan.now.cells plan.now.samples line.chunk line.mask line.probes }
 {
-    let all = cells_in(cells, chunk);
-    if !no_bit_from(mask, all) {
+    let all = cells_in(plan.cells, line.chunk);
+    if !no_bit_from(line.mask, all) {
         return false;
     }
-    let marked = u64::from(mask.count_ones());
-    let least = all - marked + n * marked;
-    least <= probes && probes <= n * all
+    let marked = u64::from(line.mask.count_ones());
+    let least = all - marked + plan.samples * marked;
+    least <= line.probes && line.probes <= plan.samples * all
 }
 
 // A line fits, whether or not its chunk has a line before it.
-fn line_fits(line: Line, cells: u64, n: u64) -> bool
-    requires { (cells ≤ most_cells) × (n ≤ most_samples) }
-    ensures { result ≡ fits cells n (Some line) }
+fn line_fits(plan: &PassedPlan, line: Line) -> bool
+    requires { Sizes plan.now }
+    ensures { result ≡ fits plan.now.cells plan.now.samples (Some line) }
 {
-    line.chunk < cells.div_ceil(64) && is_possible(cells, n, line.chunk, line.mask, line.probes)
+    line.chunk < plan.cells.div_ceil(64) && is_possible(plan, line)
 }
 
 // The sum of the first lines' probes, if each of these lines is right. The tables come blank, and are then filled.
@@ -54,8 +53,7 @@ fn check_lines(
     masks: &mut [u64],
 ) -> Option<u64>
     requires within { (l : ℕ) → l < lines → header_length + line_length * l + line_length ≤ length journal.now }
-    requires few { plan.now.cells ≤ most_cells }
-    requires most { plan.now.samples ≤ most_samples }
+    requires sizes { Sizes plan.now }
     requires blank { Blank seen.old masks.old }
     ensures checked { let b : List ℕ = journal.now in
         result ≡ checked_of (lines_right plan.now.cells plan.now.samples b lines) (held_probes b lines) }
@@ -65,7 +63,7 @@ fn check_lines(
     let mut probes = 0;
     for l in 0..lines {
         let line = read_line(journal, l)?;
-        if !line_fits(line, plan.cells, plan.samples) {
+        if !line_fits(plan, line) {
             return None;
         }
         let c = line.chunk as usize;

@@ -23,7 +23,7 @@ unfolding chunks
 exists c s e = omega (arith, c.if-div_ceil-chunk.false, c.div_ceil.ensures)
 
 within : (c : Else-div_ceil-chunk) → c.args.chunk < most_chunks
-within c = omega (arith, c.if-div_ceil-chunk.false, c.div_ceil.ensures, c.requires.bounded.few)
+within c = omega (arith, c.if-div_ceil-chunk.false, c.div_ceil.ensures, c.requires.bounded.sizes.few)
 
 -- the journal is right
 is_right : (c : After-is_torn) →

@@ -50,7 +50,7 @@ have_lines c t e s all =
     let d : c.div_ceil.result ≡ chunks n = omega (arith, c.div_ceil.ensures) in
     ap (λ (m : ℕ). has_chunks b l (chunks m)) all
     ∙ ap (has_chunks b l) (sym d)
-    ∙ sym (all_have_lines b _ _ l (c.check_journal.ensures.tables (told_right _ _ _ _ _ c.check_journal.ensures.checked c.in_ok-probes.ensures.value).0) c.div_ceil.result (omega (arith, d, c.requires.few)))
+    ∙ sym (all_have_lines b _ _ l (c.check_journal.ensures.tables (told_right _ _ _ _ _ c.check_journal.ensures.checked c.in_ok-probes.ensures.value).0) c.div_ceil.result (omega (arith, d, c.requires.sizes.few)))
     ∙ sym c.all_seen.ensures
     ∙ e
 
@@ -92,6 +92,6 @@ returns c = let a = c.args in
     let m = c.check_journal.new.masks in
     λ s q. collect_ok s b a.used a.mask.now _ _ (checked at.After-is_torn).1
     (filled_first (cell_bit m) n a.mask.now _ (omega (arith, c.if-mask-cells.false)) c.write_cells.ensures
-    ∙ held_bits b _ m (whole_lines a.used) (tables at.After-is_torn) n a.mask.now c.requires.few
+    ∙ held_bits b _ m (whole_lines a.used) (tables at.After-is_torn) n a.mask.now c.requires.sizes.few
     ∙ ap (λ (k : ℕ). filled k (held_bit b a.used) a.mask.now) (sym q.all))
     (collect_0 s b a.used a.mask.now q.plan (not_wrong at.After-is_torn s q) (whole at.Else-is_torn) (have_lines at.After-all_seen true c.if-not-all_seen.false s q.all) (omega (arith, c.if-mask-cells.false, q.all)))

@@ -32,7 +32,7 @@ returns-in_err-passed c = let a = c.args in
 pub collect_lines-requires : goal.collect_lines-requires
 collect_lines-requires c = let n = c.args.samples in
     let q = passes (goal.at.collect_lines-requires c).In_ok-passed (even_rolls n) (length_even n) in
-    record { size = q.size; few = q.few; most = q.most; used = q.used }
+    record { sizes = q.sizes; used = q.used }
 
 pub returns : goal.returns
 returns c rolls size = c.collect_lines.ensures _ (passes (goal.at.returns c).In_ok-passed rolls size)

@@ -32,7 +32,7 @@ returns-in_err-passed c = let a = c.args in
 pub recover_used-requires : goal.recover_used-requires
 recover_used-requires c = let n = c.args.samples in
     let q = passes (goal.at.recover_used-requires c).In_ok-passed (even_rolls n) (length_even n) in
-    record { size = q.size; few = q.few; most = q.most; used = q.used }
+    record { sizes = q.sizes; used = q.used }
 
 pub returns : goal.returns
 returns c rolls size = c.recover_used.ensures _ (passes (goal.at.returns c).In_ok-passed rolls size)

@@ -13,7 +13,7 @@ use Rattle.journal.proofs.pass.check_journal.Goals.{After-ne}
 
 compared : (c : After-ne) → c.ne.result ≡ not (agree c.args.journal.now c.args.plan.now.header c.min-m.result)
 compared c = c.ne.ensures
-    ∙ ap not (first_bytes c.args.journal.now c.args.plan.now.header c.min-m.result (omega (arith, c.min-m.ensures, c.requires.bounded.used)) (omega (arith, c.min-m.ensures, c.requires.bounded.size)))
+    ∙ ap not (first_bytes c.args.journal.now c.args.plan.now.header c.min-m.result (omega (arith, c.min-m.ensures, c.requires.bounded.used)) (omega (arith, c.min-m.ensures, c.requires.bounded.sizes.header)))
 
 pub returns-then-ne : goal.returns-then-ne
 returns-then-ne c = let a = c.args in

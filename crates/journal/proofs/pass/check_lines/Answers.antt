@@ -16,7 +16,7 @@ fitting : (c : Else-not-line_fits) → line_fits c.args.plan.now.cells c.args.pl
 fitting c = let p = c.args.plan.now in ap (fits p.cells p.samples) (sym c.in_ok-line.ensures) ∙ sym c.line_fits.ensures ∙ c.if-not-line_fits.false
 
 within : (c : Else-not-line_fits) → c.in_ok-line.line.chunk < most_chunks
-within c = let p = c.args.plan.now in chunk_within p.cells p.samples c.args.journal.now c.loop-l.l c.in_ok-line.line c.requires.few c.in_ok-line.ensures (fitting c)
+within c = let p = c.args.plan.now in chunk_within p.cells p.samples c.args.journal.now c.loop-l.l c.in_ok-line.line c.requires.sizes.few c.in_ok-line.ensures (fitting c)
 
 -- these are its numbers
 chunk_read : (c : Else-not-line_fits) → c.in_ok-line.line.chunk ≡ chunk_at c.args.journal.now c.loop-l.l
@@ -82,7 +82,7 @@ overflow_add-probes c = let p = c.args.plan.now in
       probes_lt b l.l,
       probes_fit b l.l,
       lines_few p.cells p.samples b l.l l.invariant.right,
-      chunks_le p.cells c.requires.few,
+      chunks_le p.cells c.requires.sizes.few,
     )
 
 pub loop-l-preserved : goal.loop-l-preserved

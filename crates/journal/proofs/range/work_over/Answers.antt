@@ -65,7 +65,7 @@ returns-then-limit-eq0 c to e = let a = c.args in
 
 pub check_work-requires : goal.check_work-requires
 check_work-requires c = let q = passes (goal.at.check_work-requires c).In_ok-passed in
-    record { bounded = record { size = q.size; few = q.few; most = q.most; used = q.used }; blank = record { no_flag = refl; no_mask = refl } }
+    record { bounded = record { sizes = q.sizes; used = q.used }; blank = record { no_flag = refl; no_mask = refl } }
 
 pub returns-in_err-check_work : goal.returns-in_err-check_work
 returns-in_err-check_work c = let a = c.args in
