@@ -6,36 +6,35 @@ ghost use Rattle.solar_roll.specs.Plan.{Plan as PlanOf, lent};
 ghost use Rattle.roll_sweep.specs.Sweep.{Sweep};
 ghost use Rattle.journal.specs.Calls.{begin_reply, begin_bytes, work_reply, work_bytes, recover_reply, collect_reply, collect_mask};
 ghost use Rattle.journal.specs.Range.{range_reply, range_bytes, range_stopped};
-ghost use Rattle.journal.specs.Plan.{sweep_of, even_sweep, Says};
+ghost use Rattle.journal.specs.Plan.{sweep_of, even_sweep};
 
 use crate::accepted::{collect_lines, recover_used};
 use crate::header::{HEADER_LENGTH, write_header};
-use crate::plan::passed_plan;
+use crate::plan::{Samples, passed_plan};
 use crate::range::work_even;
 use buffers::Refusal;
 use solar_roll::{Plan, samples_refusal};
 
-// Begin, over any rolls of this number, of which `said` is said in the place of 3.
+// Begin, over any rolls of this number.
 pub(crate) fn begin_samples(
     plan: &Plan,
-    said: Result<(), Refusal>,
-    samples: u64,
+    samples: Samples,
     journal: &mut [u8],
     used: u64,
 ) -> Result<u64, Refusal>
     ensures { let p : PlanOf = lent plan.now in
-        ((rolls : List Float) → length rolls ≡ samples → (replied result ≡ begin_reply (sweep_of p rolls (found said)) journal.old used)
-        × (journal.new ≡ begin_bytes (sweep_of p rolls (found said)) journal.old used)) }
+        ((rolls : List Float) → length rolls ≡ samples.count → (replied result ≡ begin_reply (sweep_of p rolls (found samples.said)) journal.old used)
+        × (journal.new ≡ begin_bytes (sweep_of p rolls (found samples.said)) journal.old used)) }
 {
     let room = journal.len() as u64;
-    plan.refusal(said, room < used)?;
+    plan.refusal(samples.said, room < used)?;
     if used != 0 {
         return Err(Refusal::JournalNotEmpty);
     }
     if room < HEADER_LENGTH as u64 {
         return Err(Refusal::OutputTooShort);
     }
-    write_header(journal, plan, samples);
+    write_header(journal, plan, samples.count);
     Ok(HEADER_LENGTH as u64)
 }
 
@@ -48,7 +47,7 @@ pub fn begin(plan: &Plan, n: u64, journal: &mut [u8], used: u64) -> Result<u64, 
         × (journal.new ≡ begin_bytes s journal.old used) }
 {
     let said = samples_refusal(n);
-    begin_samples(plan, said, n, journal, used)
+    begin_samples(plan, Samples { count: n, said }, journal, used)
 }
 
 // Sweeps a chunk, appends its line, and gives the used length.
@@ -85,20 +84,18 @@ pub fn work_range(
     work_even(plan, n, from, limit, journal, used, stopped)
 }
 
-// Recover, over any rolls of this number, of which `said` is said in the place of 3.
+// Recover, over any rolls of this number.
 pub(crate) fn recover_samples(
     plan: &Plan,
-    said: Result<(), Refusal>,
-    samples: u64,
+    samples: Samples,
     journal: &[u8],
     used: u64,
 ) -> Result<u64, Refusal>
-    requires { Says (found said) samples }
     ensures { let p : PlanOf = lent plan.now in
-        ((rolls : List Float) → length rolls ≡ samples → replied result ≡ recover_reply (sweep_of p rolls (found said)) journal.now used) }
+        ((rolls : List Float) → length rolls ≡ samples.count → replied result ≡ recover_reply (sweep_of p rolls (found samples.said)) journal.now used) }
 {
     let room = journal.len() as u64;
-    let passed = passed_plan(plan, said, samples, room, used)?;
+    let passed = passed_plan(plan, samples, room, used)?;
     recover_used(&passed, journal, used)
 }
 
@@ -110,26 +107,24 @@ pub fn recover(plan: &Plan, n: u64, journal: &[u8], used: u64) -> Result<u64, Re
         replied result ≡ recover_reply s journal.now used }
 {
     let said = samples_refusal(n);
-    recover_samples(plan, said, n, journal, used)
+    recover_samples(plan, Samples { count: n, said }, journal, used)
 }
 
-// Collect, over any rolls of this number, of which `said` is said in the place of 3.
+// Collect, over any rolls of this number.
 pub(crate) fn collect_samples(
     plan: &Plan,
-    said: Result<(), Refusal>,
-    samples: u64,
+    samples: Samples,
     journal: &[u8],
     used: u64,
     mask: &mut [u8],
 ) -> Result<u64, Refusal>
-    requires { Says (found said) samples }
     ensures { let p : PlanOf = lent plan.now in
-        ((rolls : List Float) → length rolls ≡ samples
-        → (replied result ≡ collect_reply (sweep_of p rolls (found said)) journal.now used mask.old)
-        × (mask.new ≡ collect_mask (sweep_of p rolls (found said)) journal.now used mask.old)) }
+        ((rolls : List Float) → length rolls ≡ samples.count
+        → (replied result ≡ collect_reply (sweep_of p rolls (found samples.said)) journal.now used mask.old)
+        × (mask.new ≡ collect_mask (sweep_of p rolls (found samples.said)) journal.now used mask.old)) }
 {
     let room = journal.len() as u64;
-    let passed = passed_plan(plan, said, samples, room, used)?;
+    let passed = passed_plan(plan, samples, room, used)?;
     collect_lines(&passed, journal, used, mask)
 }
 
@@ -148,5 +143,5 @@ pub fn collect(
         × (mask.new ≡ collect_mask s journal.now used mask.old) }
 {
     let said = samples_refusal(n);
-    collect_samples(plan, said, n, journal, used, mask)
+    collect_samples(plan, Samples { count: n, said }, journal, used, mask)
 }

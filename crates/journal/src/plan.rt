@@ -18,27 +18,33 @@ pub struct PassedPlan {
     pub samples: u64,
 }
 
-// Tries *Plan*, for any rolls of this number, of which `said` is said in the place of 3, and a journal of `room` bytes.
+// How many rolls there are, and what is said of them in the place of 3.
+#[derive(Clone, Copy)]
+pub struct Samples {
+    pub count: u64,
+    pub said: Result<(), Refusal>,
+    ghost says: { Says (found said) count },
+}
+
+// Tries *Plan*, for any rolls of this number, and a journal of `room` bytes.
 pub(crate) fn passed_plan(
     plan: &Plan,
-    said: Result<(), Refusal>,
-    samples: u64,
+    samples: Samples,
     room: u64,
     used: u64,
 ) -> Result<PassedPlan, Refusal>
-    requires { Says (found said) samples }
-    ensures refusal { (rolls : List Float) → length rolls ≡ samples
-        → found result ≡ (sweep_of (lent plan.now) rolls (found said)).refusal (ltb room used) }
-    ensures passed { (rolls : List Float) → length rolls ≡ samples → (p : PassedPlan) → result ≡ Ok p
-        → Passed (sweep_of (lent plan.now) rolls (found said)) p room used }
+    ensures refusal { (rolls : List Float) → length rolls ≡ samples.count
+        → found result ≡ (sweep_of (lent plan.now) rolls (found samples.said)).refusal (ltb room used) }
+    ensures passed { (rolls : List Float) → length rolls ≡ samples.count → (p : PassedPlan) → result ≡ Ok p
+        → Passed (sweep_of (lent plan.now) rolls (found samples.said)) p room used }
 {
-    plan.refusal(said, room < used)?;
+    plan.refusal(samples.said, room < used)?;
     let cells = plan.rows() as u64 * plan.times() as u64;
     let mut header = [0u8; HEADER_LENGTH];
-    write_header(&mut header, plan, samples);
+    write_header(&mut header, plan, samples.count);
     Ok(PassedPlan {
         header,
         cells,
-        samples,
+        samples: samples.count,
     })
 }

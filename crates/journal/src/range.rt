@@ -16,7 +16,7 @@ ghost use Rattle.journal.specs.Range.{ran_to, ran, Ranged};
 use crate::accepted::check_work;
 use crate::line::{LINE_LENGTH, Line, append_line};
 use crate::pass::MOST_CHUNKS;
-use crate::plan::passed_plan;
+use crate::plan::{Samples, passed_plan};
 use buffers::Refusal;
 use roll_sweep::{Swept, cells_in, even_rolls, sweep_chunk};
 use solar_roll::{MOST_SAMPLES, Plan, samples_refusal, sun_unit, sun_units, triple};
@@ -186,8 +186,8 @@ pub(crate) fn work_over(
         → Ranged s from to journal.old used stopped.old result journal.new stopped.new) }
 {
     let room = journal.len() as u64;
-    let samples = rolls.len() as u64;
-    let passed = passed_plan(plan, said, samples, room, used)?;
+    let count = rolls.len() as u64;
+    let passed = passed_plan(plan, Samples { count, said }, room, used)?;
     if limit == 0 {
         return Err(Refusal::NoSuchIndex);
     }

@@ -9,6 +9,7 @@ ghost use Rattle.journal.specs.Range.{range_reply, range_bytes, range_stopped};
 ghost use Rattle.journal.specs.Plan.{table_sweep};
 
 use crate::calls::{begin_samples, collect_samples, recover_samples};
+use crate::plan::Samples;
 use crate::range::work_over;
 use buffers::Refusal;
 use roll_sweep::table_refusal;
@@ -28,7 +29,8 @@ pub fn begin_rolls(
         × (journal.new ≡ begin_bytes s journal.old used) }
 {
     let said = table_refusal(rolls);
-    begin_samples(plan, said, rolls.len() as u64, journal, used)
+    let count = rolls.len() as u64;
+    begin_samples(plan, Samples { count, said }, journal, used)
 }
 
 // As `work`, over a lent table of rolls.
@@ -80,7 +82,8 @@ pub fn recover_rolls(plan: &Plan, rolls: &[f64], journal: &[u8], used: u64) -> R
         replied result ≡ recover_reply s journal.now used }
 {
     let said = table_refusal(rolls);
-    recover_samples(plan, said, rolls.len() as u64, journal, used)
+    let count = rolls.len() as u64;
+    recover_samples(plan, Samples { count, said }, journal, used)
 }
 
 // As `collect`, over a lent table of rolls.
@@ -98,5 +101,6 @@ pub fn collect_rolls(
         × (mask.new ≡ collect_mask s journal.now used mask.old) }
 {
     let said = table_refusal(rolls);
-    collect_samples(plan, said, rolls.len() as u64, journal, used, mask)
+    let count = rolls.len() as u64;
+    collect_samples(plan, Samples { count, said }, journal, used, mask)
 }

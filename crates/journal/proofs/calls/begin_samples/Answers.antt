@@ -15,25 +15,25 @@ unfolding begin_refusal sweep_of
 returns-in_err-refusal c = let a = c.args in
     let p = err_from_is_err_and c.from_residual.result c.from_residual.ensures.1 in
     rw (p.1, p.2) (λ rolls size.
-    let s = sweep_of (lent a.plan.now) rolls (found a.said) in
+    let s = sweep_of (lent a.plan.now) rolls (found a.samples.said) in
     begin_err s a.journal.now a.used _ (plan_refused s a.journal.now a.used (begin_conditions a.journal.now a.used) _ c.in_err-refusal.ensures))
 
 pub returns-then-used-ne0 : goal.returns-then-used-ne0
 unfolding sweep_of
 returns-then-used-ne0 c rolls size = let a = c.args in
-    let s = sweep_of (lent a.plan.now) rolls (found a.said) in
+    let s = sweep_of (lent a.plan.now) rolls (found a.samples.said) in
     begin_err s a.journal.now a.used JournalNotEmpty (sym (begin_13 s a.journal.now a.used (sym c.in_ok-refusal.ensures) c.if-used-ne0.true))
 
 pub returns-then-room : goal.returns-then-room
 unfolding sweep_of
 returns-then-room c rolls size = let a = c.args in
-    let s = sweep_of (lent a.plan.now) rolls (found a.said) in
+    let s = sweep_of (lent a.plan.now) rolls (found a.samples.said) in
     begin_err s a.journal.now a.used OutputTooShort (sym (begin_7 s a.journal.now a.used (sym c.in_ok-refusal.ensures) c.if-used-ne0.false c.if-room.true))
 
 pub returns : goal.returns
 unfolding sweep_of
 returns c rolls size = let a = c.args in
     let p = lent a.plan.now in
-    let s = sweep_of p rolls (found a.said) in
-    begin_ok s a.journal.now a.used _ (header_put p rolls (found a.said) a.samples size a.journal.now _ c.write_header.ensures)
+    let s = sweep_of p rolls (found a.samples.said) in
+    begin_ok s a.journal.now a.used _ (header_put p rolls (found a.samples.said) a.samples.count size a.journal.now _ c.write_header.ensures)
     (begin_0 s a.journal.now a.used (sym c.in_ok-refusal.ensures) c.if-used-ne0.false c.if-room.false)

@@ -1,5 +1,5 @@
 -- `journal::calls::collect` meets its contract. Assumes nothing.
-use mathlib.Core.Path.{refl, sym, ap, ◌∙◌}
+use mathlib.Core.Path.{refl, ap, ◌∙◌}
 use Rattle.solar_roll.specs.Plan.{lent}
 use Rattle.roll_sweep.specs.Sweep.{Sweep}
 use Rattle.roll_sweep.specs.Rolls.{even_rolls}
@@ -7,9 +7,6 @@ use Rattle.roll_sweep.proofs.Even.{length_even}
 use Rattle.journal.specs.Calls.{collect_reply, collect_mask}
 use Rattle.journal.proofs.Planned.{even_sweep_lem}
 use Rattle.journal.proofs.calls.collect.Goals as goal
-
-pub collect_samples-requires : goal.collect_samples-requires
-collect_samples-requires c e = sym c.samples_refusal-said.ensures ∙ e
 
 pub returns : goal.returns
 returns c = let a = c.args in

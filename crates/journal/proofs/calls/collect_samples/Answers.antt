@@ -18,7 +18,7 @@ use Rattle.journal.proofs.calls.collect_samples.Goals.{In_ok-passed}
 -- the plan has passed
 passes : (c : In_ok-passed) (rolls : List Float) →
     let a = c.args in
-    length rolls ≡ a.samples → Passed (sweep_of (lent a.plan.now) rolls (found a.said)) c.in_ok-passed.passed (length a.journal.now) a.used
+    length rolls ≡ a.samples.count → Passed (sweep_of (lent a.plan.now) rolls (found a.samples.said)) c.in_ok-passed.passed (length a.journal.now) a.used
 passes c rolls size = c.in_ok-passed.ensures.passed rolls size _ refl
 
 pub returns-in_err-passed : goal.returns-in_err-passed
@@ -26,11 +26,11 @@ unfolding collect_refusal
 returns-in_err-passed c = let a = c.args in
     let p = err_from_is_err_and c.from_residual.result c.from_residual.ensures.1 in
     rw (p.1, p.2) (λ rolls size.
-    let s = sweep_of (lent a.plan.now) rolls (found a.said) in
+    let s = sweep_of (lent a.plan.now) rolls (found a.samples.said) in
     collect_err s a.journal.now a.used a.mask.now _ (plan_refused s a.journal.now a.used (collect_conditions s a.journal.now a.used a.mask.now) _ (c.in_err-passed.ensures.refusal rolls size)))
 
 pub collect_lines-requires : goal.collect_lines-requires
-collect_lines-requires c = let n = c.args.samples in
+collect_lines-requires c = let n = c.args.samples.count in
     let q = passes (goal.at.collect_lines-requires c).In_ok-passed (even_rolls n) (length_even n) in
     record { sizes = q.sizes; used = q.used }
 

@@ -1,5 +1,5 @@
 -- `journal::calls::recover` meets its contract. Assumes nothing.
-use mathlib.Core.Path.{refl, sym, ap, ◌∙◌}
+use mathlib.Core.Path.{refl, ap, ◌∙◌}
 use Rattle.solar_roll.specs.Plan.{lent}
 use Rattle.roll_sweep.specs.Sweep.{Sweep}
 use Rattle.roll_sweep.specs.Rolls.{even_rolls}
@@ -7,9 +7,6 @@ use Rattle.roll_sweep.proofs.Even.{length_even}
 use Rattle.journal.specs.Calls.{recover_reply}
 use Rattle.journal.proofs.Planned.{even_sweep_lem}
 use Rattle.journal.proofs.calls.recover.Goals as goal
-
-pub recover_samples-requires : goal.recover_samples-requires
-recover_samples-requires c e = sym c.samples_refusal-said.ensures ∙ e
 
 pub returns : goal.returns
 returns c = let a = c.args in

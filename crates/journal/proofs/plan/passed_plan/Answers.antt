@@ -22,7 +22,7 @@ returns-in_err-refusal c =
 pub overflow_mul-cells : goal.overflow_mul-cells
 unfolding sweep_of
 overflow_mul-cells c = let a = c.args in
-    let few = (passed (lent a.plan.now) [] (found a.said) a.room a.used (sym c.in_ok-refusal.ensures)).facts.few_cells in
+    let few = (passed (lent a.plan.now) [] (found a.samples.said) a.room a.used (sym c.in_ok-refusal.ensures)).facts.few_cells in
     rw (c.rows.ensures, c.times.ensures) (omega (arith, few))
 
 pub returns : goal.returns
@@ -31,9 +31,9 @@ returns c = let a = c.args in
     record {
       refusal = λ rolls size. c.in_ok-refusal.ensures;
       passed = λ rolls size q e.
-          let s : Sweep = sweep_of (lent a.plan.now) rolls (found a.said) in
-          let p : PassedPlan = record { header = c.write_header.new.out; cells = c.rows.result * c.times.result; samples = a.samples } in
-          let w : Passed s p a.room a.used = rw (c.rows.ensures, c.times.ensures) (passed_with (lent a.plan.now) rolls (found a.said) a.samples size c.requires _ a.room a.used (sym c.in_ok-refusal.ensures) c.write_header.ensures) in
+          let s : Sweep = sweep_of (lent a.plan.now) rolls (found a.samples.said) in
+          let p : PassedPlan = record { header = c.write_header.new.out; cells = c.rows.result * c.times.result; samples = a.samples.count } in
+          let w : Passed s p a.room a.used = rw (c.rows.ensures, c.times.ensures) (passed_with (lent a.plan.now) rolls (found a.samples.said) a.samples.count size a.samples.says _ a.room a.used (sym c.in_ok-refusal.ensures) c.write_header.ensures) in
           let same : p ≡ q = cc in
           subst (λ (k : PassedPlan). Passed s k a.room a.used) same w;
     }

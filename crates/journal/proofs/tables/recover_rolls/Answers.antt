@@ -3,8 +3,8 @@ use mathlib.Core.Path.{refl, sym, ◌∙◌}
 use Rattle.roll_sweep.proofs.Tables.{table_samples}
 use Rattle.journal.proofs.tables.recover_rolls.Goals as goal
 
-pub recover_samples-requires : goal.recover_samples-requires
-recover_samples-requires c e = table_samples _ (sym c.table_refusal-said.ensures ∙ e)
+pub invariant_of-recover_samples : goal.invariant_of-recover_samples
+invariant_of-recover_samples c = record { says = λ e. table_samples _ (sym c.table_refusal-said.ensures ∙ e) }
 
 pub returns : goal.returns
 returns c = rw c.table_refusal-said.ensures at (c.recover_samples.ensures c.args.rolls.now refl)
