@@ -24,6 +24,7 @@ pub struct PlanLists<'a> {
     pub panel: &'a mut [f64],
 }
 
+// Here and below a size is three numbers, as C lends it.
 // 2, 3 and 7; `short` says that a lent list has too few places.
 #[tactic(auto, unfolding(crate::specs::Cost::size_refusal, buffers::specs::Refusal::first, buffers::specs::Refusal::carried))]
 fn size_refusal(targets: u64, times: u64, n: u64, short: bool) -> Result<(), Refusal>

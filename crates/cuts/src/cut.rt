@@ -40,7 +40,7 @@ impl fmt::Display for Tally {
     }
 }
 
-// What one write makes: a journal's header, or the line of a chunk.
+// What one write makes: a journal's header, or the line of a chunk. Two cases: a header is not the absence of a line.
 #[derive(Clone, Copy)]
 enum Part {
     Header,

@@ -13,7 +13,7 @@ const PANELS: [f64; 3] = [0.0, 1.0, 0.0];
 // The first five may be a table's rolls; 360 may not.
 const TABLE: [f64; 6] = [0.0, 17.5, 90.0, 200.25, 359.5, 360.0];
 
-// The rolls of a plan: so many even ones, or so many of `TABLE`.
+// The rolls of a plan: so many even ones, or so many of `TABLE`. Two cases, neither an error.
 #[derive(Clone, Copy)]
 pub(crate) enum Rolls {
     Even(u64),
@@ -120,6 +120,7 @@ impl SmallPlan {
     }
 }
 
+// Each names another call of the journal, with parameters of its own: one function over them would take each as a closure.
 pub(crate) fn begin(small: SmallPlan, journal: &mut [u8], used: u64) -> Result<u64, Refusal> {
     let suns = suns();
     let plan = small.lent(&suns);

@@ -69,6 +69,7 @@ fn replay(text: &[u8], counts: &mut Counts) {
 
 // Reads until the buffer is full or the input ends, and answers how many bytes were read.
 // `read_exact` refuses a shorter file, and `read_to_end` needs the heap. A crate that gave this to vectors too would be longer.
+// `done` counts bytes that the reader gave, so no range gives it.
 fn read_full(input: &mut impl Read, buffer: &mut [u8]) -> io::Result<usize>
     ensures { IfOk result (λ n. n ≤ length buffer.new) }
 {

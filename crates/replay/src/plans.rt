@@ -71,12 +71,14 @@ fn row(asked: &Line, plan: &Plan) -> bool {
         && asked.has(&severities, 4, 2)
 }
 
+// So many even rolls, or those of a table. Two cases, neither an error.
 #[derive(Clone, Copy)]
 enum Rolls<'a> {
     Even(u64),
     Table(&'a [f64]),
 }
 
+// Each names another call of the journal, with parameters of its own: one function over them would take each as a closure.
 fn begin(plan: &Plan, rolls: Rolls, file: &mut [u8]) -> Result<u64, Refusal> {
     match rolls {
         Rolls::Even(n) => journal::begin(plan, n, file, 0),

@@ -1,11 +1,11 @@
 // Questions about a row of samples, and about a list of windows. Above a function stands what its lines answer.
 use crate::kinds::Kind;
-use crate::words::{Line, UNWRITTEN, first};
+use crate::words::{Line, UNWRITTEN};
 use buffers::Refusal;
 use float::{bits, of_bits};
 use windows::{expand, total_violation_duration, violation_windows, visibility_windows};
 
-// The columns that a listing writes.
+// The columns that a listing writes. A crate that gave this to rows too would be longer.
 #[derive(Drop)]
 struct Columns {
     first: [u64; 24],
@@ -115,7 +115,8 @@ fn result(asked: &Line, starts: &[i64], ends: &[i64], instants: &[i64]) -> bool 
     let mut mask = [7u8; 48];
     let mut columns = Columns::unwritten();
     expand(starts, ends, instants, &mut mask) == Ok(0)
-        && columns.list_visibility(first(&mask, instants.len()), instants) == Ok(asked.word(3))
+        && columns.list_visibility(mask.get(..instants.len()).unwrap_or(&mask), instants)
+            == Ok(asked.word(3))
         && asked.has(&columns.first_time, 4, 2)
         && asked.has(&columns.last_time, 5, 2)
 }

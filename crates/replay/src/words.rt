@@ -90,7 +90,8 @@ impl Line {
         for (k, place) in out.iter_mut().enumerate() {
             *place = T::from_word(self.word(from.wrapping_add(k as u64)));
         }
-        first(out, count as usize)
+        let read: &[T] = out;
+        read.get(..count as usize).unwrap_or(read)
     }
 
     // Whether a list holds the words from `from` on, one in `step`, and is unwritten past the last.
@@ -99,9 +100,4 @@ impl Line {
             x.to_word() == self.word(from.wrapping_add(step.wrapping_mul(k as u64)))
         })
     }
-}
-
-// The first of a list.
-pub(crate) fn first<T>(list: &[T], count: usize) -> &[T] {
-    &list[..count.min(list.len())]
 }

@@ -5,7 +5,7 @@
 use buffers::Refusal;
 use std::{array, io};
 
-// The columns that a listing writes.
+// The columns that a listing writes. A crate that gave this to replay too would be longer.
 #[derive(Drop)]
 struct Columns<const N: usize> {
     first: [u64; N],
@@ -98,6 +98,7 @@ fn show_time(rt: &impl Print, t: i64, times: &[i64]) -> io::Result<()> {
     }
 }
 
+// Here and below a row's lists are passed on one by one, as the calls take them.
 fn violations(rt: &impl Print, mask: &[u8], times: &[i64], severities: &[f64]) -> io::Result<()> {
     let mut columns = Columns::<3>::sevens();
     print!(rt; "  violations")?;

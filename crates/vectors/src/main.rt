@@ -85,6 +85,7 @@ fn replay(rt: &impl Print, text: &[u8]) -> io::Result<()> {
 
 // Reads until the buffer is full or the input ends, and answers how many bytes were read.
 // `read_exact` refuses a shorter input, and `read_to_end` needs the heap. A crate that gave this to replay too would be longer.
+// `done` counts bytes that the reader gave, so no range gives it.
 fn read_full(input: &mut impl Read, buffer: &mut [u8]) -> io::Result<usize>
     ensures { IfOk result (λ n. n ≤ length buffer.new) }
 {
