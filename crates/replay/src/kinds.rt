@@ -48,8 +48,14 @@ static KINDS: [Kind; 20] = [
     Kind::Table,
 ];
 
-impl Kind {
-    pub(crate) fn from_word(word: u64) -> Option<Kind> {
-        KINDS.get(word as usize).copied()
+// Of a word that is no kind's number.
+#[derive(Clone, Copy, PartialEq, Eq)]
+pub(crate) struct NoKind;
+
+impl TryFrom<u64> for Kind {
+    type Error = NoKind;
+
+    fn try_from(word: u64) -> Result<Kind, NoKind> {
+        KINDS.get(word as usize).copied().ok_or(NoKind)
     }
 }

@@ -43,10 +43,10 @@ struct Count {
 type Counts = [Count; 20];
 
 fn tally(given: &Line, asked: &Line, counts: &mut Counts) {
-    let kind = Kind::from_word(asked.word(0));
+    let kind = Kind::try_from(asked.word(0));
     if let Some(count) = counts.get_mut(kind.unwrap_or(Kind::Given) as usize) {
         count.answers = count.answers.wrapping_add(1);
-        if !kind.is_some_and(|kind| agrees(kind, given, asked)) {
+        if !kind.is_ok_and(|kind| agrees(kind, given, asked)) {
             count.differ = count.differ.wrapping_add(1);
         }
     }
@@ -59,7 +59,7 @@ fn replay(text: &[u8], counts: &mut Counts) {
     let _ = lines.next_back();
     for line in lines {
         let line = Line::parse(line);
-        if Kind::from_word(line.word(0)) == Some(Kind::Given) {
+        if Kind::try_from(line.word(0)) == Ok(Kind::Given) {
             given = line;
         } else {
             tally(&given, &line, counts);
