@@ -55,6 +55,7 @@ pub fn cost(targets: u64, times: u64, n: u64, out: &mut [u64]) -> Result<u64, Re
 }
 
 // Writes the pattern over and over, so many numbers in all.
+// The count goes with the whole list: of a field that is lent as a slice, a proof knows no more afterwards than its length.
 fn write_repeated(pattern: &[f64], places: usize, out: &mut [f64])
     requires { (0 < length pattern.now) × (places ≤ length out.old) }
     ensures { out.new ≡ over (repeated places pattern.now) out.old }
