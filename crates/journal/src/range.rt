@@ -25,7 +25,7 @@ use solar_roll::{MOST_SAMPLES, Plan, samples_refusal, sun_unit, sun_units, tripl
 const TABLE_TIMES: usize = 8_784;
 
 // The Sun's units at `cells` cells from number `first` on. Of a time that comes again, in another
-// row, the unit is not worked out again.
+// row, the unit is not worked out again. `first` and `cells` are a range of cell numbers, and no list's length.
 fn chunk_units(suns: &[f64], observers: &[f64], first: usize, cells: usize) -> [[f64; 3]; 64]
     requires { (cells ≤ 64) × (0 < count suns.now) × (first ≤ most_cells) }
     ensures { let unit : ℕ → Vector = λ j. sun_unit (triple suns.now j) (triple observers.now j) in
@@ -74,6 +74,7 @@ fn is_refused(seen: &[bool], chunks: u64, free: usize, chunk: u64) -> bool
 }
 
 // Appends the lines of up to `limit` chunks from `from` on, stopping at the first that work refuses. Gives the chunk at which it stopped.
+// This function and the two before work_over share seven parameters. A struct of them is no plainer: it would be built once, for these three calls.
 fn append_swept(
     plan: &Plan,
     rolls: &[f64],
