@@ -13,11 +13,11 @@ use Rattle.buffers.specs.Refusal.{Conditions, first, carried, refused, replied, 
 use Rattle.buffers.specs.declared.reasons.Refusal.{Refusal}
 use Rattle.buffers.proofs.Refusals.{first_here, first_skip, first_clear, first_clears, carried_here, carried_skip, carried_clear, carried_last, reply_some, written_none, written_some, number_positive, err_replied, ok_replied, err_unless, ok_unless}
 use Rattle.roll_sweep.specs.Sweep.{Sweep, cells, chunks}
-use Rattle.journal.specs.Lines.{header_length, line_length, has_chunk, has_chunks, held_probes}
+use Rattle.journal.specs.Lines.{header_length, line_length, line_of, has_chunk, has_chunks, held_probes}
 use Rattle.journal.specs.Right.{whole_lines, torn, right}
 use Rattle.journal.specs.Pass.{Passed}
 use Rattle.journal.specs.declared.plan.PassedPlan.{PassedPlan}
-use Rattle.journal.specs.Calls.{after_plan, wrong, begin_short, begin_refusal, begin_reply, begin_bytes, work_conditions, work_refusal, work_reply, kept, recover_refusal, recover_reply, collect_refusal, collect_reply, held_bit, collect_mask}
+use Rattle.journal.specs.Calls.{after_plan, wrong, begin_short, begin_refusal, begin_reply, begin_bytes, work_conditions, work_refusal, work_reply, work_bytes, kept, recover_refusal, recover_reply, collect_refusal, collect_reply, held_bit, collect_mask}
 use Rattle.journal.specs.Range.{Ran, ran_to, ran, range_conditions, range_refusal, range_ran, range_reply, range_bytes, range_stopped, Ranged}
 
 -- ---- the plan's refusal, before a call's own conditions
@@ -120,6 +120,10 @@ module _ (s : Sweep) (b : List ℕ) (u : ℕ) where
           room = ltb-false (length b) (u + line_length) q.1.1.1.1.0;
         }
 
+    pub work_err : (why : Refusal) → number_of why ≡ work_refusal s c b u → (replied (Err why) ≡ work_reply s c b u) × (b ≡ work_bytes s c b u)
+    unfolding work_reply work_bytes
+    work_err why e = (err_replied why _ (u + line_length) e, err_unless why _ (put u (line_of s c) b) b e)
+
     pub work_ok : work_refusal s c b u ≡ 0 → replied (Ok (u + line_length)) ≡ work_reply s c b u
     unfolding work_reply
     work_ok e = ok_replied _ _ _ (sym e) refl
@@ -210,10 +214,16 @@ module _ (s : Sweep) (from to : ℕ) (b : List ℕ) (u : ℕ) where
         let r : Ran = range_ran s from to b u in
         (err_replied why _ r.used e, err_unless why _ r.bytes b e, err_unless why _ r.next old e)
 
-    -- the plan is refused
+    -- the plan is refused, by its number and by its name
+    pub range_first : (k : ℕ) → k ≡ s.refusal (ltb (length b) u) → 0 < k → (refused k ≡ range_reply s from to b u) × (b ≡ range_bytes s from to b u) × (old ≡ range_stopped s from to b u old)
+    unfolding range_refusal range_reply range_bytes range_stopped
+    range_first k e h =
+        let f : k ≡ range_refusal s from to b u = plan_first s b u (range_conditions s from to b u) k e h in
+        let some : 0 < range_refusal s from to b u = omega (arith, f, h) in
+        (ap refused f ∙ sym (reply_some _ _ some), sym (written_some _ _ _ some), sym (written_some _ _ _ some))
+
     pub range_plan : (why : Refusal) → number_of why ≡ s.refusal (ltb (length b) u) → Ranged s from to b u old (Err why) b old
-    unfolding range_refusal
-    range_plan why e = range_err why (plan_refused s b u (range_conditions s from to b u) why e)
+    range_plan why e = range_first (number_of why) e (number_positive why)
 
     pub range_ok : (o : List ℕ) (v c : ℕ) → ran_to o v c ≡ ran s (to - from) (ran_to b u from) → range_refusal s from to b u ≡ 0 → Ranged s from to b u old (Ok v) o c
     unfolding range_reply range_bytes range_stopped range_ran
@@ -226,16 +236,10 @@ module _ (s : Sweep) (from to : ℕ) (b : List ℕ) (u : ℕ) where
 -- where the plan is refused, a range is refused alike over whatever rolls
 pub range_alike : (s t : Sweep) (from to : ℕ) (b : List ℕ) (u old : ℕ) (r : Result ℕ Refusal) (o : List ℕ) (c k : ℕ)
     → k ≡ s.refusal (ltb (length b) u) → k ≡ t.refusal (ltb (length b) u) → 0 < k → Ranged s from to b u old r o c → Ranged t from to b u old r o c
-unfolding range_refusal range_reply range_bytes range_stopped
 range_alike s t from to b u old r o c k e f h q =
-    let x : k ≡ range_refusal s from to b u = plan_first s b u (range_conditions s from to b u) k e h in
-    let y : k ≡ range_refusal t from to b u = plan_first t b u (range_conditions t from to b u) k f h in
-    let some : 0 < range_refusal s from to b u = omega (arith, x, h) in
-    let also : 0 < range_refusal t from to b u = omega (arith, y, h) in (
-      q.0 ∙ reply_some _ _ some ∙ ap refused (sym x ∙ y) ∙ sym (reply_some _ _ also),
-      q.1 ∙ written_some _ _ _ some ∙ sym (written_some _ _ _ also),
-      q.2 ∙ written_some _ _ _ some ∙ sym (written_some _ _ _ also),
-    )
+    let x = range_first s from to b u old k e h in
+    let y = range_first t from to b u old k f h in
+    (q.0 ∙ sym x.0 ∙ y.0, q.1 ∙ sym x.1 ∙ y.1, q.2 ∙ sym x.2 ∙ y.2)
 
 -- a range of one chunk is refused as its work
 pub range_one_refusal : (s : Sweep) (c : ℕ) (b : List ℕ) (u : ℕ) → range_refusal s c (c + 1) b u ≡ work_refusal s c b u
