@@ -3,7 +3,7 @@ use mathlib.Core.Path.{◌≡◌, refl, sym, ap, ap₂, ◌∙◌, subst}
 use mathlib.Core.Bool.{Bool, true, false, ◌&&◌, cond}
 use mathlib.Core.List.{List, [], ◌∷◌, ◌++◌, append_assoc}
 use Prim.Native.Nat.{ℕ, zero, suc, ◌+◌, ◌*◌, ◌/◌, ◌%◌, ◌^◌, ◌≤◌, ◌<◌}
-use native.Mathlib.Nat.{add-suc, add_assoc, add-zero, pow-suc, div-lt_iff_lt-mul, lt_of_lt_of_le, pow-le-pow_right}
+use native.Mathlib.Nat.{add-suc, add_assoc, add-zero, zero-add, pow-suc, div-lt_iff_lt-mul, lt_of_lt_of_le, pow-le-pow_right}
 use native.Mathlib.Numerals.{add-one}
 use native.Mathlib.Omega.{arith}
 use lib.ListN.{length, get_or, take, drop, length-append, length-drop}
@@ -97,20 +97,23 @@ unfolding hex_value
 value_lt b i zero = omega arith
 value_lt b i (suc w) = subst (λ (n : ℕ). hex_value b i w * 16 + digit_value (get_or b (i + w) 0) < n) (sym (pow-suc 16 w)) (omega (arith, value_lt b i w, digit_lt (get_or b (i + w) 0)))
 
-pub value_step : (b : List ℕ) (j : ℕ) → hex_value b 0 (j + 1) ≡ hex_value b 0 j * 16 + digit_value (get_or b j 0)
+pub value_step : (b : List ℕ) (i j : ℕ) → hex_value b i (j + 1) ≡ hex_value b i j * 16 + digit_value (get_or b (i + j) 0)
 unfolding hex_value
-value_step b j =
-    let z : 0 + j ≡ j = omega arith in
-    ap (hex_value b 0) (add-one j) ∙ ap (λ (i : ℕ). hex_value b 0 j * 16 + digit_value (get_or b i 0)) z
+value_step b i j = ap (hex_value b i) (add-one j)
 
 pub value_fits : (b : List ℕ) (i j : ℕ) → j < 16 → hex_value b i j < 16 ^ 15
 value_fits b i j h = lt_of_lt_of_le (value_lt b i j) (pow-le-pow_right {n = 16} (omega arith) {i = j} {j = 15} (omega arith))
 
-pub digits_step : (b : List ℕ) (j : ℕ) → are_digits b 0 (j + 1) ≡ (are_digits b 0 j && is_digit (get_or b j 0))
+pub digits_step : (b : List ℕ) (i j : ℕ) → are_digits b i (j + 1) ≡ (are_digits b i j && is_digit (get_or b (i + j) 0))
 unfolding are_digits
-digits_step b j =
-    let z : 0 + j ≡ j = omega arith in
-    ap (are_digits b 0) (add-one j) ∙ ap (λ (i : ℕ). are_digits b 0 j && is_digit (get_or b i 0)) z
+digits_step b i j = ap (are_digits b i) (add-one j)
+
+-- of a whole list, as the loops read it
+pub value_step_whole : (b : List ℕ) (j : ℕ) → hex_value b 0 (j + 1) ≡ hex_value b 0 j * 16 + digit_value (get_or b j 0)
+value_step_whole b j = value_step b 0 j ∙ ap (λ (k : ℕ). hex_value b 0 j * 16 + digit_value (get_or b k 0)) (zero-add j)
+
+pub digits_step_whole : (b : List ℕ) (j : ℕ) → are_digits b 0 (j + 1) ≡ (are_digits b 0 j && is_digit (get_or b j 0))
+digits_step_whole b j = digits_step b 0 j ∙ ap (λ (k : ℕ). are_digits b 0 j && is_digit (get_or b k 0)) (zero-add j)
 
 -- ---- the same bytes in another list, or at another place
 

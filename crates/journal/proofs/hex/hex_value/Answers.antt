@@ -3,7 +3,7 @@ use mathlib.Core.Path.{refl}
 use native.Mathlib.Omega.{arith}
 use lib.ListN.{get_or}
 use Rattle.journal.specs.Hex.{hex_value}
-use Rattle.journal.proofs.Text.{value_step, value_fits, digit_lt}
+use Rattle.journal.proofs.Text.{value_step_whole, value_fits, digit_lt}
 use Rattle.journal.proofs.hex.hex_value.Goals as goal
 
 pub loop-x-init : goal.loop-x-init
@@ -19,4 +19,4 @@ overflow_add-v c = let b = c.args.digits.now in
     omega (arith, value_fits b 0 j (omega arith), digit_lt (get_or b j 0), c.digit_value.ensures)
 
 pub loop-x-preserved : goal.loop-x-preserved
-loop-x-preserved c = cc (value_step c.args.digits.now c.loop-x.x-index)
+loop-x-preserved c = cc (value_step_whole c.args.digits.now c.loop-x.x-index)
