@@ -3,14 +3,14 @@ use mathlib.Core.Path.{◌≡◌, refl, sym, ap, ap₂, ◌∙◌, subst}
 use mathlib.Core.List.{List, [], ◌∷◌, ◌++◌, append_assoc, append-nil}
 use Prim.Native.Nat.{ℕ, suc, ◌+◌, ◌-◌, ◌/◌, ◌%◌, ◌≤◌, ◌<◌}
 use native.Mathlib.Omega.{arith}
-use lib.ListN.{length, get_or, take, drop, set, length-append, length-drop}
+use lib.ListN.{length, get_or, take, drop, set, length-append, length-drop, length-set}
 use lib.Seq.{drop-cons, set-append_left, take_at, get_or_at, get_or-take, take-take, take-length, drop-length, take-suc-set, take-set-lt, length-take-le, append_snoc, drop-drop}
 use Rattle.buffers.specs.Lent.{over, put}
-use Rattle.buffers.proofs.Lent.{over_put, over_next, length_over}
+use Rattle.buffers.proofs.Lent.{length_over, length_kept, over_more, over_put}
 use Rattle.journal.specs.Hex.{hex_digit, hex_text}
 use Rattle.journal.specs.Lines.{line_length, header_length, line_text}
 use Rattle.journal.specs.Header.{header_text}
-use Rattle.journal.proofs.Text.{length_hex}
+use Rattle.journal.proofs.Text.{length_hex, length_part}
 
 -- ---- a text written over a list of its length, from its end
 
@@ -100,39 +100,45 @@ field_first o part w x h q =
     let k : length (take w o) ≡ w = length-take-le w o h in
     ap₂ (λ (y : List ℕ) (j : ℕ). y ++ drop j o) (q ∙ ap (λ (j : ℕ). hex_text j x) k) (sym (length_hex w x))
 
--- w digits written into the part that begins where the text s ends
+-- w digits written into the part that begins at place `at`
+pub field_put : (o part : List ℕ) (at w x : ℕ) → at + w ≤ length o → part ≡ hex_text (length (take w (drop at o))) x → take at o ++ (part ++ drop w (drop at o)) ≡ put at (hex_text w x) o
+field_put o part at w x h q =
+    let k : length (take w (drop at o)) ≡ w = length_part o at w h in
+    ap₂ (λ (y r : List ℕ). take at o ++ (y ++ r)) (q ∙ ap (λ (j : ℕ). hex_text j x) k) (drop-drop w at o ∙ ap (λ (j : ℕ). drop (at + j) o) (sym (length_hex w x)))
+    ∙ placed at (hex_text w x) o
+
+-- or where the text s ends
 pub field_next : (o o₁ s part : List ℕ) (at w x : ℕ) → o₁ ≡ over s o → length s ≡ at → at + w ≤ length o
     → part ≡ hex_text (length (take w (drop at o₁))) x → take at o₁ ++ (part ++ drop w (drop at o₁)) ≡ over (s ++ hex_text w x) o
 field_next o o₁ s part at w x e n h q =
     let m : length o₁ ≡ length o = ap length e ∙ length_over s o (omega arith) in
-    let k : length (take w (drop at o₁)) ≡ w = length-take-le w (drop at o₁) (omega (arith, length-drop at o₁)) in
-    let t : part ≡ hex_text w x = q ∙ ap (λ (j : ℕ). hex_text j x) k in
-    let z : length (hex_text w x) ≡ w = length_hex w x in
-    ap₂ (λ (y r : List ℕ). take at o₁ ++ (y ++ r)) t (drop-drop w at o₁ ∙ ap (λ (j : ℕ). drop (at + j) o₁) (sym z))
-    ∙ placed at (hex_text w x) o₁
+    field_put o₁ part at w x (omega (arith, m)) q
     ∙ ap (put at (hex_text w x)) e
-    ∙ over_put at s (hex_text w x) o (sym n) (omega (arith, z))
+    ∙ over_put at s (hex_text w x) o (sym n) (omega (arith, length_hex w x))
 
 -- a text, and the byte that ends a frame
-ended : (o s out : List ℕ) (j : ℕ) → out ≡ over s o → length s ≡ j → j < length o → set out j 10 ≡ over (s ++ (10 ∷ [])) o
-ended o s out j e n h = ap (λ (l : List ℕ). set l j 10) e ∙ over_next s o j 10 (sym n) h
+ended : (o s out : List ℕ) (j : ℕ) → out ≡ over s o → length s ≡ j → j < length o → (set out j 10 ≡ over (s ++ (10 ∷ [])) o) × (length (set out j 10) ≡ length o)
+ended o s out j e n h = (over_more out s o j 10 e n h, length-set out j 10 ∙ length_kept out s o e (omega arith))
 
-pub line_written : (o out : List ℕ) (c m p : ℕ) → line_length ≤ length o → out ≡ over (hex_text 8 c ++ hex_text 16 m ++ hex_text 8 p) o → set out 32 10 ≡ over (line_text c m p) o
+pub line_written : (o out : List ℕ) (c m p : ℕ) → line_length ≤ length o → out ≡ over (hex_text 8 c ++ hex_text 16 m ++ hex_text 8 p) o
+    → (set out 32 10 ≡ over (line_text c m p) o) × (length (set out 32 10) ≡ length o)
 unfolding line_text
 line_written o out c m p h e =
     let n : length (hex_text 8 c ++ hex_text 16 m ++ hex_text 8 p) ≡ 32 = simp length-append refl in
     let s : hex_text 8 c ++ hex_text 16 m ++ hex_text 8 p ++ (10 ∷ []) ≡ line_text c m p = simp append_assoc in
-    ended o _ out 32 e n (omega arith) ∙ ap (λ (t : List ℕ). over t o) s
+    let r = ended o _ out 32 e n (omega arith) in
+    (r.0 ∙ ap (λ (t : List ℕ). over t o) s, r.1)
 
 pub header_written : (o out : List ℕ) (rows times n tolerance configured roll x y z : ℕ) → header_length ≤ length o
     → out ≡ over (hex_text 8 rows ++ hex_text 8 times ++ hex_text 8 n ++ hex_text 16 tolerance ++ hex_text 2 configured ++ hex_text 16 roll ++ hex_text 16 x ++ hex_text 16 y ++ hex_text 16 z) o
-    → set out 106 10 ≡ over (header_text rows times n tolerance configured roll x y z) o
+    → (set out 106 10 ≡ over (header_text rows times n tolerance configured roll x y z) o) × (length (set out 106 10) ≡ length o)
 unfolding header_text
 header_written o out rows times n tolerance configured roll x y z h e =
     let t : List ℕ = hex_text 8 rows ++ hex_text 8 times ++ hex_text 8 n ++ hex_text 16 tolerance ++ hex_text 2 configured ++ hex_text 16 roll ++ hex_text 16 x ++ hex_text 16 y ++ hex_text 16 z in
     let k : length t ≡ 106 = simp (length-append, length_hex) refl in
     let s : t ++ (10 ∷ []) ≡ header_text rows times n tolerance configured roll x y z = simp append_assoc in
-    ended o t out 106 e k (omega arith) ∙ ap (λ (u : List ℕ). over u o) s
+    let r = ended o t out 106 e k (omega arith) in
+    (r.0 ∙ ap (λ (u : List ℕ). over u o) s, r.1)
 
 pub length_header : (rows times n tolerance configured roll x y z : ℕ) → length (header_text rows times n tolerance configured roll x y z) ≡ header_length
 unfolding header_text

@@ -18,4 +18,4 @@ returns c = let a = c.args in
     let f7 = field_next o _ _ _ 58 16 a.x f6 (simp (length-append, length_hex) refl) (omega arith) c.write_hex-7.ensures in
     let f8 = field_next o _ _ _ 74 16 a.y f7 (simp (length-append, length_hex) refl) (omega arith) c.write_hex-8.ensures in
     let f9 = field_next o _ _ _ 90 16 a.z f8 (simp (length-append, length_hex) refl) (omega arith) c.write_hex-9.ensures in
-    header_written o _ a.targets a.times a.n a.tolerance a.configured a.roll a.x a.y a.z c.requires f9
+    (header_written o _ a.targets a.times a.n a.tolerance a.configured a.roll a.x a.y a.z c.requires f9).0

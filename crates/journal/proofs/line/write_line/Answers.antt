@@ -12,5 +12,5 @@ returns c = let a = c.args in
     let l = a.line in
     let first = field_first o _ 8 l.chunk (omega arith) c.write_hex.ensures in
     let second = field_next o _ _ _ 8 16 l.mask first (length_hex 8 l.chunk) (omega arith) c.write_hex-2.ensures in
-    line_written o _ l.chunk l.mask l.probes c.requires
-    (field_next o _ _ _ 24 8 l.probes second (simp (length-append, length_hex) refl) (omega arith) c.write_hex-3.ensures)
+    (line_written o _ l.chunk l.mask l.probes c.requires
+    (field_next o _ _ _ 24 8 l.probes second (simp (length-append, length_hex) refl) (omega arith) c.write_hex-3.ensures)).0
