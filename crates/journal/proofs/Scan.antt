@@ -8,7 +8,7 @@ use native.Mathlib.Numerals.{add-one}
 use Rattle.std.specs.Str.{bytes_eq}
 use Rattle.std.proofs.lemmas.Slice.Eq.{bytes_eq-Decides}
 use Rattle.std.proofs.lemmas.List.{ext_get_or}
-use lib.ListN.{length, get_or, take, set, get_or-replicate, length-replicate, length-set}
+use lib.ListN.{length, get_or, take, set, replicate, get_or-replicate, length-replicate, length-set}
 use Rattle.std.specs.Prelude.{Option, Some, None, Ok, Err}
 use Rattle.std.specs.Option.{ok_or}
 use Rattle.buffers.specs.declared.reasons.Refusal.{Refusal}
@@ -200,6 +200,10 @@ told_right t p q r e h g = go t (g ∙ ap (λ (o : Option ℕ). ok_or o e) h)
     go : (t : Bool) → Ok q ≡ ok_or (checked_of t p) e → (t ≡ true) × (q ≡ p)
     go true z = (refl, cc)
     go false z = (cc, cc)
+
+-- the tables keep their length
+pub blank_length : {A : Type 0} (a : A) (t blank : List A) → length t ≡ most_chunks → blank ≡ replicate most_chunks a → length t ≡ length blank
+blank_length a t blank n e = n ∙ sym (ap length e ∙ length-replicate most_chunks a)
 
 -- ---- a whole journal: its header, and its lines
 
