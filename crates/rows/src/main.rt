@@ -3,7 +3,7 @@
 #![tactic(auto)]
 
 use buffers::Refusal;
-use std::{array, io};
+use std::io;
 
 // The columns that a listing writes. A crate that gave this to replay too would be longer.
 #[derive(Drop)]
@@ -145,18 +145,38 @@ fn uneven(rt: &impl Print) -> io::Result<()> {
     show_answer(rt, answer)
 }
 
-// A listing with 32,768 places, and the last of them.
+// A listing with 32,768 places, and the last of them. Its columns stand here and in no struct: they are 1.3 MB, and arrays are
+// copied into a struct.
 fn list_all(rt: &impl Print, mask: &[u8], times: &[i64], severities: &[f64]) -> io::Result<()> {
-    let mut columns = Columns::<32768>::sevens();
-    show_answer(rt, columns.list_violations(mask, times, severities))?;
-    let first = columns.first[32767];
-    let last = columns.last[32767];
+    let mut first = [7; 32768];
+    let mut last = [7; 32768];
+    let mut first_time = [7; 32768];
+    let mut last_time = [7; 32768];
+    let mut severity = [7.0; 32768];
+    let mut is_last = [7; 32768];
+    let answer = windows::violation_windows(
+        mask,
+        times,
+        severities,
+        &mut first,
+        &mut last,
+        &mut first_time,
+        &mut last_time,
+        &mut severity,
+        &mut is_last,
+    );
+    show_answer(rt, answer)?;
+    let first = first[32767];
+    let last = last[32767];
     println!(rt; "    window 32767 is {first} to {last}")
 }
 
 // 65,536 samples that alternate, the first marked: 32,768 windows.
 fn longest(rt: &impl Print) -> io::Result<()> {
-    let mask: [u8; 65536] = array::from_fn(|i| u8::from(i % 2 == 0));
+    let mut mask = [0u8; 65536];
+    for (i, byte) in mask.iter_mut().enumerate() {
+        *byte = u8::from(i % 2 == 0);
+    }
     list_all(rt, &mask, &[0i64; 65536], &[0.0f64; 65536])
 }
 
