@@ -1,13 +1,13 @@
 // One cell: a target at a time.
-ghost use Rattle.std.specs.Prelude.{◌≡◌, not, Float};
+ghost use Rattle.std.specs.Prelude.{◌≡◌, ◌<◌, not, Float};
 ghost use Rattle.buffers.specs.Ranges.{any};
 ghost use Rattle.buffers.specs.Refusal.{found, reply};
+ghost use Rattle.solar_roll.specs.Vectors.{count, triple};
 ghost use Rattle.solar_roll.specs.Roll.{sun_unit, InTurn};
 ghost use Rattle.solar_roll.specs.Cell.{optimal_roll, free_or_at, roll_in, cell_reply, violates, in_force};
 ghost use Rattle.solar_roll.specs.declared.cell.CellRoll.TheVariants.{At};
 ghost use Rattle.solar_roll.specs.Cell.{too_large, bad_position, bad_direction, not_unit, any_not_unit, direction_refusal, numbers_refusal};
 
-use crate::plan::triple;
 use crate::roll::{
     Panel, circular_diff_deg, roll_deg_in, roll_is_unconstrained, solar_optimal_roll_deg,
     sun_along_boresight, sun_unit,
@@ -125,12 +125,22 @@ fn is_unit(v: [f64; 3]) -> bool
     abs(squared_length - 1.0) <= UNIT_TOLERANCE
 }
 
+// Whether the i-th triple of a flat list is a unit vector. By `triple` each of its numbers would be tested for the list's end.
+#[tactic(auto, unfolding(crate::specs::Vectors::triple))]
+fn unit_at(targets: &[f64], i: usize) -> bool
+    requires { i < count targets.now }
+    ensures { not result ≡ not_unit (triple targets.now i) }
+{
+    let k = 3 * i;
+    is_unit([targets[k], targets[k + 1], targets[k + 2]])
+}
+
 // Whether each triple of a flat list is a unit vector.
 #[tactic(auto, unfolding(crate::specs::Cell::any_not_unit))]
 fn all_unit(targets: &[f64]) -> bool
     ensures { not result ≡ any_not_unit targets.now }
 {
-    (0..targets.len() / 3).all(|i| is_unit(triple(targets, i)))
+    (0..targets.len() / 3).all(|i| unit_at(targets, i))
 }
 
 // Of directions, a flat list of triples. 5 is tried of them all before 20 of any.
