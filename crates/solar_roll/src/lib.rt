@@ -12,7 +12,7 @@ pub use cell::{
     CellRoll, EvaluationRoll, cell_roll, direction_refusal, free_or_at, in_force, roll_in, violated,
 };
 pub use plan::{
-    MOST_CELLS, MOST_ROWS, MOST_SAMPLES, MOST_TIMES, Plan, SolarRollConfig,
+    MOST_CELLS, MOST_ROWS, MOST_SAMPLES, MOST_TIMES, Plan, SolarRollConfig, plan_refusal,
     samples_or_none_refusal, samples_refusal, too_many, triple,
 };
 pub use roll::{

@@ -191,3 +191,22 @@ impl Plan<'_> {
         self.lists_refusal()
     }
 }
+
+// The number of the plan's first refusal, 0 for none. `said` is the number said in the place of 3, 0 for none: any number, where
+// `Plan::refusal` takes a Refusal, which has no case for a number of a caller's own.
+// Refuses 1, 2, `said`, 4, 5, 20, 6, 17 (specs/Plan, `plan_refusal`).
+#[tactic(auto, using(crate::proofs::PlanFacts::plan_parts), unfolding(buffers::specs::Refusal::first, buffers::specs::Refusal::carried))]
+pub fn plan_refusal(plan: &Plan, said: u64, beyond: bool) -> u64
+    ensures { result ≡ plan_refusal (lent plan.now) said beyond }
+{
+    if let Err(sizes) = plan.sizes_refusal(beyond) {
+        return sizes.number();
+    }
+    if said != 0 {
+        return said;
+    }
+    match plan.lists_refusal() {
+        Ok(()) => 0,
+        Err(lists) => lists.number(),
+    }
+}
