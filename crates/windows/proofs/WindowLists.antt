@@ -150,13 +150,13 @@ pub record Accepted (l : Listing) (mask : List ℕ) (times : List ℤ) (severiti
   pub even : differ places ≡ false
   pub room : no_room places count ≡ false
 
-even_row : (l : Listing) (mask : List ℕ) (times : List ℤ) (severities : List Float) → uneven l mask times severities ≡ false → Row l mask times severities
+pub even_row : (l : Listing) (mask : List ℕ) (times : List ℤ) (severities : List Float) → uneven l mask times severities ≡ false → Row l mask times severities
 unfolding uneven
 even_row Violations mask times severities e = record { timed = same_at (length mask) (length times ∷ length severities ∷ []) 0 e (omega arith); rated = λ q. same_at (length mask) (length times ∷ length severities ∷ []) 1 e (omega arith) }
 even_row Visibility mask times severities e = record { timed = same_at (length mask) (length times ∷ []) 0 e (omega arith); rated = λ q. cc }
 
 module _ (l : Listing) (mask : List ℕ) (times : List ℤ) (severities : List Float) (places : List ℕ) where
-  left_length : length (runs_left l mask 0) ≡ length (windows_left l mask times severities 0)
+  pub left_length : length (runs_left l mask 0) ≡ length (windows_left l mask times severities 0)
   unfolding windows_left
   left_length = sym (length-map (runs_left l mask 0) _)
 
@@ -172,6 +172,9 @@ module _ (l : Listing) (mask : List ℕ) (times : List ℤ) (severities : List F
         even = or_right (uneven l mask times severities) (differ places) f.even;
         room = ap (no_room places) (sym a.1) ∙ f.room;
       }
+
+  pub accepted_few : (count : ℕ) → Accepted l mask times severities places count → count ≤ length (windows_left l mask times severities 0)
+  accepted_few count a = omega (arith, a.all)
 
   -- and a refused one: W says what would be left by writing a list of windows
   pub refused_listing : {A : Type 0} (W : List Window → A) (old : A) (e : Refusal) → refused (number_of e) ≡ reply (listing_refusal l mask times severities places) (length (runs_left l mask 0))
@@ -207,27 +210,26 @@ module _ (l : Listing) (mask : List ℕ) (times : List ℤ) (severities : List F
   storing_none d = record { passed = passed_none l mask times severities; holds = refl }
 
   -- n windows are to be stored
-  module _ (n k from : ℕ) (d c : Columns) (ok : Accepted l mask times severities (lengths d) n) (s : Storing l mask times severities k from d c) where
-    has_room : Room n d
-    has_room = even_room n d ok.even ok.room
-
+  module _ (n k from : ℕ) (d c : Columns) (h : n ≤ length (windows_left l mask times severities 0)) (room : Room n d) (s : Storing l mask times severities k from d c) where
     done : k ≤ n → length (take k (left l mask times severities 0)) ≡ k
-    done j = length-take-le k (left l mask times severities 0) (omega (arith, ok.all))
-
-    -- a window is left
-    pub storing_more : k < n → 0 < length (windows_left l mask times severities from)
-    storing_more j = some_left l mask times severities k from s.passed (omega (arith, ok.all))
+    done j = length-take-le k (left l mask times severities 0) (omega arith)
 
     pub storing_room : k < n → Room (k + 1) c
-    storing_room j = room_left (take k (left l mask times severities 0)) d c s.holds (k + 1) n (omega (arith, done (omega arith))) (omega arith) has_room
+    storing_room j = room_left (take k (left l mask times severities 0)) d c s.holds (k + 1) n (omega (arith, done (omega arith))) (omega arith) room
 
     pub storing_next : k < n → (end : ℕ) (w : Window) (c' : Columns) → NextWindow l mask times severities from end w → c' ≡ stored k w c → Storing l mask times severities (k + 1) end d c'
     storing_next j end w c' x q = record {
       passed = subst (WindowsPassed l mask times severities (k + 1)) x.onward (passed_next l mask times severities k from w s.passed x.left x.in_row);
       holds =
-          store_next (take k (left l mask times severities 0)) d c s.holds k n w c' q (done (omega arith)) j has_room
+          store_next (take k (left l mask times severities 0)) d c s.holds k n w c' q (done (omega arith)) j room
           ∙ ap (λ (t : List Window). written t d) (sym (taken_next l mask times severities k from w s.passed x.left));
     }
+
+  -- which are all of an accepted listing
+  module _ (n k from : ℕ) (d c : Columns) (ok : Accepted l mask times severities (lengths d) n) (s : Storing l mask times severities k from d c) where
+    -- a window is left
+    pub storing_more : k < n → 0 < length (windows_left l mask times severities from)
+    storing_more j = some_left l mask times severities k from s.passed (omega (arith, ok.all))
 
     pub storing_all : n ≤ k → k ≤ n → (replied (Ok n) ≡ reply (listing_refusal l mask times severities (lengths d)) (length (windows_left l mask times severities 0)))
         × (c ≡ unless_refused (listing_refusal l mask times severities (lengths d)) (written (windows_left l mask times severities 0) d) d)
@@ -248,24 +250,27 @@ module _ (l : Listing) (mask : List ℕ) (times : List ℤ) (severities : List F
   records_none ys = record { passed = passed_none l mask times severities; holds = over_nil ys }
 
   -- n windows are to be stored
+  module _ (n k from : ℕ) (ys zs : List Window) (h : n ≤ length (windows_left l mask times severities 0)) (room : n ≤ length ys) (s : StoringRecords l mask times severities k from ys zs) where
+    taken : k ≤ n → length (take k (left l mask times severities 0)) ≡ k
+    taken j = length-take-le k (left l mask times severities 0) (omega arith)
+
+    pub records_more : k < n → (w : Window) → left l mask times severities from ≡ w ∷ left l mask times severities (w.last + 1) → set zs k w ≡ over (take (k + 1) (windows_left l mask times severities 0)) ys
+    records_more j w e =
+        over_more zs (take k (left l mask times severities 0)) ys k w s.holds (taken (omega arith)) (omega arith)
+        ∙ ap (λ (t : List Window). over t ys) (sym (taken_next l mask times severities k from w s.passed e))
+
+    pub records_next : k < n → (w : Window) → (left l mask times severities from ≡ w ∷ left l mask times severities (w.last + 1)) × (w.last < length mask) → StoringRecords l mask times severities (k + 1) (w.last + 1) ys (set zs k w)
+    records_next j w g = record { passed = passed_next l mask times severities k from w s.passed g.0 g.1; holds = records_more j w g.0 }
+
+  -- which are all of an accepted listing
   module _ (n k from : ℕ) (ys zs : List Window) (ok : Accepted l mask times severities (length ys ∷ []) n) (s : StoringRecords l mask times severities k from ys zs) where
     pub records_fit : n ≤ length ys
     unfolding no_room
     records_fit = ltb-false (length ys) n ok.room
 
-    taken : k ≤ n → length (take k (left l mask times severities 0)) ≡ k
-    taken j = length-take-le k (left l mask times severities 0) (omega (arith, ok.all))
-
-    pub records_more : k < n → 0 < length (windows_left l mask times severities from)
-    records_more j = some_left l mask times severities k from s.passed (omega (arith, ok.all))
-
-    pub records_next : k < n → (end : ℕ) (w : Window) → NextWindow l mask times severities from end w → StoringRecords l mask times severities (k + 1) end ys (set zs k w)
-    records_next j end w x = record {
-      passed = subst (WindowsPassed l mask times severities (k + 1)) x.onward (passed_next l mask times severities k from w s.passed x.left x.in_row);
-      holds =
-          over_more zs (take k (left l mask times severities 0)) ys k w s.holds (taken (omega arith)) (omega (arith, records_fit))
-          ∙ ap (λ (t : List Window). over t ys) (sym (taken_next l mask times severities k from w s.passed x.left));
-    }
+    -- what the next window asks
+    pub records_ask : k < n → (from ≤ length mask) × Row l mask times severities × (0 < length (windows_left l mask times severities from))
+    records_ask j = (s.passed.in_row, ok.row, some_left l mask times severities k from s.passed (omega (arith, ok.all)))
 
     pub records_all : n ≤ k → k ≤ n → (replied (Ok n) ≡ reply (listing_refusal l mask times severities (length ys ∷ [])) (length (windows_left l mask times severities 0)))
         × (zs ≡ unless_refused (listing_refusal l mask times severities (length ys ∷ [])) (over (windows_left l mask times severities 0) ys) ys)
@@ -290,10 +295,15 @@ module _ (mask : List ℕ) (times : List ℤ) where
     refuses = λ places. ap (λ rs. windows_refusal (differ (length mask ∷ length times ∷ length severities ∷ []) || differ places) mask times severities (no_room places (length rs))) (violations_left mask);
   }
 
+  -- whatever the severities, at which a listing of visibility windows does not look
+  pub visibility_all : (severities : List Float) → windows_left Visibility mask times severities 0 ≡ visibility_windows mask times
+  unfolding windows_left visibility_windows severity_of
+  visibility_all severities = ap (map (window_of times (severity_of Visibility severities))) (visibility_left mask)
+
   pub visibility : ListingGives Visibility mask times [] (visibility_windows mask times) (visibility_refusal mask times)
-  unfolding windows_left visibility_windows severity_of visibility_refusal listing_refusal uneven
+  unfolding visibility_refusal listing_refusal uneven
   visibility = record {
-    all = ap (map (window_of times (severity_of Visibility []))) (visibility_left mask);
+    all = visibility_all [];
     refuses = λ places. ap (λ rs. windows_refusal (differ (length mask ∷ length times ∷ []) || differ places) mask times [] (no_room places (length rs))) (visibility_left mask);
   }
 

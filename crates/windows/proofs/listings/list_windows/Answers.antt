@@ -5,7 +5,7 @@ use Rattle.std.proofs.lemmas.Result.{err_from_is_err_and}
 use Rattle.windows.specs.Windows.{columns, written}
 use Rattle.windows.specs.Refusal.{lengths}
 use Rattle.windows.specs.Steps.{IsNextRun}
-use Rattle.windows.proofs.WindowLists.{Accepted, NextWindow, next_found, next_is, run_fits, accepted_listing, refused_listing, storing_none, storing_more, storing_room, storing_next, storing_all}
+use Rattle.windows.proofs.WindowLists.{Accepted, NextWindow, next_found, next_is, run_fits, accepted_listing, accepted_few, refused_listing, even_room, storing_none, storing_more, storing_room, storing_next, storing_all}
 use Rattle.windows.proofs.listings.list_windows.Goals as goal
 use Rattle.windows.proofs.listings.list_windows.Goals.{In_ok-count, After-unwrap-run, After-run_window-w}
 
@@ -45,14 +45,14 @@ run_window-w-requires c =
     run_fits _ _ _ _ _ _ _ (run (goal.at.run_window-w-requires c).After-unwrap-run) (ok (goal.at.run_window-w-requires c).In_ok-count).row
 
 pub store-requires : goal.store-requires
-store-requires c = (
-  storing_room _ _ _ _ _ _ _ _ _ (ok (goal.at.store-requires c).In_ok-count) c.loop-k.invariant c.loop-k-test.true,
-  (window (goal.at.store-requires c).After-run_window-w).flagged,
-)
+store-requires c =
+    let k = ok (goal.at.store-requires c).In_ok-count in
+    (storing_room _ _ _ _ _ _ _ _ _ (accepted_few _ _ _ _ _ _ k) (even_room _ _ k.even k.room) c.loop-k.invariant c.loop-k-test.true, (window (goal.at.store-requires c).After-run_window-w).flagged)
 
 pub loop-k-preserved : goal.loop-k-preserved
 loop-k-preserved c =
-    storing_next _ _ _ _ _ _ _ _ _ (ok (goal.at.loop-k-preserved c).In_ok-count) c.loop-k.invariant c.loop-k-test.true _ _ _ (window (goal.at.loop-k-preserved c).After-run_window-w) c.store.ensures
+    let k = ok (goal.at.loop-k-preserved c).In_ok-count in
+    storing_next _ _ _ _ _ _ _ _ _ (accepted_few _ _ _ _ _ _ k) (even_room _ _ k.even k.room) c.loop-k.invariant c.loop-k-test.true _ _ _ (window (goal.at.loop-k-preserved c).After-run_window-w) c.store.ensures
 
 pub returns : goal.returns
 returns c = storing_all _ _ _ _ _ _ _ _ _ (ok (goal.at.returns c).In_ok-count) c.loop-k.invariant c.loop-k-test.false (omega arith)
