@@ -45,16 +45,17 @@ fn digits_of(p: u64) -> Shifted
     }
 }
 
-// The remainder of d * 2^n by m, the power's digits brought down eleven at a time.
+// The remainder of d * 2^n by m, the power's digits brought down eleven at a time. The last one to eleven take no turn: as few divisions as that allows.
 fn reduced(d: u64, n: u64, m: u64) -> u64
     requires { (d < 2 ^ 53) × (0 < m) × (m < 2 ^ 53) }
     ensures { result ≡ (d * 2 ^ n) % m }
 {
+    let turns = n.saturating_sub(1) / 11;
     let mut r = d;
-    for _ in 0..n / 11 {
+    for _ in 0..turns {
         r = (r << 11) % m;
     }
-    (r << (n % 11)) % m
+    (r << (n - 11 * turns)) % m
 }
 
 // 2^k units.
