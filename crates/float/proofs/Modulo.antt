@@ -160,6 +160,7 @@ rem_by_larger (fin s m e) (fin t n d) h f l = sym (rem_small s m e t n d binary6
 -- what is left: finite numbers, the divisor above 0 and not larger in size
 pub record Left (a b : Float) : Type 0 where
   pub number_a : T (not (is_nan (abs_of a)))
+  pub number_b : T (not (is_nan (abs_of b)))
   pub finite_a : to_bits binary64 (abs_of a) < 2047 * 2 ^ 52
   pub finite_b : to_bits binary64 (abs_of b) < 2047 * 2 ^ 52
   pub some : 0 < magnitude (to_bits binary64 (abs_of b))
@@ -181,6 +182,7 @@ left_at s m e t n d h k l =
     let B0 : 0 < B = first_pos B (down d) (subst (λ (z : ℕ). 0 < z) q (mul-pos (mul-pos (zero-lt-suc n) (up_pos d)) (pow_pos 1074))) in
     record {
       number_a = tt;
+      number_b = tt;
       finite_a = pattern_lt m e h;
       finite_b = pattern_lt n d k;
       some = B0;
