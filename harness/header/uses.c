@@ -1,5 +1,6 @@
 /* Uses include/wilfnusk.h as a program in C or C++ does: the examples of document 01, and of document 02's requests One to Five and Seven. Prints
  * document 01's journal. */
+#include <fenv.h>
 #include <math.h>
 #include <stdio.h>
 #include <string.h>
@@ -40,6 +41,19 @@ static void reasons(void)
     expect(wilfnusk_cost(70000, 1, 1, out, 3) == -WILFNUSK_TOO_LARGE, "too many targets, by name");
     expect(wilfnusk_cost(1, 1, 0, out, 3) == -WILFNUSK_ROLL_COUNT_OUT_OF_RANGE, "no rolls, by name");
     expect(wilfnusk_cost(1, 1, 1, out, 2) == -WILFNUSK_OUTPUT_TOO_SHORT, "two places for three numbers, by name");
+}
+
+/* NaN without a trap: a caller may have made the invalid operation one. */
+static void infinite(void)
+{
+    const double infinity = HUGE_VAL;
+    double first, second;
+
+    feclearexcept(FE_INVALID);
+    first = wilfnusk_atan2(infinity, 1);
+    second = wilfnusk_atan2(-1, -infinity);
+    expect(!fetestexcept(FE_INVALID), "the arctangent of an infinity raises no invalid operation");
+    expect(first != first && second != second, "the arctangent of an infinity is NaN");
 }
 
 /* The quarter turns at declination 0, and a pole; an element beyond them; each refusal leaves every element as it was. */
@@ -330,6 +344,7 @@ int main(void)
     expect(bits == 0x3ff6a09e667f3bcdULL, "root of 2");
     expect(wilfnusk_circular_diff_deg(350, 10) == 20, "difference of 350 and 10");
     reasons();
+    infinite();
     catalogue();
     tolerances();
     costs();

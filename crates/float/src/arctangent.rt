@@ -2,6 +2,7 @@
 ghost use Rattle.std.specs.Prelude.{◌≡◌};
 ghost use Rattle.float.specs.Arctangent.{halved, ratio, series_angle, quadrant_angle, turned_angle, arctangent};
 
+use crate::arithmetic::is_finite;
 use crate::root::sqrt_by_inverse;
 use crate::series::series;
 use crate::{PI, abs};
@@ -111,7 +112,7 @@ fn quadrant_angle(a: f64, b: f64, q: f64) -> f64
 pub(crate) fn turned_angle(y: f64, z: f64, q: f64) -> f64
     ensures { result ≡ turned_angle y z q }
 {
-    if !y.is_finite() || !z.is_finite() {
+    if !is_finite(y) || !is_finite(z) {
         return f64::NAN;
     }
     let r = quadrant_angle(abs(y), abs(z), q);

@@ -3,7 +3,7 @@ ghost use Rattle.std.specs.Prelude.{◌≡◌, ◌*◌, ◌%◌, ◌^◌, ◌<�
 ghost use Rattle.std.specs.Float.{binary64};
 ghost use Rattle.std.specs.Float.Ieee.{rem, round};
 ghost use Rattle.std.specs.Float.Ieee.Exact.{HasValue};
-ghost use Rattle.float.specs.Arithmetic.{full_turn, abs_of, rem_euclid, to_degrees};
+ghost use Rattle.float.specs.Arithmetic.{full_turn, abs_of, finite, rem_euclid, to_degrees};
 ghost use Rattle.float.specs.RootSteps.{magnitude};
 
 // A number as digits * 2^shift units of 2^-1074, the smallest value.
@@ -22,6 +22,14 @@ pub fn abs(x: f64) -> f64
     } else {
         f64::from_bits(x.to_bits() % 0x8000_0000_0000_0000)
     }
+}
+
+// Whether x is neither an infinity nor a NaN. Not by f64::is_finite, which takes x from itself: of an infinity that raises IEEE 754's invalid operation, which
+// a caller may have made a trap.
+pub(crate) fn is_finite(x: f64) -> bool
+    ensures { result ≡ finite x }
+{
+    abs(x) < f64::INFINITY
 }
 
 // The magnitude of the bit pattern p, which has the sign clear and is no infinity and no NaN. All 53 digits, unless it is subnormal.
@@ -81,7 +89,7 @@ fn in_units(negative: bool, r: u64, k: u64) -> f64
 fn remainder(a: f64, b: f64) -> f64
     ensures { result ≡ rem binary64 a b }
 {
-    if a.is_finite() {
+    if is_finite(a) {
         let q = abs(b);
         if q > 0.0 {
             let p = abs(a);

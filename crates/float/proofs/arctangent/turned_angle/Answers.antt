@@ -4,7 +4,7 @@ use Rattle.std.proofs.Common.{◌≡◌, cond, sym, ◌∙◌}
 use lib.Ieee.{of_bits, binary64, sub}
 use Rattle.float.specs.Arctangent.{turned_angle}
 use Rattle.buffers.proofs.Tests.{and_false}
-use Rattle.float.proofs.Sign.{std_finite, std_sign}
+use Rattle.float.proofs.Sign.{std_sign, finite_not_nan}
 use Rattle.float.proofs.arctangent.turned_angle.Goals as goal
 use Rattle.float.proofs.arctangent.turned_angle.Goals.{then-not-is_finite-via-then-not-is_finite, then-not-is_finite-via-else-not-is_finite+then-not-is_finite-2, Joined-is_sign_negative, then-is_sign_negative, else-is_sign_negative}
 
@@ -21,15 +21,21 @@ pub returns-then-not-is_finite : goal.returns-then-not-is_finite
 unfolding turned_angle of_bits
 returns-then-not-is_finite c =
     elim c.then-not-is_finite.branch [
-      | then-not-is_finite-via-then-not-is_finite w ↦ simp (sym (c.is_finite.ensures.value ∙ std_finite c.args.y) ∙ w.if-not-is_finite.true)
-      | then-not-is_finite-via-else-not-is_finite+then-not-is_finite-2 w ↦ simp (and_false, sym (w.is_finite-else-not-is_finite.ensures.value ∙ std_finite c.args.z) ∙ w.if-not-is_finite-2.true)
+      | then-not-is_finite-via-then-not-is_finite w ↦ simp (sym c.is_finite.ensures ∙ w.if-not-is_finite.true)
+      | then-not-is_finite-via-else-not-is_finite+then-not-is_finite-2 w ↦ simp (and_false, sym w.is_finite-else-not-is_finite.ensures ∙ w.if-not-is_finite-2.true)
     ]
+
+pub is_sign_negative-requires : goal.is_sign_negative-requires
+is_sign_negative-requires c = finite_not_nan c.args.z (sym c.is_finite-else-not-is_finite.ensures ∙ c.if-not-is_finite-2.false)
+
+pub is_sign_negative-requires-2 : goal.is_sign_negative-requires-2
+is_sign_negative-requires-2 c = finite_not_nan c.args.y (sym c.is_finite.ensures ∙ c.if-not-is_finite.false)
 
 pub returns-then-is_sign_negative-2 : goal.returns-then-is_sign_negative-2
 unfolding turned_angle
 returns-then-is_sign_negative-2 c = simp (
-  sym (c.is_finite.ensures.value ∙ std_finite c.args.y) ∙ c.if-not-is_finite.false,
-  sym (c.is_finite-else-not-is_finite.ensures.value ∙ std_finite c.args.z) ∙ c.if-not-is_finite-2.false,
+  sym c.is_finite.ensures ∙ c.if-not-is_finite.false,
+  sym c.is_finite-else-not-is_finite.ensures ∙ c.if-not-is_finite-2.false,
   sym (c.is_sign_negative-2.ensures ∙ std_sign c.args.y) ∙ c.if-is_sign_negative-2.true,
   half (goal.at.returns-then-is_sign_negative-2 c).Joined-is_sign_negative,
   c.quadrant_angle-r.ensures,
@@ -40,8 +46,8 @@ returns-then-is_sign_negative-2 c = simp (
 pub returns-else-is_sign_negative-2 : goal.returns-else-is_sign_negative-2
 unfolding turned_angle
 returns-else-is_sign_negative-2 c = simp (
-  sym (c.is_finite.ensures.value ∙ std_finite c.args.y) ∙ c.if-not-is_finite.false,
-  sym (c.is_finite-else-not-is_finite.ensures.value ∙ std_finite c.args.z) ∙ c.if-not-is_finite-2.false,
+  sym c.is_finite.ensures ∙ c.if-not-is_finite.false,
+  sym c.is_finite-else-not-is_finite.ensures ∙ c.if-not-is_finite-2.false,
   sym (c.is_sign_negative-2.ensures ∙ std_sign c.args.y) ∙ c.if-is_sign_negative-2.false,
   half (goal.at.returns-else-is_sign_negative-2 c).Joined-is_sign_negative,
   c.quadrant_angle-r.ensures,

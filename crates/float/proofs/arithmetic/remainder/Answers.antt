@@ -6,7 +6,7 @@ use lib.Ieee.Positive.{first_pos}
 use Rattle.float.specs.Arithmetic.{zero·0, sign_bit_of, abs_of}
 use Rattle.float.specs.RootSteps.{magnitude}
 use Rattle.float.proofs.Patterns.{of_bits_nan}
-use Rattle.float.proofs.Sign.{std_finite, std_sign}
+use Rattle.float.proofs.Sign.{std_sign, finite_not_nan}
 use Rattle.float.proofs.Modulo.{Left, left_over, rem_infinite, rem_by_zero, rem_by_larger, no_less_shifted, mod_shifted}
 use Rattle.float.proofs.arithmetic.remainder.Goals as goal
 use Rattle.float.proofs.arithmetic.remainder.Goals.{Start, Else-p-q, After-digits_of-y}
@@ -21,7 +21,7 @@ held_b c = T_from_true _ c.well_formed.1.0.1
 -- what the tests left
 left : (c : Else-p-q) → Left c.args.a c.args.b
 left c =
-    left_over c.args.a c.args.b (held_a (goal.at.Else-p-q c).Start) (held_b (goal.at.Else-p-q c).Start) (sym (c.is_finite.ensures.value ∙ std_finite c.args.a) ∙ c.if-is_finite.true)
+    left_over c.args.a c.args.b (held_a (goal.at.Else-p-q c).Start) (held_b (goal.at.Else-p-q c).Start) (sym c.is_finite.ensures ∙ c.if-is_finite.true)
     (ap (lt zero·0) (sym c.abs-q.ensures) ∙ c.if-q.true)
     (ap (λ (x : Float). lt x (abs_of c.args.b)) (sym c.abs-p.ensures) ∙ ap (lt c.abs-p.result) (sym c.abs-q.ensures) ∙ c.if-p-q.false)
 
@@ -42,7 +42,7 @@ shifts c = let x = c.digits_of-x.result in
     (subst₂ (λ (m n : ℕ). m ≤ n) (sym (value_y c)) (sym (value_x c)) (left (goal.at.After-digits_of-y c).Else-p-q).no_larger)
 
 pub returns-then-p-q : goal.returns-then-p-q
-returns-then-p-q c = rem_by_larger c.args.a c.args.b (held_a (goal.at.returns-then-p-q c).Start) (sym (c.is_finite.ensures.value ∙ std_finite c.args.a) ∙ c.if-is_finite.true)
+returns-then-p-q c = rem_by_larger c.args.a c.args.b (held_a (goal.at.returns-then-p-q c).Start) (sym c.is_finite.ensures ∙ c.if-is_finite.true)
     (ap (λ (x : Float). lt x (abs_of c.args.b)) (sym c.abs-p.ensures) ∙ ap (lt c.abs-p.result) (sym c.abs-q.ensures) ∙ c.if-p-q.true)
 
 pub float_to_bits-p : goal.float_to_bits-p
@@ -60,6 +60,9 @@ overflow_sub-x c = shifts (goal.at.overflow_sub-x c).After-digits_of-y
 pub reduced-r-requires : goal.reduced-r-requires
 reduced-r-requires c = (c.digits_of-x.ensures.few, digits_y (goal.at.reduced-r-requires c).After-digits_of-y, c.digits_of-y.ensures.few)
 
+pub is_sign_negative-requires : goal.is_sign_negative-requires
+is_sign_negative-requires c = finite_not_nan c.args.a (sym c.is_finite.ensures ∙ c.if-is_finite.true)
+
 pub in_units-requires : goal.in_units-requires
 in_units-requires c = let n = c.digits_of-x.result.digits * 2 ^ (c.digits_of-x.result.shift - c.digits_of-y.result.shift) in
     let m : n % c.digits_of-y.result.digits < c.digits_of-y.result.digits = omega (arith, digits_y (goal.at.in_units-requires c).After-digits_of-y) in
@@ -76,7 +79,7 @@ returns-then-q c = let x = c.digits_of-x.result in
     ∙ sym ((left (goal.at.returns-then-q c).Else-p-q).is ∙ ap (λ (n : ℕ). round binary64 (sign_bit_of c.args.a) n (2 ^ 1074)) e)
 
 pub returns-else-q : goal.returns-else-q
-returns-else-q c = of_bits_nan ∙ rem_by_zero c.args.a c.args.b (sym (c.is_finite.ensures.value ∙ std_finite c.args.a) ∙ c.if-is_finite.true) (ap (lt zero·0) (sym c.abs-q.ensures) ∙ c.if-q.false)
+returns-else-q c = of_bits_nan ∙ rem_by_zero c.args.a c.args.b (sym c.is_finite.ensures ∙ c.if-is_finite.true) (ap (lt zero·0) (sym c.abs-q.ensures) ∙ c.if-q.false)
 
 pub returns-else-is_finite : goal.returns-else-is_finite
-returns-else-is_finite c = of_bits_nan ∙ rem_infinite c.args.a c.args.b (sym (c.is_finite.ensures.value ∙ std_finite c.args.a) ∙ c.if-is_finite.false)
+returns-else-is_finite c = of_bits_nan ∙ rem_infinite c.args.a c.args.b (sym c.is_finite.ensures ∙ c.if-is_finite.false)

@@ -1,5 +1,5 @@
 -- `float::series::series` meets its contract: the fold over a list of nine coefficients is Horner's rule. Assumes nothing.
-use Rattle.std.proofs.Common.{◌≡◌, ℕ, Float, List, [], ◌∷◌, length, get_or, take, reverse, fold, refl, ◌∙◌, arith}
+use Rattle.std.proofs.Common.{◌≡◌, Float, List, [], ◌∷◌, length, get_or, take, reverse, fold, refl, ◌∙◌, arith}
 use Rattle.std.proofs.lemmas.Grind.{common_steps}
 use Rattle.std.specs.Float.{nan}
 use Rattle.float.specs.Arithmetic.{◌⊕◌, ◌⊗◌}
