@@ -115,7 +115,6 @@ impl Cells for Marks {
 
     ghost entry = { λ s axes tolerance unit. flag (marked_by (roll_in axes unit s.panel) s.rule tolerance) };
 
-    // Where nothing is marked, no roll is worked out.
     fn write(
         &self,
         axes: [[f64; 3]; 3],
@@ -124,10 +123,6 @@ impl Cells for Marks {
         entries: &mut [u8],
     ) {
         let Marks { rule, panel } = *self;
-        if let MarkRule::Nothing = rule {
-            entries[..units.len()].fill(0);
-            return;
-        }
         let mut rolls = [0.0; 64];
         rolls_deg_in(axes, units, panel.angle, &mut rolls);
         for k in 0..units.len() {
@@ -166,6 +161,11 @@ fn mask_by(
     ensures mask_after { mask.new ≡ mask_after (lent plan.now) (found said) (λ configured. rule) mask.old }
 {
     cells_refusal(plan, said, mask.len())?;
+    // Where nothing is marked, no roll is worked out.
+    if let MarkRule::Nothing = rule {
+        mask[..plan.rows() * plan.times()].fill(0);
+        return Ok(0);
+    }
     // The rows share their panel: it is worked out once.
     let panel = plan.panel_at(0);
     write_cells(plan, &Marks { rule, panel }, mask);
