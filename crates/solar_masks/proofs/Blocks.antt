@@ -8,18 +8,33 @@ use Rattle.buffers.specs.Ranges.{tab}
 use Rattle.buffers.specs.Lent.{filled}
 use Rattle.buffers.specs.Rows.{ColumnsWritten}
 use Rattle.buffers.proofs.Ranges.{length_tab, get_or_tab}
-use Rattle.buffers.proofs.Lent.{take_filled}
+use Rattle.buffers.proofs.Lent.{length_filled, take_filled}
 use Rattle.buffers.proofs.Rows.{columns_add}
 use Rattle.solar_roll.specs.Vectors.{Vector}
 use Rattle.solar_roll.specs.Plan.{Plan, rows_of, times_of, sun_at}
 
--- the table after `sun_units`: its first n places hold the units of n times, from the time `from` on
-block_units : (p : Plan) (from n : ℕ) (old new : List Vector) → length old ≡ 2048 → n ≡ min 2048 (times_of p - from)
+-- n times, from the time `from` on
+pub record Block (from times n : ℕ) : Type 0 where
+  pub more : 0 < n
+  pub few : n ≤ 2048
+  pub within : from + n ≤ times
+
+pub block_of : (from times n : ℕ) → from < times → n ≡ min 2048 (times - from) → Block from times n
+block_of from times n h e = record { more = omega arith; few = omega arith; within = omega arith }
+
+-- the table after `sun_units`: its first n places hold the block's units, and its length stays
+pub block_units : (p : Plan) (from n : ℕ) (old new : List Vector) → length old ≡ 2048 → n ≡ min 2048 (times_of p - from)
     → new ≡ filled (min (length old) (times_of p - from)) (λ t. sun_at p (from + t)) old
-    → take n new ≡ tab n (λ t. sun_at p (from + t))
+    → (new ≡ filled n (λ t. sun_at p (from + t)) old) × (n ≤ length new)
 block_units p from n old new size e w =
     let m : min (length old) (times_of p - from) ≡ n = omega arith in
-    ap (take n) (w ∙ ap (λ (k : ℕ). filled k (λ t. sun_at p (from + t)) old) m) ∙ take_filled (λ t. sun_at p (from + t)) n old
+    let room : n ≤ length old = omega arith in
+    let is : new ≡ filled n (λ t. sun_at p (from + t)) old = w ∙ ap (λ (k : ℕ). filled k (λ t. sun_at p (from + t)) old) m in
+    (is, omega (arith, ap length is ∙ length_filled (λ t. sun_at p (from + t)) n old room))
+
+-- those places alone
+taken_units : (p : Plan) (from n : ℕ) (old new : List Vector) → new ≡ filled n (λ t. sun_at p (from + t)) old → take n new ≡ tab n (λ t. sun_at p (from + t))
+taken_units p from n old new is = ap (take n) is ∙ take_filled (λ t. sun_at p (from + t)) n old
 
 -- a block's columns, made of those units, are made of the times' own
 module _ {A : Type 0} (rows times from n : ℕ) (f : ℕ → Vector → A) (sun : ℕ → Vector) (units : List Vector) (d : A) (old new : List A) where
@@ -47,4 +62,4 @@ module _ {A : Type 0} (p : Plan) (f : ℕ → Vector → A) (from n : ℕ) (tabl
       → (d : A) → ColumnsWritten (rows_of p) (times_of p) (rows_of p) 0 (from + n) (λ r j. f r (sun_at p j)) d old new
   columns_next size e w before this d =
       columns_add (rows_of p) (times_of p) (λ r j. f r (sun_at p j)) d from n old m new (before d)
-      (columns_block (rows_of p) (times_of p) from n f (sun_at p) (take n units) d m new (block_units p from n table units size e w) (this d))
+      (columns_block (rows_of p) (times_of p) from n f (sun_at p) (take n units) d m new (taken_units p from n table units (block_units p from n table units size e w).0) (this d))

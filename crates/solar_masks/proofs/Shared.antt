@@ -32,7 +32,7 @@ module _ (p : Plan) (r j : ℕ) (axes : Axes) (unit : Vector) (panel : Panel)
   unfolding severity_at
   severity_shared tolerance e = ap₂ (λ (c : CellRoll) (t : Float). severity c p.configured t) same e
 
-  value_shared : roll_deg_in axes unit panel.angle ≡ optimal_at p r j
+  pub value_shared : roll_deg_in axes unit panel.angle ≡ optimal_at p r j
   unfolding optimal_at solar_optimal_roll_deg roll_deg_in body_axes panel_of row_config
   value_shared = simp (row, time, panel-is)
 

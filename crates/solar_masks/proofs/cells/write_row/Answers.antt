@@ -6,7 +6,7 @@ use native.Mathlib.Omega.{arith}
 use lib.ListN.{length, get_or}
 use Rattle.buffers.specs.Lent.{filled}
 use Rattle.buffers.proofs.Lent.{filled_zero}
-use Rattle.solar_masks.proofs.Tiles.{tile_next}
+use Rattle.solar_masks.proofs.Tiles.{tile_to}
 use Rattle.solar_masks.proofs.cells.write_row.Goals as goal
 
 pub loop-from-init : goal.loop-from-init
@@ -21,7 +21,7 @@ loop-from-preserved g c =
     let within : c.min-to.result ≤ length a.units.now = omega (arith, c.min-to.ensures) in
     let f = g.C.Cells.entry a.cells.now a.axes a.tolerance_deg in (
       omega arith,
-      tile_next a.units.now at.from c.min-to.result f [] a.entries.now at.entries _ up within c.requires at.invariant.1 c.write.ensures
+      tile_to a.units.now at.from c.min-to.result f [] a.entries.now at.entries _ up within c.requires at.invariant.1 c.write.ensures
           ∙ ap (λ (n : ℕ). filled n (λ k. f (get_or a.units.now k [])) a.entries.now) e,
     )
 
@@ -38,5 +38,5 @@ returns-2 g c =
     let up : at.from ≤ c.min-to.result = omega (arith, e) in
     let within : c.min-to.result ≤ length a.units.now = omega (arith, e) in
     let f = g.C.Cells.entry a.cells.now a.axes a.tolerance_deg in
-    tile_next a.units.now at.from c.min-to.result f [] a.entries.now at.entries _ up within c.requires at.invariant.1 c.write.ensures
+    tile_to a.units.now at.from c.min-to.result f [] a.entries.now at.entries _ up within c.requires at.invariant.1 c.write.ensures
     ∙ ap (λ (n : ℕ). filled n (λ k. f (get_or a.units.now k [])) a.entries.now) e
