@@ -1,21 +1,21 @@
--- Which tables of rolls are accepted: `table_accepted`, exactly those of 1 to 3,600 rolls within 0 to below 360 of which
+-- What is refused of a table of rolls, and which tables are accepted: `table_accepted`, exactly those of 1 to 3,600 rolls within 0 to below 360 of which
 -- each is above all those before it. Assumes nothing.
 use mathlib.Core.Path.{◌≡◌, refl, sym, ap, ◌∙◌}
 use mathlib.Core.Logic.{◌↔◌}
 use mathlib.Core.Bool.{Bool, true, false, not, ◌&&◌, ◌||◌}
 use mathlib.Core.List.{List, [], ◌∷◌}
-use Prim.Native.Nat.{ℕ, zero, suc, ◌≤◌, ◌<◌}
+use Prim.Native.Nat.{ℕ, zero, suc, ◌-◌, ◌≤◌, ◌<◌}
 use native.Mathlib.Nat.{not-suc-le-zero}
 use native.Mathlib.Omega.{arith}
 use lib.Dec.{eqb, ltb, lit<}
 use lib.Ieee.{Float, nan, lt, le}
 use lib.ListN.{length, get_or}
-use borrow.Author.Tests.{eqb-false, ltb-false, not-false, ne_eqb, le-ltb}
+use borrow.Author.Tests.{eqb-false, ltb-false, not-false, eq-eqb, ne_eqb, lt-ltb, le-ltb}
 use Rattle.buffers.specs.Ranges.{any_below}
 use Rattle.buffers.specs.Refusal.{Conditions}
-use Rattle.buffers.proofs.Ranges.{below_suc, any_none, any_clear}
-use Rattle.buffers.proofs.Refusals.{first_none, first_skip, first_clear}
-use Rattle.buffers.proofs.Tests.{and_left, and_right, or_skip, or_none, or_left, or_right}
+use Rattle.buffers.proofs.Ranges.{below_suc, any_none, any_found, any_clear}
+use Rattle.buffers.proofs.Refusals.{first_none, first_here, first_skip, first_clear}
+use Rattle.buffers.proofs.Tests.{and_left, and_right, or_here, or_skip, or_none, or_left, or_right}
 use Rattle.float.specs.Arithmetic.{zero·0, full_turn}
 use Rattle.float.proofs.Order.{lt_trans}
 use Rattle.solar_roll.specs.Roll.{InTurn}
@@ -37,10 +37,28 @@ pub record TableFacts (rolls : List Float) : Type 0 where
 -- ---- one roll
 
 module _ (rolls : List Float) where
-  -- of a roll within 0 to below 360 the roll before decides
-  bad_by_before : (k : ℕ) → le zero·0 (at rolls k) ≡ true → lt (at rolls k) full_turn ≡ true → bad_roll rolls k ≡ not_above rolls k
+  -- not within 0 to below 360
+  pub bad_below : (k : ℕ) → le zero·0 (at rolls k) ≡ false → bad_roll rolls k ≡ true
+  unfolding bad_roll not_in_turn
+  bad_below k e = or_here _ (not_above rolls k) (ap (λ (b : Bool). not (b && lt (at rolls k) full_turn)) e)
+
+  pub bad_beyond : (k : ℕ) → le zero·0 (at rolls k) ≡ true → lt (at rolls k) full_turn ≡ false → bad_roll rolls k ≡ true
+  unfolding bad_roll not_in_turn
+  bad_beyond k e f = or_here _ (not_above rolls k) (ap (λ (b : Bool). not (b && lt (at rolls k) full_turn)) e ∙ ap not f)
+
+  -- within it, the roll before decides
+  pub bad_by_before : (k : ℕ) → le zero·0 (at rolls k) ≡ true → lt (at rolls k) full_turn ≡ true → bad_roll rolls k ≡ not_above rolls k
   unfolding bad_roll not_in_turn
   bad_by_before k e f = or_skip _ (not_above rolls k) (ap (λ (b : Bool). not (b && lt (at rolls k) full_turn)) e ∙ ap not f)
+
+  pub no_before : (k : ℕ) → k ≡ 0 → not_above rolls k ≡ false
+  unfolding not_above
+  no_before k e = ap (not_above rolls) e
+
+  pub one_before : (k : ℕ) → (k ≡ 0 → ⊥) → not_above rolls k ≡ not (lt (at rolls (k - 1)) (at rolls k))
+  unfolding not_above
+  one_before zero h = absurd (h refl)
+  one_before (suc k) h = let e : suc k - 1 ≡ k = omega arith in ap (λ (j : ℕ). not (lt (at rolls j) (at rolls (suc k)))) (sym e)
 
   -- a roll that is not refused
   turn : (k : ℕ) → bad_roll rolls k ≡ false → InTurn (at rolls k)
@@ -61,11 +79,23 @@ module _ (rolls : List Float) where
   abbrev last : Conditions
   last = (any_below (length rolls) (bad_roll rolls), 19) ∷ []
 
+  pub empty_table : length rolls ≡ 0 → 18 ≡ table_refusal rolls
+  unfolding table_refusal
+  empty_table e = sym (first_here _ 18 last (or_here _ _ (eq-eqb (length rolls) 0 e)))
+
+  pub long_table : (length rolls ≡ 0 → ⊥) → most_samples < length rolls → 18 ≡ table_refusal rolls
+  unfolding table_refusal
+  long_table e h = sym (first_here _ 18 last (or_skip _ _ (ne_eqb (length rolls) 0 e) ∙ lt-ltb most_samples (length rolls) h))
+
   module _ (not-empty : length rolls ≡ 0 → ⊥) (few : length rolls ≤ most_samples) where
     size_passed : (eqb (length rolls) 0 || ltb most_samples (length rolls)) ≡ false
     size_passed = or_none _ _ (ne_eqb (length rolls) 0 not-empty) (le-ltb most_samples (length rolls) few)
 
-    good_table : ((k : ℕ) → k < length rolls → bad_roll rolls k ≡ false) → 0 ≡ table_refusal rolls
+    pub bad_table : (k : ℕ) → k < length rolls → bad_roll rolls k ≡ true → 19 ≡ table_refusal rolls
+    unfolding table_refusal
+    bad_table k h e = sym (first_skip _ 18 last size_passed ∙ first_here _ 19 [] (any_found (length rolls) (bad_roll rolls) k h e))
+
+    pub good_table : ((k : ℕ) → k < length rolls → bad_roll rolls k ≡ false) → 0 ≡ table_refusal rolls
     unfolding table_refusal
     good_table f = sym (first_skip _ 18 last size_passed ∙ first_skip _ 19 [] (any_none (length rolls) (bad_roll rolls) f) ∙ first_none)
 
