@@ -60,6 +60,9 @@ module _ (f l : ℤ) (hf : beyond f ≡ false) (hl : beyond l ≡ false) where
   unfolding seconds
   seconds_size = omega (arith, quotient_size (l -ℤ f), size)
 
+  pub quotient_fits : SFits w64 (quot_z (back (back l -ℤ back f)) (pos 1_000_000_000))
+  quotient_fits = subst (SFits w64) (sym quotient) (fits_small (seconds f l) (omega (arith, seconds_size)))
+
   pub whole_seconds : back (quot_z (back (back l -ℤ back f)) (pos 1_000_000_000)) ≡ seconds f l
   whole_seconds = ap back quotient ∙ back_small (seconds f l) (omega (arith, seconds_size))
 

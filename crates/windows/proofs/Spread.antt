@@ -76,6 +76,26 @@ module _ (F L : List ℤ) (e : length L ≡ length F) (j : ℕ) where
         ∙ ap (λ (z : Bool). cond z false (cond (lt_z (get_or L j (pos 0)) t) (in_some t (drop (j + 1) (spans F L))) true)) a
 
 -- ---- the order of the times
+-- of the times from number i on
+module _ (ts : List ℤ) (i : ℕ) where
+  pub order_step : i + 1 < length ts → in_order (drop i ts) ≡ (not (lt_z (get_or ts (i + 1) (pos 0)) (get_or ts i (pos 0))) && in_order (drop (i + 1) ts))
+  unfolding in_order
+  order_step h =
+      let e1 : drop i ts ≡ get_or ts i (pos 0) ∷ drop (i + 1) ts = drop-cons ts i (pos 0) (omega arith) ∙ ap (λ (k : ℕ). get_or ts i (pos 0) ∷ drop k ts) (sym (add-one i)) in
+      let e2 : drop (i + 1) ts ≡ get_or ts (i + 1) (pos 0) ∷ drop (suc (i + 1)) ts = drop-cons ts (i + 1) (pos 0) h in
+      ap in_order (e1 ∙ ap (λ (l : List ℤ). get_or ts i (pos 0) ∷ l) e2)
+      ∙ ap (λ (l : List ℤ). not (lt_z (get_or ts (i + 1) (pos 0)) (get_or ts i (pos 0))) && in_order l) (sym e2)
+
+  pub order_end : i < length ts → length ts ≤ i + 1 → in_order (drop i ts) ≡ true
+  unfolding in_order
+  order_end h k = let q : length ts ≤ suc i = omega arith in ap in_order (drop-cons ts i (pos 0) h ∙ ap (λ (l : List ℤ). get_or ts i (pos 0) ∷ l) (drop_of_length-le ts q))
+
+  pub order_bad : i + 1 < length ts → lt_z (get_or ts (i + 1) (pos 0)) (get_or ts i (pos 0)) ≡ true → in_order (drop i ts) ≡ false
+  order_bad h e = order_step h ∙ ap (λ (b : Bool). not b && in_order (drop (i + 1) ts)) e
+
+  pub order_good : i + 1 < length ts → lt_z (get_or ts (i + 1) (pos 0)) (get_or ts i (pos 0)) ≡ false → in_order (drop i ts) ≡ in_order (drop (i + 1) ts)
+  order_good h e = order_step h ∙ ap (λ (b : Bool). not b && in_order (drop (i + 1) ts)) e
+
 not_after : (x y : ℤ) → is_le (int_cmp x y) ≡ not (lt_z y x)
 not_after x y = grind (arith, ints)
 
