@@ -52,8 +52,8 @@ static void infinite(void)
     feclearexcept(FE_INVALID);
     first = wilfnusk_atan2(infinity, 1);
     second = wilfnusk_atan2(-1, -infinity);
-    expect(!fetestexcept(FE_INVALID), "the arctangent of an infinity raises no invalid operation");
-    expect(first != first && second != second, "the arctangent of an infinity is NaN");
+    expect(!fetestexcept(FE_INVALID), "the arctangent of one infinite coordinate raises no invalid operation");
+    expect(first != first && second != second, "the arctangent of one infinite coordinate is NaN");
 }
 
 /* The quarter turns at declination 0, and a pole; an element beyond them; each refusal leaves every element as it was. */

@@ -117,7 +117,7 @@ module _ (t : List Window) (d c : Columns) (e : c ≡ written t d) where
         is_last = column_next (λ (v : Window). v.is_last) t w k d.is_last p (omega (arith, room.is_last)) i;
       })
 
-  same_lengths : (n : ℕ) → length t ≤ n → Room n d → SameLengths d c
+  pub same_lengths : (n : ℕ) → length t ≤ n → Room n d → SameLengths d c
   unfolding written
   same_lengths n h room = record {
     first = ap (λ (x : Columns). length x.first) e ∙ column_length (λ (v : Window). v.first) t n d.first h room.first;
@@ -254,6 +254,10 @@ module _ (l : Listing) (mask : List ℕ) (times : List ℤ) (severities : List F
     taken : k ≤ n → length (take k (left l mask times severities 0)) ≡ k
     taken j = length-take-le k (left l mask times severities 0) (omega arith)
 
+    -- what the next window asks
+    pub records_ask : Row l mask times severities → k < n → (from ≤ length mask) × Row l mask times severities × (0 < length (windows_left l mask times severities from))
+    records_ask row j = (s.passed.in_row, row, some_left l mask times severities k from s.passed (omega (arith, h)))
+
     pub records_more : k < n → (w : Window) → left l mask times severities from ≡ w ∷ left l mask times severities (w.last + 1) → set zs k w ≡ over (take (k + 1) (windows_left l mask times severities 0)) ys
     records_more j w e =
         over_more zs (take k (left l mask times severities 0)) ys k w s.holds (taken (omega arith)) (omega arith)
@@ -268,9 +272,9 @@ module _ (l : Listing) (mask : List ℕ) (times : List ℤ) (severities : List F
     unfolding no_room
     records_fit = ltb-false (length ys) n ok.room
 
-    -- what the next window asks
-    pub records_ask : k < n → (from ≤ length mask) × Row l mask times severities × (0 < length (windows_left l mask times severities from))
-    records_ask j = (s.passed.in_row, ok.row, some_left l mask times severities k from s.passed (omega (arith, ok.all)))
+    -- a window is left
+    pub records_some : k < n → 0 < length (windows_left l mask times severities from)
+    records_some j = some_left l mask times severities k from s.passed (omega (arith, ok.all))
 
     pub records_all : n ≤ k → k ≤ n → (replied (Ok n) ≡ reply (listing_refusal l mask times severities (length ys ∷ [])) (length (windows_left l mask times severities 0)))
         × (zs ≡ unless_refused (listing_refusal l mask times severities (length ys ∷ [])) (over (windows_left l mask times severities 0) ys) ys)

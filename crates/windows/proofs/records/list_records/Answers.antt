@@ -18,7 +18,9 @@ pub loop-k-init : goal.loop-k-init
 loop-k-init c = records_none _ _ _ _ _
 
 pub next_window-w-requires : goal.next_window-w-requires
-next_window-w-requires c = records_ask _ _ _ _ _ _ _ _ _ (ok (goal.at.next_window-w-requires c).In_ok-count) c.loop-k.invariant c.loop-k-test.true
+next_window-w-requires c =
+    let k = ok (goal.at.next_window-w-requires c).In_ok-count in
+    records_ask _ _ _ _ _ _ _ _ _ (accepted_few _ _ _ _ _ _ k) (records_fit _ _ _ _ _ _ _ _ _ k c.loop-k.invariant) c.loop-k.invariant k.row c.loop-k-test.true
 
 pub offset_bounds-out-k : goal.offset_bounds-out-k
 offset_bounds-out-k c = let b : c.loop-k.k < length c.args.out.now = omega (arith, c.loop-k-test.true, records_fit _ _ _ _ _ _ _ _ _ (ok (goal.at.offset_bounds-out-k c).In_ok-count) c.loop-k.invariant) in search rules
